@@ -1,0 +1,3 @@
+pub mod CodeLemmas
+pub mod DigitLemmas
+pub mod NameLemmas

@@ -1,0 +1,6 @@
+use Rattle.std.proofs.Common.{◌≡◌, ◌≤◌, ◌*◌, take}
+use Rattle.taf_codes.specs.UnitDigits.{weighed_sum}
+use Rattle.taf_codes.proofs.unit_digit.weighed_sum.Given as goal
+
+abbrev pub invariant-loop-place : goal.invariant-loop-place
+invariant-loop-place l = (l.sum ≡ weighed_sum (take l.place l.text)) × (l.sum ≤ 130560 * l.place)

@@ -1,0 +1,206 @@
+use super::*;
+use std::alloc::{AllocError, AllocFailed};
+use std::io::{self, Read, Write};
+use std::mem::size_of;
+use std::test::Fail;
+
+#[test]
+fn railways(rt: HostRuntime) -> Result<(), Fail> {
+    for text in ["R101", "0080", "ZZ9A"] {
+        let railway = Railway::read(text)?;
+        assert_eq!(rt; railway.as_str(), text);
+    }
+    for text in [
+        "",
+        "R10",
+        "R1011",
+        "r101",
+        "R-10",
+        "R10 ",
+        "ÄR1",
+        "R1\u{661}",
+    ] {
+        assert_eq!(rt; Railway::read(text), Err(BadCode), "at {text}");
+    }
+    Ok(())
+}
+
+#[test]
+fn places(rt: HostRuntime) -> Result<(), Fail> {
+    for text in ["IT00003", "DE12345", "AZ99999"] {
+        let place = Place::read(text)?;
+        assert_eq!(rt; place.as_str(), text);
+    }
+    for text in [
+        "", "IT0000", "IT000033", "it00003", "IT000A3", "I000003", "ITA0003", "Ä00003",
+    ] {
+        assert_eq!(rt; Place::read(text), Err(BadCode), "at {text}");
+    }
+    Ok(())
+}
+
+#[test]
+fn units(rt: HostRuntime) -> Result<(), Fail> {
+    for text in ["CSQU3054383", "AAAU0000060"] {
+        let unit = UnitCode::read(text)?;
+        assert_eq!(rt; unit.as_str(), text);
+    }
+    for (text, fault) in [
+        ("CSQU3054384", UnitFault::BadUnitDigit),
+        ("AAAU000006A", UnitFault::NotAUnitCode),
+        ("CSQ3054383", UnitFault::NotAUnitCode),
+        ("CSQU30543833", UnitFault::NotAUnitCode),
+        ("csqu3054383", UnitFault::NotAUnitCode),
+        ("CSQ33054383", UnitFault::NotAUnitCode),
+        ("", UnitFault::NotAUnitCode),
+        ("ÄSQ3054383", UnitFault::NotAUnitCode),
+    ] {
+        assert_eq!(rt; UnitCode::read(text), Err(fault), "at {text}");
+    }
+    Ok(())
+}
+
+#[test]
+fn names(rt: HostRuntime) -> Result<(), Fail> {
+    for text in ["W", "CIM-2024-17", "-", "A2345678901234567890"] {
+        let consignment = ConsignmentId::read(text)?;
+        assert_eq!(rt; consignment.as_str(), text);
+        let train = TrainId::read(text)?;
+        assert_eq!(rt; train.as_str(), text);
+    }
+    for text in [
+        "",
+        "A23456789012345678901",
+        "cim",
+        "CIM 17",
+        "CIM_17",
+        "Ä",
+        "W\0",
+    ] {
+        assert_eq!(rt; ConsignmentId::read(text), Err(BadCode), "at {text}");
+        assert_eq!(rt; TrainId::read(text), Err(BadCode), "at {text}");
+    }
+    Ok(())
+}
+
+#[test]
+fn codes_are_small_and_names_are_ordered(rt: HostRuntime) -> Result<(), Fail> {
+    assert_eq!(rt; size_of::<Railway>(), 4);
+    assert_eq!(rt; size_of::<Place>(), 7);
+    assert_eq!(rt; size_of::<UnitCode>(), 11);
+    assert_eq!(rt; size_of::<ConsignmentId>(), 21);
+    assert_eq!(rt; size_of::<TrainId>(), 21);
+    assert_eq!(rt; size_of::<Failures>(), 1);
+    let short = ConsignmentId::read("A")?;
+    let long = ConsignmentId::read("A-")?;
+    let last = ConsignmentId::read("B")?;
+    assert!(rt; short < long && long < last && short == short);
+    Ok(())
+}
+
+#[test]
+fn codes_and_errors_are_printed(rt: HostRuntime) -> Result<(), Fail> {
+    let railway = Railway::read("R101")?;
+    let place = Place::read("IT00003")?;
+    let unit = UnitCode::read("CSQU3054383")?;
+    let consignment = ConsignmentId::read("CIM-17")?;
+    let train = TrainId::read("T1")?;
+    let codes = format!(in rt.alloc(); "{railway} {place} {unit} {consignment:>8} {train}")?;
+    assert_eq!(rt; codes.as_str(), "R101 IT00003 CSQU3054383   CIM-17 T1");
+    let form = UnitFault::NotAUnitCode;
+    let digit = UnitFault::BadUnitDigit;
+    let errors = format!(in rt.alloc(); "{BadCode}\n{form}\n{digit}\n{Memory}\n{Failed}")?;
+    let lines = "the text is no code of this kind\n\
+        the text is not four capital letters and seven digits\n\
+        the last digit is not the check digit of the unit's code\n\
+        memory was refused\n\
+        a reader or a writer failed";
+    assert_eq!(rt; errors.as_str(), lines);
+    Ok(())
+}
+
+#[test]
+fn memory_comes_from_the_errors_of_std(rt: HostRuntime) {
+    assert_eq!(rt; Memory::from(AllocError), Memory);
+    assert_eq!(rt; Memory::from(AllocFailed { value: 7 }), Memory);
+}
+
+/// Pulls up to two bytes through the trait.
+fn pull_two<S: Source>(source: &mut S) -> Result<(usize, [u8; 2]), Failed> {
+    let mut room = [0; 2];
+    let count = source.pull(&mut room)?;
+    Ok((count, room))
+}
+
+#[test]
+fn std_carries_bytes(rt: HostRuntime) -> Result<(), Fail> {
+    let mut reader = Std::new(&b"abc"[..]);
+    assert_eq!(rt; pull_two(&mut reader)?, (2, *b"ab"));
+    assert_eq!(rt; reader.get_ref().len(), 1);
+    assert_eq!(rt; pull_two(&mut reader)?, (1, *b"c\0"));
+    assert_eq!(rt; pull_two(&mut reader)?, (0, *b"\0\0"));
+
+    let mut writer = Std::new(Vec::new(rt.alloc()));
+    assert_eq!(rt; push_all_at_once(&mut writer, b"abc")?, 3);
+    assert_eq!(rt; push_all_at_once(&mut writer, b"")?, 0);
+    writer.get_mut().push(b'd')?;
+    assert_eq!(rt; writer.into_inner().as_slice(), b"abcd".as_slice());
+    Ok(())
+}
+
+/// Pushes bytes through the trait.
+fn push_all_at_once<S: Sink>(sink: &mut S, bytes: &[u8]) -> Result<usize, Failed> {
+    sink.push(bytes)
+}
+
+/// Gives or takes one byte a call. The second call fails, and the third takes nothing.
+#[derive(Drop)]
+struct Frail {
+    calls: u8,
+}
+
+impl Frail {
+    fn answer(&mut self) -> io::Result<usize> {
+        self.calls = self.calls.saturating_add(1);
+        match self.calls {
+            2 => Err(io::ErrorKind::Other.into()),
+            3 => Ok(0),
+            _ => Ok(1),
+        }
+    }
+}
+
+impl Read for Frail {
+    fn read(&mut self, buf: &mut [u8]) -> io::Result<usize> {
+        let count = self.answer()?;
+        Ok(count.min(buf.len()))
+    }
+}
+
+impl Write for Frail {
+    fn write(&mut self, buf: &[u8]) -> io::Result<usize> {
+        let count = self.answer()?;
+        Ok(count.min(buf.len()))
+    }
+
+    fn flush(&mut self) -> io::Result<()> {
+        self.answer()?;
+        Ok(())
+    }
+}
+
+#[test]
+fn std_fails_where_its_reader_or_writer_does(rt: HostRuntime) {
+    let mut reader = Std::new(Frail { calls: 0 });
+    for count in [Ok(1), Err(Failed), Ok(0), Ok(1)] {
+        assert_eq!(rt; reader.pull(&mut [0; 2]), count);
+    }
+    let mut writer = Std::new(Frail { calls: 0 });
+    for count in [Ok(1), Err(Failed), Err(Failed), Ok(1)] {
+        assert_eq!(rt; writer.push(b"ab"), count);
+    }
+    let mut writer = Std::new(Frail { calls: 0 });
+    for done in [Ok(()), Err(Failed), Ok(())] {
+        assert_eq!(rt; writer.flush(), done);
+    }
+}

@@ -1,0 +1,5 @@
+pub mod CloneLemmas
+pub mod SameLemmas
+pub mod SameReplies
+pub mod EachLemmas
+pub mod TextLemmas

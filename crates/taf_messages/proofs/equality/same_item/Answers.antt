@@ -1,0 +1,7 @@
+use Rattle.taf_codes.specs.Equality.{decides}
+use Rattle.taf_messages.proofs.SameReplies.{items}
+use Rattle.taf_messages.specs.contracts.item.ItemPartialEq.TheImpl as ItemEq
+use Rattle.taf_messages.proofs.equality.same_item.Goals as goal
+
+pub returns : goal.returns
+returns c = decides ItemEq.ghosts.eq items c.args.a.now c.args.b.now c.eq.result c.eq.ensures

@@ -1,0 +1,7 @@
+use Rattle.taf_codes.specs.Equality.{decides}
+use Rattle.taf_messages.proofs.SameReplies.{replies}
+use Rattle.taf_messages.specs.contracts.reply.ReplyPartialEq.TheImpl as ReplyEq
+use Rattle.taf_messages.proofs.equality.same_reply.Goals as goal
+
+pub returns : goal.returns
+returns c = decides ReplyEq.ghosts.eq replies c.args.a.now c.args.b.now c.eq.result c.eq.ensures

@@ -1,0 +1,8 @@
+use Rattle.std.proofs.Common.{◌∙◌, refl}
+use Rattle.taf_messages.proofs.TextLemmas.{text_after}
+use Rattle.taf_messages.proofs.write.append.Goals as goal
+
+pub returns-in-Ok-clause-ok : goal.returns-in-Ok-clause-ok
+returns-in-Ok-clause-ok g c =
+    let made = c.new-writer.ensures in
+    text_after (g.T.Json.shape c.args.value.now) _ _ _ _ c.into_inner.ensures.items (c.put-put.ensures.before ∙ made.before ∙ rw c.replace.ensures.value refl) (c.in-Ok.ensures.ok ∙ rw made.tokens refl)

@@ -1,0 +1,10 @@
+pub mod Limits
+pub mod Content
+pub mod Names
+pub mod Faults
+pub mod Good
+pub mod Reading
+pub mod Texts
+pub mod Shapes
+pub mod RecordShapes
+pub mod ReplyShapes

@@ -1,0 +1,36 @@
+//! Copies that are equal to what they copy.
+ghost use Rattle.std.specs.Prelude.{◌≡◌, IfOk};
+
+use crate::call::Call;
+use crate::item::Item;
+use crate::message::Message;
+use crate::reply::Reply;
+use taf_codes::Memory;
+
+/// The same message. It shares what a plan or a route says.
+pub fn copy(message: &Message) -> Result<Message, Memory>
+    ensures { IfOk result (λ copy. copy ≡ message.now) }
+{
+    Ok(message.clone()?)
+}
+
+/// The same call.
+pub fn copy_call(call: &Call) -> Result<Call, Memory>
+    ensures { IfOk result (λ copy. copy ≡ call.now) }
+{
+    Ok(call.clone()?)
+}
+
+/// The same item.
+pub fn copy_item(item: &Item) -> Result<Item, Memory>
+    ensures { IfOk result (λ copy. copy ≡ item.now) }
+{
+    Ok(item.clone()?)
+}
+
+/// The same reply.
+pub fn copy_reply(reply: &Reply) -> Result<Reply, Memory>
+    ensures { IfOk result (λ copy. copy ≡ reply.now) }
+{
+    Ok(reply.clone()?)
+}

@@ -1,0 +1,218 @@
+//! Records of wagons as JSON (4.2.11).
+ghost use Rattle.std.specs.Prelude.{◌≡◌, OnOk};
+ghost use Rattle.taf_messages.specs.Texts.{AddsFields};
+ghost use Rattle.taf_messages.specs.RecordShapes as shape;
+
+use crate::event::{Happened, RecordEvent};
+use crate::kind::BodyName;
+use crate::number::{Delay, LegIndex, LegMinutes};
+use crate::put::{Json, Object, put_field, put_field_if, put_list_if, put_object};
+use crate::record::{EstimateAt, Record, Stage, Status};
+use json::Writer;
+use std::alloc::AllocError;
+use taf_codes::Place;
+
+impl Stage {
+    ghost use Rattle.taf_messages.specs.RecordShapes.{stage_name};
+
+    /// The name of the stage in records.
+    pub fn name(self) -> &'static str
+        ensures { result.now ≡ stage_name self }
+    {
+        match self {
+            Stage::Planned => "planned",
+            Stage::Released => "released",
+            Stage::Running => "running",
+            Stage::InYard => "in_yard",
+            Stage::Offered => "offered",
+            Stage::Arrived => "arrived",
+            Stage::Delivered => "delivered",
+        }
+    }
+}
+
+impl Status {
+    ghost use Rattle.taf_messages.specs.RecordShapes.{status_name};
+
+    /// The name of the status in records.
+    pub fn name(self) -> &'static str
+        ensures { result.now ≡ status_name self }
+    {
+        match self {
+            Status::Loading => "loading",
+            Status::LoadedOnJourney => "loaded_on_journey",
+            Status::EmptyOnJourney => "empty_on_journey",
+            Status::Unloading => "unloading",
+            Status::FleetControl => "fleet_control",
+        }
+    }
+}
+
+impl Happened {
+    ghost use Rattle.taf_messages.specs.RecordShapes.{happened_name, happened_delay, happened_leg, happened_minutes, happened_place, happened_received};
+
+    /// The kind of message that it was.
+    pub fn kind(self) -> BodyName
+        ensures { result ≡ happened_name self }
+    {
+        match self {
+            Happened::Planned => BodyName::Plan,
+            Happened::Moved(what) => BodyName::Movement(what.name()),
+            Happened::EstimateAsked => BodyName::EtiAsk,
+            Happened::LegTimed { .. } => BodyName::LegTime,
+            Happened::Offered { .. } => BodyName::Offer,
+            Happened::Answered { .. } => BodyName::Answer,
+            Happened::Withdrawn => BodyName::Withdraw,
+            Happened::Rerouted { .. } => BodyName::Reroute,
+        }
+    }
+
+    fn delay(self) -> Option<Delay>
+        ensures { result ≡ happened_delay self }
+    {
+        match self {
+            Happened::Moved(what) => what.delay(),
+            _ => None,
+        }
+    }
+
+    fn leg(self) -> Option<LegIndex>
+        ensures { result ≡ happened_leg self }
+    {
+        match self {
+            Happened::LegTimed { leg, .. } | Happened::Rerouted { leg } => Some(leg),
+            _ => None,
+        }
+    }
+
+    fn minutes(self) -> Option<LegMinutes>
+        ensures { result ≡ happened_minutes self }
+    {
+        match self {
+            Happened::LegTimed { minutes, .. } => Some(minutes),
+            _ => None,
+        }
+    }
+
+    fn place(self) -> Option<Place>
+        ensures { result ≡ happened_place self }
+    {
+        match self {
+            Happened::Moved(what) => what.place(),
+            Happened::Offered { place } => Some(place),
+            _ => None,
+        }
+    }
+
+    fn received(self) -> Option<bool>
+        ensures { result ≡ happened_received self }
+    {
+        match self {
+            Happened::Answered { received } => Some(received),
+            _ => None,
+        }
+    }
+}
+
+impl Json for RecordEvent {
+    ghost shape = { shape.event_data };
+
+    fn put(&self, out: &mut Writer) -> Result<(), AllocError> {
+        put_object(out, self)
+    }
+}
+
+impl Object for RecordEvent {
+    ghost members = { shape.event_fields };
+
+    #[tactic(auto, using(crate::proofs::TextLemmas::adds_more), unfolding(crate::specs::RecordShapes::event_fields))]
+    fn put_members(&self, out: &mut Writer) -> Result<(), AllocError> {
+        put_field_if(out, "at", &self.at)?;
+        put_field(out, "by", &self.by)?;
+        put_field_if(out, "delay", &self.what.delay())?;
+        put_field(out, "kind", &self.what.kind().name())?;
+        put_field_if(out, "leg", &self.what.leg())?;
+        put_field_if(out, "minutes", &self.what.minutes())?;
+        put_field(out, "no", &self.no)?;
+        put_field_if(out, "place", &self.what.place())?;
+        put_field_if(out, "received", &self.what.received())?;
+        Ok(())
+    }
+}
+
+impl Json for EstimateAt {
+    ghost shape = { shape.estimate_data };
+
+    fn put(&self, out: &mut Writer) -> Result<(), AllocError> {
+        put_object(out, self)
+    }
+}
+
+impl Object for EstimateAt {
+    ghost members = { shape.estimate_fields };
+
+    #[tactic(auto, unfolding(crate::specs::RecordShapes::estimate_fields))]
+    fn put_members(&self, out: &mut Writer) -> Result<(), AllocError> {
+        put_field(out, "at", &self.at)?;
+        put_field(out, "leg", &self.leg)?;
+        Ok(())
+    }
+}
+
+impl Json for Record {
+    ghost shape = { shape.record_data };
+
+    fn put(&self, out: &mut Writer) -> Result<(), AllocError> {
+        put_object(out, self)
+    }
+}
+
+impl Object for Record {
+    ghost members = { shape.record_fields };
+
+    fn put_members(&self, out: &mut Writer) -> Result<(), AllocError> {
+        put_first_fields(out, self)?;
+        put_middle_fields(out, self)?;
+        put_last_fields(out, self)?;
+        Ok(())
+    }
+}
+
+#[tactic(auto, unfolding(crate::specs::RecordShapes::first_record_fields))]
+fn put_first_fields(out: &mut Writer, shown: &Record) -> Result<(), AllocError>
+    ensures ok { OnOk result (AddsFields out.old out.new (shape.first_record_fields shown.now)) }
+    ensures before { out.new.before ≡ out.old.before }
+{
+    put_field(out, "commit", &shown.commit)?;
+    put_field(out, "consignment", &shown.consignment)?;
+    put_field(out, "estimates", &shown.estimates)?;
+    put_field(out, "eta", &shown.eta)?;
+    put_field(out, "events", &shown.events)?;
+    put_field(out, "late", &shown.late)?;
+    Ok(())
+}
+
+#[tactic(auto, unfolding(crate::specs::RecordShapes::middle_record_fields))]
+fn put_middle_fields(out: &mut Writer, shown: &Record) -> Result<(), AllocError>
+    ensures ok { OnOk result (AddsFields out.old out.new (shape.middle_record_fields shown.now)) }
+    ensures before { out.new.before ≡ out.old.before }
+{
+    put_field(out, "lead", &shown.lead)?;
+    put_field(out, "leg", &shown.leg)?;
+    put_field(out, "load", &shown.load)?;
+    put_field(out, "place", &shown.place)?;
+    put_field(out, "responsible", &shown.responsible)?;
+    Ok(())
+}
+
+#[tactic(auto, using(crate::proofs::TextLemmas::adds_more), unfolding(crate::specs::RecordShapes::last_record_fields))]
+fn put_last_fields(out: &mut Writer, shown: &Record) -> Result<(), AllocError>
+    ensures ok { OnOk result (AddsFields out.old out.new (shape.last_record_fields shown.now)) }
+    ensures before { out.new.before ≡ out.old.before }
+{
+    put_field(out, "stage", &shown.stage.name())?;
+    put_field(out, "status", &shown.status.name())?;
+    put_list_if(out, "units", shown.units.as_slice())?;
+    put_field(out, "wagon", &shown.wagon)?;
+    Ok(())
+}

@@ -1,0 +1,75 @@
+ghost use Rattle.std.specs.Prelude.{◌≡◌};
+
+use crate::listed::{ItemList, Records};
+use crate::number::MessageNumber;
+use crate::record::Record;
+use std::alloc::AllocError;
+use wagon_number::WagonNumber;
+
+/// Why a call is refused.
+#[derive(Clone, Copy, Debug, PartialEq, Eq)]
+pub enum Why {
+    UnknownWagon,
+    UnknownConsignment,
+    UnknownOffer,
+    UnknownUnit,
+    ConsignmentTaken,
+    WagonBusy,
+    UnitBusy,
+    WrongStage,
+    NotYours,
+    WrongPlace,
+    WrongNext,
+    TooManyLegs,
+    NoSuchLeg,
+    LegStarted,
+    NotLastLeg,
+    OfferClosed,
+    ListsDiffer,
+    BeyondCalendar,
+    NumberReused,
+    AckAhead,
+}
+
+/// What the hub answers to a call.
+#[derive(Debug, PartialEq, Eq, Drop)]
+pub enum Reply {
+    Accepted {
+        no: MessageNumber,
+    },
+    Refused {
+        no: Option<MessageNumber>,
+        why: Why,
+        wagon: Option<WagonNumber>,
+        last: Option<u64>,
+    },
+    One(Record),
+    Many(Records),
+    Items(ItemList),
+    Acknowledged(u64),
+}
+
+impl Clone for Reply {
+    ghost is_clone = { λ a b. b ≡ a };
+
+    fn clone(&self) -> Result<Reply, AllocError> {
+        Ok(match self {
+            Reply::Accepted { no } => Reply::Accepted { no: *no },
+            Reply::Refused {
+                no,
+                why,
+                wagon,
+                last,
+            } => Reply::Refused {
+                no: *no,
+                why: *why,
+                wagon: *wagon,
+                last: *last,
+            },
+            Reply::One(known) => Reply::One(known.clone()?),
+            Reply::Many(known) => Reply::Many(known.clone()?),
+            Reply::Items(items) => Reply::Items(items.clone()?),
+            Reply::Acknowledged(item) => Reply::Acknowledged(*item),
+        })
+    }
+}

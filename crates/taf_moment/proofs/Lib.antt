@@ -1,0 +1,4 @@
+pub mod PartLemmas
+pub mod DateLemmas
+pub mod LetterLemmas
+pub mod TextLemmas

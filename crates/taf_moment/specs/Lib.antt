@@ -1,0 +1,3 @@
+pub mod Calendar
+pub mod Laws
+pub mod Examples

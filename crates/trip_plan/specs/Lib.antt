@@ -1,0 +1,6 @@
+pub mod Rules
+pub mod Trip
+pub mod Making
+pub mod Content
+pub mod SameContent
+mod Rows

@@ -1,0 +1,5 @@
+pub mod DigitLemmas
+pub mod TextLemmas
+pub mod MarkLemmas
+pub mod ValidityLemmas
+pub mod CheckDigitLemmas

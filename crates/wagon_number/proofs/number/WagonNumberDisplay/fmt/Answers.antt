@@ -1,0 +1,6 @@
+use Rattle.std.proofs.Common.{rules}
+use Rattle.std.proofs.lemmas.Str.{IsUtf8-from_ascii}
+use Rattle.wagon_number.proofs.number.WagonNumberDisplay.fmt.Goals as goal
+
+pub unwrap-requires : goal.unwrap-requires
+unwrap-requires g c = let text = IsUtf8-from_ascii _ c.marked_letters-letters.ensures.ascii in search rules
