@@ -45,7 +45,7 @@ fn commands_end_with_their_status(rt: HostRuntime) -> Result<(), Fail> {
         let words = words(&rt, line)?;
         let input = b"{\n\n";
         let ended = perform(rt.alloc(), &words, &input[..], &mut output, &mut errors);
-        assert_eq!(rt; ended, status, "of {}", line[1]);
+        assert_eq!(rt; ended, status);
         assert_eq!(rt; output.as_slice(), told.as_bytes());
         assert_eq!(rt; errors.as_slice(), fault.as_bytes());
     }
