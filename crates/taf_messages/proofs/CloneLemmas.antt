@@ -1,24 +1,10 @@
 -- What is cloned is equal to its source.
-use Rattle.std.proofs.Common.{rules, ◌≡◌, List, refl, ap}
-use Rattle.std.specs.List.{AllZip}
-use Rattle.std.proofs.lemmas.List.Elements.{same_from_all_zip}
-use Rattle.std.proofs.lemmas.Grind.{common_steps}
-use Rattle.std.proofs.Common.{arith}
+use Rattle.std.proofs.Common.{rules, ◌≡◌, ap}
 use Rattle.taf_messages.specs.declared.call.Call.{Call}
 use Rattle.taf_messages.specs.declared.call.Call.TheVariants as call
 use Rattle.taf_messages.specs.declared.message.Message.{Message}
-use Rattle.taf_messages.specs.declared.message.Body.{Body}
-use Rattle.taf_messages.specs.declared.message.Body.TheVariants as body
-use Rattle.taf_messages.specs.declared.item.Item.{Item}
-use Rattle.taf_messages.specs.declared.record.Record.{Record}
-use Rattle.taf_messages.specs.declared.reply.Reply.{Reply}
-use Rattle.taf_messages.specs.declared.reply.Reply.TheVariants as reply
 use Rattle.taf_messages.specs.contracts.message.MessageClone.TheImpl as MessageClone
-use Rattle.taf_messages.specs.contracts.message.BodyClone.TheImpl as BodyClone
 use Rattle.taf_messages.specs.contracts.call.CallClone.TheImpl as CallClone
-use Rattle.taf_messages.specs.contracts.item.ItemClone.TheImpl as ItemClone
-use Rattle.taf_messages.specs.contracts.record.RecordClone.TheImpl as RecordClone
-use Rattle.taf_messages.specs.contracts.reply.ReplyClone.TheImpl as ReplyClone
 
 pub message_copied : (a b : Message) → MessageClone.ghosts.is_clone a b → b ≡ a
 message_copied a b h = search rules

@@ -3,3 +3,11 @@ pub mod SameLemmas
 pub mod SameReplies
 pub mod EachLemmas
 pub mod TextLemmas
+pub mod ReadLemmas
+pub mod ShapeLemmas
+pub mod FieldLemmas
+pub mod MessageLemmas
+pub mod Utf8Lemmas
+pub mod SpeltLemmas
+pub mod KeptLemmas
+pub mod SentLemmas

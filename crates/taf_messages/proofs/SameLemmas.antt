@@ -1,10 +1,9 @@
 -- `==` finds exactly the equal messages.
-use Rattle.std.proofs.Common.{◌≡◌, Bool, true, false, refl, ap, rules, sym, ◌∙◌, subst}
-use Rattle.std.specs.Prelude.{◌==◌, ◌&&◌, bytes_eq, nat_eq, ◌↔◌, IsTrue}
+use Rattle.std.proofs.Common.{◌≡◌, true, refl, ap, rules}
+use Rattle.std.specs.Prelude.{◌==◌, bytes_eq}
 use Rattle.taf_messages.specs.Content.{same_message}
-use Rattle.std.specs.Option.{option_eq}
 use Rattle.taf_codes.specs.Equality.{IsEquality, texts, numbers, options_equal, both}
-use Rattle.trip_plan.specs.Content.{same_plan, same_legs, same_wagons}
+use Rattle.trip_plan.specs.Content.{same_wagons}
 use Rattle.trip_plan.specs.SameContent.{plans, legs, wagons}
 use Rattle.taf_messages.specs.declared.movement.Movement.{Movement}
 use Rattle.taf_messages.specs.declared.movement.MovementKind.{MovementKind}

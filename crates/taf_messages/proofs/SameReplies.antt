@@ -1,13 +1,12 @@
 -- `==` finds exactly the equal calls, items, records and replies.
-use Rattle.std.proofs.Common.{◌≡◌, Bool, true, false, Option, refl, ap, rules}
-use Rattle.std.specs.Prelude.{◌==◌, ◌&&◌, bytes_eq, nat_eq}
+use Rattle.std.proofs.Common.{◌≡◌, Bool, true, refl, ap, rules}
+use Rattle.std.specs.Prelude.{◌==◌, bytes_eq, nat_eq}
 use Rattle.std.specs.Option.{option_eq}
 use Rattle.std.specs.Cmp.Lexicographic.{pointwise}
 use denote.Enum.Bare.{same_true}
 use Rattle.std.specs.Cmp.{booleans_Decides}
 use Rattle.std.specs.Bool.{beq}
 use Rattle.taf_codes.specs.Equality.{IsEquality, texts, numbers, options_equal, lists_equal, both}
-use Rattle.trip_plan.specs.Content.{same_wagons}
 use Rattle.trip_plan.specs.SameContent.{wagons}
 use Rattle.trip_plan.specs.declared.parts.Load.{Load}
 use Rattle.trip_plan.specs.contracts.parts.Load as load_of

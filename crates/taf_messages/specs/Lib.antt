@@ -8,3 +8,5 @@ pub mod Texts
 pub mod Shapes
 pub mod RecordShapes
 pub mod ReplyShapes
+pub mod Kept
+pub mod Laws

@@ -1,5 +1,5 @@
 -- The JSON of values, and of messages as a notice carries them: keys in byte order.
-use Rattle.std.specs.Prelude.{ℕ, List, [], ◌++◌, Option, Some, None, codes}
+use Rattle.std.specs.Prelude.{ℕ, List, ◌++◌, Option, Some, None, codes}
 use Rattle.serde_json.specs.Data.{Data}
 use Rattle.wagon_number.specs.Digits.{text_of}
 use Rattle.taf_moment.specs.Calendar.{moment_text}
@@ -20,7 +20,6 @@ use Rattle.taf_messages.specs.declared.message.Body.{Body}
 use Rattle.taf_messages.specs.declared.message.Body.TheVariants as body
 use Rattle.taf_messages.specs.declared.kind.MovementName.{MovementName}
 use Rattle.taf_messages.specs.declared.kind.MovementName.TheVariants as movements
-use Rattle.taf_messages.specs.declared.kind.BodyName.{BodyName}
 use Rattle.taf_messages.specs.declared.kind.BodyName.TheVariants as names
 use Rattle.taf_messages.specs.Names.{movement_name, body_name}
 use Rattle.taf_messages.specs.Texts.{Fields, field, field_if, fields, whole, text, list_of, listed}

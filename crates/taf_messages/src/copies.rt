@@ -15,6 +15,7 @@ pub fn copy(message: &Message) -> Result<Message, Memory>
 }
 
 /// The same call.
+#[tactic(auto, using(crate::proofs::CloneLemmas::call_copied))]
 pub fn copy_call(call: &Call) -> Result<Call, Memory>
     ensures { IfOk result (λ copy. copy ≡ call.now) }
 {

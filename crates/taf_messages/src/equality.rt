@@ -8,30 +8,30 @@ use crate::message::Message;
 use crate::reply::Reply;
 
 /// Whether the two have the same sender, number and content.
-pub fn same(a: &Message, b: &Message) -> bool
-    ensures test { result ≡ same_message a.now b.now }
-    ensures equality { IsTrue result ↔ (a.now ≡ b.now) }
+pub fn same(message: &Message, other: &Message) -> bool
+    ensures test { result ≡ same_message message.now other.now }
+    ensures equality { IsTrue result ↔ (message.now ≡ other.now) }
 {
-    a == b
+    message == other
 }
 
-/// Whether the two are the same call.
-pub fn same_call(a: &Call, b: &Call) -> bool
-    ensures { IsTrue result ↔ (a.now ≡ b.now) }
+/// Whether the two are the same call, as `==` finds.
+pub fn same_call(call: &Call, other: &Call) -> bool
+    ensures { IsTrue result ↔ (call.now ≡ other.now) }
 {
-    a == b
+    call == other
 }
 
-/// Whether the two are the same item.
-pub fn same_item(a: &Item, b: &Item) -> bool
-    ensures { IsTrue result ↔ (a.now ≡ b.now) }
+/// Whether the two are the same item, as `==` finds.
+pub fn same_item(item: &Item, other: &Item) -> bool
+    ensures { IsTrue result ↔ (item.now ≡ other.now) }
 {
-    a == b
+    item == other
 }
 
-/// Whether the two are the same reply.
-pub fn same_reply(a: &Reply, b: &Reply) -> bool
-    ensures { IsTrue result ↔ (a.now ≡ b.now) }
+/// Whether the two are the same reply, as `==` finds.
+pub fn same_reply(reply: &Reply, other: &Reply) -> bool
+    ensures { IsTrue result ↔ (reply.now ≡ other.now) }
 {
-    a == b
+    reply == other
 }

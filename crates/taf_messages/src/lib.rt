@@ -1,4 +1,25 @@
-//! Messages, calls, items, records and replies of the hub.
+//! Messages, calls, items, records and replies of the hub: what they are, how they are read and how
+//! they are written.
+//!
+//! The messages are those of wagon movement (4.2.7) and interchange (4.2.8) with the estimates of
+//! 4.2.6; records are what the operational database shows of a wagon (4.2.11).
+//!
+//! - [`read_call`] reads a line, a JSON object, as the [`Call`] that it is, or gives its first
+//!   [`RecordFault`]: no JSON, no kind, the first field in the kind's order that is missing or not
+//!   good, then the first rule that a plan or a route breaks. What it reads is said in
+//!   `specs/Reading.antt`, by kinds and fields.
+//! - [`write_reply`], [`write_item`], [`write_record`] and [`write_fault`] give texts: compact JSON,
+//!   keys in byte order, no newline. [`append_reply`] and [`append_fault`] write behind what a
+//!   buffer holds. The trees that they write are those of `specs/Shapes.antt`,
+//!   `specs/RecordShapes.antt` and `specs/ReplyShapes.antt`.
+//! - [`Message`] with its [`Body`], [`Call`], [`Item`], [`Reply`] and [`Record`] are plain values.
+//!   Numbers keep their limits by type ([`Within`]), as do lists of wagons ([`Wagons`],
+//!   [`OfferedWagons`]). [`Listed`] is a list that contracts see as its elements.
+//! - [`same`] is equality of sender, number and content. `==` of calls, items and replies is
+//!   equality, and copies equal their source; they share what a plan or a route says.
+//!
+//! Only reading, writing and copying take memory. Where it is refused, the answer is
+//! `RecordFault::Memory` or `Memory`, and what a buffer held stays.
 #![tactic(auto)]
 
 mod call;
@@ -9,6 +30,7 @@ mod fault;
 mod field;
 mod item;
 mod kind;
+mod laws;
 mod listed;
 mod message;
 mod movement;
@@ -28,11 +50,12 @@ mod write;
 
 pub use call::Call;
 pub use copies::{copy, copy_call, copy_item, copy_reply};
-pub use equality::same;
+pub use equality::{same, same_call, same_item, same_reply};
 pub use event::{Happened, RecordEvent};
 pub use fault::RecordFault;
 pub use field::Field;
 pub use item::{Item, ItemBody, SubNotice};
+pub use laws::{messages_are_read_back, texts_are_read_as_written};
 pub use listed::{EstimateList, ItemList, Listed, RecordEvents, Records, Units};
 pub use message::{Body, Message, TrainAnswer, TrainOffer};
 pub use movement::{Movement, MovementKind};

@@ -4,4 +4,4 @@ use Rattle.taf_messages.specs.contracts.message.MessagePartialEq.TheImpl as Mess
 use Rattle.taf_messages.proofs.equality.same.Goals as goal
 
 pub returns-clause-equality : goal.returns-clause-equality
-returns-clause-equality c = decides MessageEq.ghosts.eq messages c.args.a.now c.args.b.now c.eq.result c.eq.ensures
+returns-clause-equality c = decides MessageEq.ghosts.eq messages c.args.message.now c.args.other.now c.eq.result c.eq.ensures

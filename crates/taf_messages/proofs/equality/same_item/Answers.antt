@@ -4,4 +4,4 @@ use Rattle.taf_messages.specs.contracts.item.ItemPartialEq.TheImpl as ItemEq
 use Rattle.taf_messages.proofs.equality.same_item.Goals as goal
 
 pub returns : goal.returns
-returns c = decides ItemEq.ghosts.eq items c.args.a.now c.args.b.now c.eq.result c.eq.ensures
+returns c = decides ItemEq.ghosts.eq items c.args.item.now c.args.other.now c.eq.result c.eq.ensures

@@ -1,0 +1,7 @@
+-- What a ballast holds.
+use Rattle.std.specs.Prelude.{ℕ}
+
+-- how many blocks of each kind
+pub record Blocks : Type 0 where
+  pub large : ℕ
+  pub small : ℕ

@@ -1,0 +1,65 @@
+//! Reading calls and writing replies.
+
+use crate::journeys::Run;
+use crate::measured::Measured;
+use crate::samples;
+use anyhow::{Result, bail};
+use serde_json::Value;
+use std::alloc::Global;
+use std::time::{Clock, Instant};
+use taf_messages::{Call, Reply, append_reply, read_call};
+
+/// The lines of departures, read by `serde_json` alone.
+pub fn parse(clock: &impl Clock, alloc: Global, count: u64) -> Result<Measured> {
+    let lines = samples::departures(alloc, count)?;
+    let start = Instant::now(clock)?;
+    for line in &lines {
+        let value = Value::from_slice(alloc, line.as_bytes())?;
+        if !value.is_object() {
+            bail!("the sample is no object");
+        }
+    }
+    Measured::since(clock, start, count)
+}
+
+/// The same lines, read as calls.
+pub fn read(clock: &impl Clock, alloc: Global, count: u64) -> Result<Measured> {
+    let lines = samples::departures(alloc, count)?;
+    let start = Instant::now(clock)?;
+    for line in &lines {
+        let call = read_call(alloc, line.as_bytes())?;
+        if !matches!(&call, Call::Send(_)) {
+            bail!("the sample is no message");
+        }
+    }
+    Measured::since(clock, start, count)
+}
+
+/// Accepted replies, written.
+pub fn replies(clock: &impl Clock, alloc: Global, count: u64) -> Result<Measured> {
+    let no = samples::number(123_456)?;
+    written(clock, alloc, &Reply::Accepted { no }, count)
+}
+
+/// Replies with a record of sixty events, written.
+pub fn shown(clock: &impl Clock, alloc: Global, count: u64) -> Result<Measured> {
+    let run = Run::grown(alloc, &samples::plan(alloc)?, 60)?;
+    written(clock, alloc, &Reply::One(run.shown(alloc)?), count)
+}
+
+/// Replies of fifty items, written.
+pub fn items(clock: &impl Clock, alloc: Global, count: u64) -> Result<Measured> {
+    let items = samples::estimates(alloc, 50)?;
+    written(clock, alloc, &Reply::Items(items), count)
+}
+
+// The reply, written many times into one buffer.
+fn written(clock: &impl Clock, alloc: Global, reply: &Reply, count: u64) -> Result<Measured> {
+    let mut out = Vec::new(alloc);
+    let start = Instant::now(clock)?;
+    for _ in 0..count {
+        out.clear();
+        append_reply(alloc, &mut out, reply)?;
+    }
+    Measured::since(clock, start, count)
+}

@@ -1,0 +1,76 @@
+use crate::bench::{ALL, Bench};
+use crate::words::Asked;
+use crate::{codec, journeys, report};
+use anyhow::Result;
+use std::alloc::Global;
+use std::io::Write;
+use std::thread::Threads;
+use std::time::Clock;
+
+/// Does what the words ask for.
+pub fn perform<W: Write>(
+    rt: &(impl Threads + Clock + Sync),
+    alloc: Global,
+    output: &mut W,
+    asked: Asked,
+) -> Result<()> {
+    match asked {
+        Asked::Names => print_names(output),
+        Asked::Run { bench, count } => measure(rt, alloc, output, bench, count),
+    }
+}
+
+fn print_names<W: Write>(output: &mut W) -> Result<()> {
+    for bench in ALL {
+        let (name, thing, count) = (bench.name(), bench.thing(), bench.usual_count());
+        output.write_fmt(format_args!("{name}: {count} {thing}\n"))?;
+    }
+    Ok(())
+}
+
+fn measure<W: Write>(
+    rt: &(impl Threads + Clock + Sync),
+    alloc: Global,
+    output: &mut W,
+    bench: Bench,
+    count: u64,
+) -> Result<()> {
+    let measured = match bench {
+        Bench::Parse => codec::parse(rt, alloc, count)?,
+        Bench::Read => codec::read(rt, alloc, count)?,
+        Bench::Replies => codec::replies(rt, alloc, count)?,
+        Bench::Record => codec::shown(rt, alloc, count)?,
+        Bench::Items => codec::items(rt, alloc, count)?,
+        Bench::Journey => return measure_journeys(rt, alloc, output, count),
+        Bench::Report => return measure_report(rt, alloc, output, count),
+    };
+    output.write_fmt(format_args!("{}: {measured}\n", bench.name()))?;
+    Ok(())
+}
+
+fn measure_journeys<W: Write>(
+    clock: &impl Clock,
+    alloc: Global,
+    output: &mut W,
+    count: u64,
+) -> Result<()> {
+    for length in [10u32, 100, 1_000, 10_000] {
+        let measured = journeys::events(clock, alloc, length, count)?;
+        output.write_fmt(format_args!("journey of {length}: {measured}\n"))?;
+    }
+    Ok(())
+}
+
+fn measure_report<W: Write>(
+    rt: &(impl Threads + Clock + Sync),
+    alloc: Global,
+    output: &mut W,
+    count: u64,
+) -> Result<()> {
+    let view = report::view(alloc, count)?;
+    let plain = report::plain(rt, alloc, &view, count)?;
+    output.write_fmt(format_args!("report plain: {plain}\n"))?;
+    let parallel = report::parallel(rt, alloc, &view, count)?;
+    output.write_fmt(format_args!("report: {parallel}\n"))?;
+    Ok(())
+}

@@ -1,0 +1,83 @@
+//! What the benchmarks run on.
+ghost use Rattle.std.specs.Prelude.{◌≡◌, length, IfOk};
+
+use anyhow::{Result, bail};
+use std::alloc::Global;
+use taf_messages::{
+    Body, Call, Delay, Item, ItemBody, ItemList, LegIndex, Listed, Message, MessageNumber,
+    read_call,
+};
+use taf_moment::Moment;
+use trip_plan::Plan;
+use wagon_number::WagonNumber;
+
+const PLAN: &str =
+    r#"{"kind":"plan","from":"R100","no":1,"consignment":"C-1","load":"loaded","commit":"2025-03-01T15:30Z","wagons":["218124712173","338478961232"],"legs":[{"ru":"R101","origin":"DE00001","target":"AT00002","minutes":300},{"ru":"R102","origin":"AT00002","target":"IT00003","minutes":240}]}"#;
+
+/// Lines of departures, numbered from 1.
+pub fn departures(alloc: Global, count: u64) -> Result<Vec<String>>
+    ensures { IfOk result (λ lines. length lines.items ≡ count) }
+{
+    let mut lines = Vec::new(alloc);
+    for before in 0..count {
+        let number = before + 1;
+        let line = format!(in alloc;
+            "{{\"kind\":\"depart\",\"from\":\"R101\",\"no\":{number},\"wagon\":\"218124712173\",\"at\":\"2025-03-01T06:00Z\"}}"
+        )?;
+        lines.push(line)?;
+    }
+    Ok(lines)
+}
+
+/// A plan of two wagons on two legs.
+pub fn plan(alloc: Global) -> Result<Plan> {
+    match read_call(alloc, PLAN.as_bytes())? {
+        Call::Send(
+            Message {
+                body: Body::Plan(plan),
+                ..
+            },
+        ) => Ok(plan),
+        _ => bail!("the sample is no plan"),
+    }
+}
+
+/// The wagon of the samples.
+pub fn wagon() -> Result<WagonNumber> {
+    Ok(WagonNumber::read("218124712173")?)
+}
+
+pub fn number(number: u64) -> Result<MessageNumber> {
+    match MessageNumber::new(number) {
+        Some(number) => Ok(number),
+        None => bail!("no number of a message"),
+    }
+}
+
+/// A delay of a minute.
+pub fn delay() -> Result<Delay> {
+    match Delay::new(1) {
+        Some(delay) => Ok(delay),
+        None => bail!("no delay"),
+    }
+}
+
+/// As many estimates as items of an outbox, numbered from 1.
+pub fn estimates(alloc: Global, count: u64) -> Result<ItemList>
+    ensures { IfOk result (λ items. length items ≡ count) }
+{
+    let Some(leg) = LegIndex::new(0) else {
+        bail!("no leg");
+    };
+    let wagon = wagon()?;
+    let at = Moment::read("2025-03-01T11:00Z")?;
+    let mut items = Vec::new(alloc);
+    for before in 0..count {
+        let number = before + 1;
+        items.push(Item {
+            number,
+            body: ItemBody::Eti { wagon, leg, at },
+        })?;
+    }
+    Ok(Listed::from_vec(items))
+}

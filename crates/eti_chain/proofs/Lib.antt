@@ -1,0 +1,4 @@
+pub mod Estimating
+pub mod Fitting
+pub mod Ending
+pub mod Chaining

@@ -1,0 +1,9 @@
+use Rattle.std.proofs.Common.{◌≡◌, ◌*◌, ◌≤◌, ◌^◌, ◌-◌, take}
+use Rattle.std.specs.List.{sum_by}
+use Rattle.eti_chain.proofs.reckoning.minutes_of.Given as goal
+
+abbrev pub invariant-loop-leg : goal.invariant-loop-leg
+invariant-loop-leg l = record {
+  sum : l.sum ≡ sum_by (λ l. l.minutes) (take l.leg-index l.legs);
+  small : l.sum ≤ l.leg-index * (2 ^ 32 - 1);
+}

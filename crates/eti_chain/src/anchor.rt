@@ -1,0 +1,107 @@
+//! The event from which estimates are counted.
+ghost use Rattle.std.specs.Prelude.{◌≡◌, ◌+◌, ◌<◌, ◌≤◌, ◌^◌, IfSome};
+ghost use Rattle.eti_chain.specs.Chains as of;
+ghost use Rattle.eti_chain.specs.Estimates as words;
+
+use journey::{Event, EventBody};
+use taf_messages::MovementKind;
+use taf_moment::Moment;
+
+/// The newest event that fixes the estimates, and the delays since.
+#[derive(Clone, Copy, Debug)]
+pub(crate) struct Anchor {
+    pub(crate) at: Moment,
+    /// Whether the minutes of the current leg are still to pass.
+    pub(crate) runs_leg: bool,
+    /// In minutes.
+    pub(crate) delays: u128,
+}
+
+/// The anchor after one event more.
+pub(crate) fn anchor_after(before: Option<Anchor>, event: &Event) -> Option<Anchor>
+    requires { of.delays_of before < 2 ^ 127 }
+    ensures value { result ≡ of.anchor_after before event.now }
+    ensures bound { of.delays_of result ≤ of.delays_of before + 100000 }
+{
+    anchor_in(event).or(delayed(before, &event.body))
+}
+
+// The anchor with the delays after one event more.
+fn delayed(before: Option<Anchor>, body: &EventBody) -> Option<Anchor>
+    requires { of.delays_of before < 2 ^ 127 }
+    ensures value { result ≡ of.delayed before body.now }
+    ensures bound { of.delays_of result ≤ of.delays_of before + 100000 }
+{
+    let anchor = before?;
+    let delays = if is_anchor(body) {
+        0
+    } else {
+        anchor.delays + delay_in(body)
+    };
+    Some(Anchor {
+        at: anchor.at,
+        runs_leg: anchor.runs_leg,
+        delays,
+    })
+}
+
+fn anchor_in(event: &Event) -> Option<Anchor>
+    ensures value { result ≡ of.anchor_in event.now.at event.now.body }
+    ensures bound { of.delays_of result ≡ 0 }
+{
+    match &event.body {
+        EventBody::Moved(what) => anchor_in_movement(event.at, *what),
+        EventBody::Answered { received, .. } if *received => anchor_at(event.at, true),
+        _ => None,
+    }
+}
+
+fn anchor_in_movement(at: Option<Moment>, what: MovementKind) -> Option<Anchor>
+    ensures value { result ≡ of.anchor_in_movement at what }
+    ensures bound { of.delays_of result ≡ 0 }
+{
+    match what {
+        MovementKind::Release | MovementKind::Departure => anchor_at(at, true),
+        MovementKind::Estimate | MovementKind::Arrival | MovementKind::Delivery => {
+            anchor_at(at, false)
+        }
+        _ => None,
+    }
+}
+
+fn anchor_at(at: Option<Moment>, runs_leg: bool) -> Option<Anchor>
+    ensures value { result ≡ of.anchor_at at runs_leg }
+    ensures bound { of.delays_of result ≡ 0 }
+{
+    Some(Anchor {
+        at: at?,
+        runs_leg,
+        delays: 0,
+    })
+}
+
+fn is_anchor(body: &EventBody) -> bool
+    ensures { result ≡ words.is_anchor body.now }
+{
+    match body {
+        EventBody::Moved(what) => !matches!(
+            what,
+            MovementKind::YardArrival { .. }
+                | MovementKind::YardDeparture { .. }
+                | MovementKind::Exception { .. }
+        ),
+        EventBody::Answered { received, .. } => *received,
+        _ => false,
+    }
+}
+
+// The minutes that an event delays the wagon by: at most 100,000.
+fn delay_in(body: &EventBody) -> u128
+    ensures value { result ≡ words.delay_in body.now }
+    ensures bound { result ≤ 100000 }
+{
+    match body {
+        EventBody::Moved(MovementKind::Exception { delay }) => u128::from(delay.get()),
+        _ => 0,
+    }
+}

@@ -1,0 +1,28 @@
+//! The chain of estimates of a wagon: when it is expected at the end of each of its legs (Regulation (EU)
+//! No 1305/2014, Annex, 4.2.6).
+//!
+//! The estimates are counted from the newest anchor, which is a release, a departure, a reported estimate, a reception,
+//! an arrival or a delivery. The current leg ends at the anchor's moment or, after a release, a departure or a
+//! reception, once the minutes of the leg have passed since. Delays after the anchor and the minutes of later legs come
+//! on top (`specs/Estimates.antt`). The estimate of the last leg is the estimated time of arrival, which is compared
+//! with the moment that was promised to the customer.
+//!
+//! [`Estimates`] are those of one track. They keep the newest anchor and the delays since, with the legs and the leg
+//! index, and contracts see them so, as the `chain` of the track's events (`specs/Chains.antt`).
+//!
+//! - [`Estimates::fits`] says whether no estimate of a track passes 2199-12-31T23:59Z, and [`Estimates::of`] reckons
+//!   them afresh.
+//! - [`Estimates::followed`] and [`Estimates::follow`] go from the estimates of a track to those of the track with one
+//!   event more, in a step. [`Estimates::would_pass_calendar`] says beforehand whether one would pass the calendar.
+//! - [`Estimates::estimate`], [`Estimates::eta`], [`Estimates::late`] and [`Estimates::late_by`] read them.
+//!
+//! Promised: each answer is that of the definitions over the track's events, and what `follow` gives is what `of` would
+//! give. No call takes memory. Sums are made in 128 bits: fewer than 2^63 events delay a wagon by at most 100,000 minutes
+//! each, and eight legs take less than 2^32 minutes each, so that no sum overflows.
+#![tactic(auto)]
+
+mod anchor;
+mod estimates;
+mod reckoning;
+
+pub use estimates::Estimates;

@@ -1,0 +1,158 @@
+//! What estimates are reckoned from.
+ghost use Rattle.std.specs.Prelude.{◌≡◌, ◌+◌, ◌<◌, ◌≤◌, ◌^◌, length, IfSome};
+ghost use Rattle.std.specs.List.{sum_by};
+ghost use Rattle.taf_moment.specs.Calendar.{last_minute};
+ghost use Rattle.eti_chain.specs.Chains as of;
+
+use crate::anchor::{Anchor, anchor_after};
+use journey::{Event, Legs, Situation, Track};
+use std::collections::LinkedList;
+use taf_moment::Moment;
+use trip_plan::Leg;
+
+/// 2199-12-31T23:59Z, in minutes since 1970.
+const LAST_MINUTE: u128 = 120_968_639;
+
+/// The legs of a wagon with the current one, and the newest anchor.
+#[derive(Debug, Drop)]
+pub(crate) struct Reckoning {
+    pub(crate) leg_index: usize,
+    pub(crate) legs: Legs,
+    pub(crate) anchor: Option<Anchor>,
+}
+
+impl Reckoning {
+    /// What the estimates of a track are reckoned from. It walks the events.
+    pub(crate) fn of(track: &Track) -> Reckoning
+        ensures value { result ≡ of.reckoning track.now.events }
+        ensures on_a_leg { result.leg_index < length result.legs }
+        ensures small { of.delays_in result < 2 ^ 127 }
+    {
+        Reckoning {
+            leg_index: track.leg_index(),
+            legs: track.situation().legs.copy(),
+            anchor: newest_anchor(track.events()),
+        }
+    }
+
+    /// The same after an event that leads to this situation.
+    pub(crate) fn after(&self, next: Situation, event: &Event) -> Reckoning
+        requires { of.delays_in self.now ≤ last_minute }
+        ensures value { result ≡ of.reckoning_after self.now next event.now }
+        ensures small { of.delays_in result < 2 ^ 127 }
+    {
+        Reckoning {
+            leg_index: next.leg_index,
+            legs: next.legs,
+            anchor: anchor_after(self.anchor, event),
+        }
+    }
+
+    /// The end of a leg, in minutes since 1970.
+    pub(crate) fn end_of(&self, leg: usize) -> Option<u128>
+        requires { of.delays_in self.now < 2 ^ 127 }
+        ensures { result ≡ of.end_in self.now leg }
+    {
+        let legs = self.legs.as_slice();
+        if leg < self.leg_index || leg >= legs.len() {
+            return None;
+        }
+        let minutes = minutes_of(&legs[self.leg_index + 1..leg + 1]);
+        Some(self.base()? + self.delays() + minutes)
+    }
+
+    /// The end of the last leg, in minutes since 1970.
+    pub(crate) fn last_end(&self) -> Option<u128>
+        requires { of.delays_in self.now < 2 ^ 127 }
+        ensures { result ≡ of.eta_in self.now }
+    {
+        self.end_of(self.legs.as_slice().len() - 1)
+    }
+
+    /// Whether no estimate passes the last minute of the calendar.
+    #[tactic(auto, using(crate::proofs::Chaining::fits_by_eta))]
+    pub(crate) fn fits(&self) -> bool
+        requires on_a_leg { self.now.leg_index < length self.now.legs }
+        requires small { of.delays_in self.now < 2 ^ 127 }
+        ensures { result ≡ of.fits_in self.now }
+    {
+        match self.last_end() {
+            Some(at) => at <= LAST_MINUTE,
+            None => true,
+        }
+    }
+
+    /// When the wagon is expected at the end of a leg.
+    pub(crate) fn moment(&self, leg: usize) -> Option<Moment>
+        requires { of.IsWithin self.now }
+        ensures { result ≡ of.end_in self.now leg }
+    {
+        let at = self.end_of(leg)?;
+        Moment::from_minutes(at as u32)
+    }
+
+    /// When the wagon is expected at the end of the last leg.
+    pub(crate) fn last_moment(&self) -> Option<Moment>
+        requires { of.IsWithin self.now }
+        ensures { result ≡ of.eta_in self.now }
+    {
+        self.moment(self.legs.as_slice().len() - 1)
+    }
+
+    // The end of the current leg by the anchor, without delays.
+    fn base(&self) -> Option<u128>
+        ensures value { result ≡ of.base_in self.now }
+        ensures small { IfSome result (λ at. at < 2 ^ 33) }
+    {
+        let anchor = self.anchor?;
+        let minutes = if anchor.runs_leg { self.minutes() } else { 0 };
+        Some(u128::from(anchor.at.minutes()) + minutes)
+    }
+
+    // The minutes of the current leg.
+    fn minutes(&self) -> u128
+        ensures value { result ≡ of.minutes_in self.now }
+        ensures small { result < 2 ^ 32 }
+    {
+        match self.legs.leg(self.leg_index) {
+            Some(leg) => u128::from(leg.minutes),
+            None => 0,
+        }
+    }
+
+    fn delays(&self) -> u128
+        ensures { result ≡ of.delays_in self.now }
+    {
+        match self.anchor {
+            Some(anchor) => anchor.delays,
+            None => 0,
+        }
+    }
+}
+
+// The newest anchor of a journey, with the delays since. At most 2^63 events delay the wagon by at
+// most 100,000 minutes each.
+#[tactic(auto, using(crate::proofs::Chaining::anchor_by_walk))]
+fn newest_anchor(events: &LinkedList<Event>) -> Option<Anchor>
+    ensures value { result ≡ of.anchor events.now }
+    ensures small { of.delays_of result < 2 ^ 127 }
+{
+    let mut found = None;
+    for event in events.iter() {
+        found = anchor_after(found, event);
+    }
+    found
+}
+
+// The minutes of at most eight legs: below 2^35, since each takes less than 2^32.
+fn minutes_of(legs: &[Leg]) -> u128
+    requires { length legs.now ≤ 8 }
+    ensures value { result ≡ sum_by (λ l. l.minutes) legs.now }
+    ensures small { result < 2 ^ 36 }
+{
+    let mut sum: u128 = 0;
+    for leg in legs {
+        sum += u128::from(leg.minutes);
+    }
+    sum
+}

@@ -1,0 +1,5 @@
+use Rattle.hub_model.proofs.Fit.{estimates_fit}
+use Rattle.hub_model.proofs.laws.estimates_fit.Goals as goal
+
+pub returns : goal.returns
+returns c = estimates_fit

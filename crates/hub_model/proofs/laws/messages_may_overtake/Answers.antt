@@ -1,0 +1,7 @@
+use Rattle.hub_model.proofs.Apart.{apart_is_exact}
+use Rattle.hub_model.proofs.Either.{may_overtake}
+use Rattle.hub_model.proofs.Alike.{stay_alike, stay_alike_through}
+use Rattle.hub_model.proofs.laws.messages_may_overtake.Goals as goal
+
+pub returns : goal.returns
+returns c = record { apart = apart_is_exact; either = may_overtake; alike = stay_alike; through = stay_alike_through }

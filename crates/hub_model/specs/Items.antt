@@ -1,0 +1,114 @@
+-- What an accepted message has the railways told (4.2.6, 4.2.7, 4.2.8).
+use Rattle.std.specs.Prelude.{ℕ, ◌+◌, ◌==◌, nat_eq, not, ◌||◌, Bool, if◌then◌else◌, List, [], ◌∷◌, ◌++◌, length, map, filter, flat_map, filter_map, drop, Option, Some, None, option_map, option_to_list, bytes_eq}
+use Rattle.std.specs.Option.{option_eq}
+use Rattle.taf_codes.specs.declared.code.Railway.{Railway}
+use Rattle.taf_codes.specs.Words.{same_text}
+use Rattle.trip_plan.specs.declared.parts.Leg.{Leg}
+use Rattle.taf_messages.specs.declared.item.ItemBody.{ItemBody}
+use Rattle.taf_messages.specs.declared.item.ItemBody.TheVariants as item
+use Rattle.taf_messages.specs.declared.message.Message.{Message}
+use Rattle.taf_messages.specs.declared.message.TrainAnswer.{TrainAnswer}
+use Rattle.taf_messages.specs.declared.message.Body.{Body}
+use Rattle.taf_messages.specs.declared.message.Body.TheVariants as body
+use Rattle.taf_messages.specs.declared.movement.MovementKind.{MovementKind}
+use Rattle.taf_messages.specs.declared.movement.MovementKind.TheVariants.{Release, Estimate}
+use Rattle.taf_messages.specs.declared.record.EstimateAt.{EstimateAt}
+use Rattle.journey.specs.declared.event.Event.{Event}
+use Rattle.journey.specs.Stages.{leg_index, responsible}
+use Rattle.journey.specs.Legs.{legs, current_leg, runner_of, lead_of}
+use Rattle.interchange.specs.Offers.{asked_by}
+use Rattle.eti_chain.specs.Estimates.{estimate, estimates, late_by, is_late}
+use Rattle.hub_model.specs.declared.addressed.Addressed.{Addressed}
+use Rattle.hub_model.specs.Standing.{Standing, named, journey_after}
+
+-- each railway once, where it comes first
+abbrev pub each_once : List Railway → List Railway
+each_once [] = []
+each_once (r ∷ rs) = r ∷ filter (λ q. not (bytes_eq q r)) (each_once rs)
+
+-- the railways of these legs, in order
+abbrev pub runners : List Leg → List Railway
+runners ls = map (λ l. l.ru) ls
+
+-- who is told of a movement, given the wagon's events after it: of a release the first railway, of an estimate nobody, else the lead (4.2.7)
+abbrev pub told_of_movement : List Event → MovementKind → List Railway
+told_of_movement after Release = option_to_list (runner_of after 0)
+told_of_movement after Estimate = []
+told_of_movement after _ = option_to_list (lead_of after)
+
+-- who is told of new legs, given the events before: the current leg's railway, and those of the legs taken away and set
+abbrev pub told_of_route : List Event → List Leg → List Railway
+told_of_route before route =
+    runners (option_to_list (current_leg before)) ++ runners (drop (leg_index before + 1) (legs before)) ++ runners route
+
+-- who gets the notice of a message, given what each wagon's events are after it
+abbrev pub notified : Standing → (ℕ → List Event) → Railway → Body → List Railway
+notified s after by (body.Plan p) = runners p.legs
+notified s after by (body.Movement m) = told_of_movement (after m.wagon) m.what
+notified s after by (body.EtiAsk w) = option_to_list (responsible (after w))
+notified s after by (body.LegTime w i minutes) = []
+notified s after by (body.Offer o) = o.to ∷ []
+notified s after by (body.Answer a) = a.offerer ∷ filter_map (λ w. lead_of (after w)) (a.received ++ a.refused)
+notified s after by (body.Withdraw at n) = option_to_list (asked_by (s.offer by n))
+notified s after by (body.Reroute w route) = told_of_route (s.journey w) route
+
+-- what the manager is told of an answer that received wagons (4.2.8)
+abbrev pub sub_item : Railway → TrainAnswer → Railway → Addressed
+sub_item by a manager =
+    record { to = manager; body = item.Sub (record { at = a.at; from = by; offer = a.offer; offerer = a.offerer; wagons = a.received }) }
+
+-- the item for the manager, where a manager is named and a wagon was received
+abbrev pub sub_items : Railway → Body → List Addressed
+sub_items by (body.Answer a) = if length a.received == 0 then [] else map (sub_item by a) (option_to_list a.manager)
+sub_items by _ = []
+
+-- the notices of a message
+abbrev pub notices : Standing → Message → List Addressed
+notices s m =
+    map (λ r. record { to = r; body = item.Notice m }) (each_once (notified s (journey_after s m) m.by m.body)) ++
+    sub_items m.by m.body
+
+-- where an estimate goes (4.2.6): to the railway of the next leg, or for the last leg to the lead
+abbrev pub estimate_item : List Event → ℕ → EstimateAt → List Addressed
+estimate_item events w e =
+    if e.leg + 1 == length (legs events)
+    then map (λ r. record { to = r; body = item.Eta w e.at }) (option_to_list (lead_of events))
+    else map (λ r. record { to = r; body = item.Eti w e.leg e.at }) (option_to_list (runner_of events (e.leg + 1)))
+
+-- the estimate is not what it was, or the next leg has another railway, or there was or is no next leg
+abbrev pub is_news : List Event → List Event → EstimateAt → Bool
+is_news before after e =
+    not (option_eq nat_eq (estimate before e.leg) (Some e.at)) ||
+    not (same_text (runner_of before (e.leg + 1)) (runner_of after (e.leg + 1)))
+
+-- the items of the estimates that are news
+abbrev pub estimate_items : List Event → List Event → ℕ → List Addressed
+estimate_items before after w = flat_map (estimate_item after w) (filter (is_news before after) (estimates after))
+
+-- an alert begins where the wagon is late and was not, and ends where it was late and is not (4.2.6)
+abbrev pub alert : List Event → List Event → ℕ → Option ItemBody
+alert before after w =
+    if is_late before
+    then (if is_late after then None else Some (item.AlertEnds w))
+    else option_map (λ minutes. item.AlertBegins w minutes) (late_by after)
+
+-- to the lead, and to the railway that answers for the wagon
+abbrev pub alerted : List Event → List Railway
+alerted events = each_once (option_to_list (lead_of events) ++ option_to_list (responsible events))
+
+-- the items of an alert
+abbrev pub alert_items : List Event → List Event → ℕ → List Addressed
+alert_items before after w =
+    flat_map (λ says. map (λ r. record { to = r; body = says }) (alerted after)) (option_to_list (alert before after w))
+
+-- the items of an accepted message in order; none goes to its own sender
+abbrev pub items_of : Standing → Message → List Addressed
+items_of s m =
+    filter (λ i. not (bytes_eq i.to m.by)) (
+    notices s m ++
+    flat_map (λ w. estimate_items (s.journey w) (journey_after s m w) w) (named s.offer m) ++
+    flat_map (λ w. alert_items (s.journey w) (journey_after s m w) w) (named s.offer m))
+
+-- what of these goes to a railway
+abbrev pub items_to : Railway → List Addressed → List ItemBody
+items_to r items = map (λ i. i.body) (filter (λ i. bytes_eq i.to r) items)

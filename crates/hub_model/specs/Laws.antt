@@ -1,0 +1,76 @@
+-- What holds of wagons, offers and estimates at every moment.
+use Rattle.std.specs.Prelude.{◌≡◌, ◌↔◌, ◌≤◌, ℕ, true, List, [], ◌∷◌, ◌++◌, map, Option, Some, None, IsSome}
+use Rattle.taf_codes.specs.declared.code.Railway.{Railway}
+use Rattle.taf_moment.specs.Calendar.{last_minute}
+use Rattle.trip_plan.specs.Rules.{has}
+use Rattle.taf_messages.specs.declared.call.Call.{Call}
+use Rattle.taf_messages.specs.declared.call.Call.TheVariants.{Send}
+use Rattle.taf_messages.specs.declared.message.Message.{Message}
+use Rattle.taf_messages.specs.declared.record.Stage.TheVariants as stage_is
+use Rattle.journey.specs.Stages.{stage, responsible, is_on_its_way}
+use Rattle.interchange.specs.Offers.{wagons_of}
+use Rattle.eti_chain.specs.Estimates.{fits}
+use Rattle.hub_model.specs.declared.entry.Entry.{Entry}
+use Rattle.hub_model.specs.Standing.{Standing, moment_in}
+use Rattle.hub_model.specs.Answers.{IsLegal, answer, run, standing_of, standing_after}
+
+-- the offer of this name is open, and has the wagon
+abbrev pub IsInOpenOffer : Standing → Railway → ℕ → ℕ → Type 0
+IsInOpenOffer s by n w = (s.is_open by n ≡ true) × (has (wagons_of (s.offer by n)) w ≡ true)
+
+-- a wagon is in at most one open offer (4.2.8)
+abbrev pub OneOpenOffer : Standing → Type 0
+OneOpenOffer s = (w n k : ℕ) (by also : Railway) → IsInOpenOffer s by n w → IsInOpenOffer s also k w → (by ≡ also) × (n ≡ k)
+
+-- every wagon of an open offer is offered
+abbrev pub OpenIsOffered : Standing → Type 0
+OpenIsOffered s = (w n : ℕ) (by : Railway) → IsInOpenOffer s by n w → stage (s.journey w) ≡ Some stage_is.Offered
+
+-- a wagon has a responsible railway exactly when it is on its way (4.2.7)
+abbrev pub OneResponsible : Standing → Type 0
+OneResponsible s = (w : ℕ) → IsSome (responsible (s.journey w)) ↔ (is_on_its_way (s.journey w) ≡ true)
+
+-- what holds of offers and responsible railways
+pub record IsInOrder (s : Standing) : Type 0 where
+  pub one_offer : OneOpenOffer s
+  pub offered : OpenIsOffered s
+  pub responsible : OneResponsible s
+
+-- it holds after every legal history
+abbrev pub AlwaysInOrder : Type 0
+AlwaysInOrder = (history : List Entry) → IsLegal history → IsInOrder (standing_of history)
+
+-- a moment, if there is one, is of the calendar
+abbrev pub IsMoment : Option ℕ → Type 0
+IsMoment None = Unit {0}
+IsMoment (Some at) = at ≤ last_minute
+
+-- the call is such a message, or no send
+abbrev pub IsSend : (Message → Type 0) → Call → Type 0
+IsSend P (Send m) = P m
+IsSend P _ = Unit {0}
+
+-- each send of the history has such a message
+abbrev pub EachSend : (Message → Type 0) → List Entry → Type 0
+EachSend P [] = Unit {0}
+EachSend P (e ∷ history) = IsSend P e.call × EachSend P history
+
+-- the moments of the messages are of the calendar
+abbrev pub AreDated : List Entry → Type 0
+AreDated history = EachSend (λ m. IsMoment (moment_in m.body)) history
+
+-- no estimate of a wagon passes the calendar (4.2.6)
+abbrev pub EstimatesFit : Type 0
+EstimatesFit = (history : List Entry) → IsLegal history → AreDated history → (w : ℕ) → fits ((standing_of history).journey w) ≡ true
+
+-- the replies of a history are those that its calls get, one after another
+abbrev pub RepliesAreTheRun : Type 0
+RepliesAreTheRun = (history : List Entry) → IsLegal history → map (λ e. e.reply) history ≡ run (map (λ e. e.call) history)
+
+-- what is known after a history is what is known after its calls
+abbrev pub KnownByTheCalls : Type 0
+KnownByTheCalls = (history : List Entry) → IsLegal history → standing_of history ≡ standing_after (map (λ e. e.call) history)
+
+-- a history with one more entry is legal if it was, and the reply is the answer
+abbrev pub OneMoreEntry : Type 0
+OneMoreEntry = (history : List Entry) (call : Call) → IsLegal history → IsLegal (history ++ record { call = call; reply = answer history call } ∷ [])

@@ -1,0 +1,11 @@
+pub mod Standing
+pub mod Units
+pub mod Faults
+pub mod Items
+pub mod Answers
+pub mod Accepted
+pub mod Accepting
+pub mod Overtaking
+pub mod Laws
+pub mod Bounds
+pub mod Responsibility

@@ -1,0 +1,112 @@
+-- Messages that may come in either order.
+use Rattle.std.specs.Prelude.{◌≡◌, ◌↔◌, ℕ, Bool, true, false, not, ◌&&◌, ◌||◌, IsTrue, List, [], ◌∷◌, ◌++◌, Option, Some, None, bytes_eq, IsPermutation}
+use Rattle.std.specs.Option.{option_map_or}
+use Rattle.std.specs.List.{list_any}
+use Rattle.taf_codes.specs.declared.code.Railway.{Railway}
+use Rattle.taf_codes.specs.declared.code.UnitCode.{UnitCode}
+use Rattle.taf_codes.specs.declared.name.ConsignmentId.{ConsignmentId}
+use Rattle.trip_plan.specs.Rules.{has, loads}
+use Rattle.taf_messages.specs.declared.call.Call.{Call}
+use Rattle.taf_messages.specs.declared.call.Call.TheVariants.{Send, Fetch}
+use Rattle.taf_messages.specs.declared.message.Message.{Message}
+use Rattle.taf_messages.specs.declared.message.Body.{Body}
+use Rattle.taf_messages.specs.declared.message.Body.TheVariants as body
+use Rattle.interchange.specs.Offers.{wagons_of}
+use Rattle.replay_numbers.specs.Names.{same_name}
+use Rattle.hub_model.specs.Standing.{Standing, named}
+use Rattle.hub_model.specs.Units.{unit_wagon, units_in}
+use Rattle.hub_model.specs.Answers.{standing_after, reply_to}
+
+-- the wagons that a message counts with
+abbrev pub counted : Standing → Message → Body → List ℕ
+counted s m (body.Answer a) = named s.offer m ++ wagons_of (s.offer a.offerer a.offer)
+counted s m _ = named s.offer m
+
+-- the consignment of a plan
+abbrev pub consignment_in : Body → Option ConsignmentId
+consignment_in (body.Plan p) = Some p.consignment
+consignment_in _ = None
+
+-- the name of the offer that it makes, answers or withdraws
+abbrev pub offer_named : Message → Body → Option (Railway × ℕ)
+offer_named m (body.Offer o) = Some (m.by, m.no)
+offer_named m (body.Answer a) = Some (a.offerer, a.offer)
+offer_named m (body.Withdraw at n) = Some (m.by, n)
+offer_named m _ = None
+
+-- a message counts with the units that it loads, and with those whose wagon it counts with
+abbrev pub counts_unit : Standing → Message → UnitCode → Bool
+counts_unit s m u = loads (units_in m.body) u || option_map_or (λ w. has (counted s m m.body) w) (unit_wagon s u) false
+
+-- both are there, and are the same
+abbrev pub shares : {A : Type 0} → (A → A → Bool) → Option A → Option A → Bool
+shares same (Some a) (Some b) = same a b
+shares same _ _ = false
+
+-- a wagon is in both lists
+abbrev pub share_wagon : List ℕ → List ℕ → Bool
+share_wagon ws vs = list_any (has vs) ws
+
+-- the first loads a unit that the second counts with
+abbrev pub loads_counted : Standing → Message → Message → Bool
+loads_counted s m n = list_any (λ l. counts_unit s n l.unit) (units_in m.body)
+
+-- two names are the same
+abbrev pub same_pair : Railway × ℕ → Railway × ℕ → Bool
+same_pair a b = same_name a.0 a.1 b.0 b.1
+
+-- they share no wagon, unit, consignment, offer or name
+pub record AreApart (s : Standing) (m n : Message) : Type 0 where
+  pub wagons : (w : ℕ) → has (counted s m m.body) w ≡ true → has (counted s n n.body) w ≡ true → ⊥
+  pub units : (u : UnitCode) → counts_unit s m u ≡ true → counts_unit s n u ≡ true → ⊥
+  pub consignments : (c : ConsignmentId) → Path (Option ConsignmentId) (consignment_in m.body) (Some c) → Path (Option ConsignmentId) (consignment_in n.body) (Some c) → ⊥
+  pub offers : (by : Railway) (k : ℕ) → Path (Option (Railway × ℕ)) (offer_named m m.body) (Some (by, k)) → Path (Option (Railway × ℕ)) (offer_named n n.body) (Some (by, k)) → ⊥
+  pub names : m.by ≡ n.by → m.no ≡ n.no → ⊥
+
+-- the same as a test; without a wagon in common, a unit in common is one that either loads
+abbrev pub is_apart : Standing → Message → Message → Bool
+is_apart s m n =
+    not (share_wagon (counted s m m.body) (counted s n n.body)) &&
+    (not (loads_counted s m n) &&
+    (not (loads_counted s n m) &&
+    (not (shares bytes_eq (consignment_in m.body) (consignment_in n.body)) &&
+    (not (shares same_pair (offer_named m m.body) (offer_named n n.body)) &&
+    not (same_name m.by m.no n.by n.no)))))
+
+-- the test finds exactly the messages that are apart
+abbrev pub ApartIsExact : Type 0
+ApartIsExact = (s : Standing) (m n : Message) → IsTrue (is_apart s m n) ↔ AreApart s m n
+
+-- the same is looked up, but for the order of a railway's items
+pub record AreAlike (s t : Standing) : Type 0 where
+  pub journey : (w : ℕ) → s.journey w ≡ t.journey w
+  pub plan_of : (c : ConsignmentId) → s.plan_of c ≡ t.plan_of c
+  pub unit_plan : (u : UnitCode) → s.unit_plan u ≡ t.unit_plan u
+  pub offer : (by : Railway) (n : ℕ) → s.offer by n ≡ t.offer by n
+  pub is_open : (by : Railway) (n : ℕ) → s.is_open by n ≡ t.is_open by n
+  pub first_send : (by : Railway) (n : ℕ) → s.first_send by n ≡ t.first_send by n
+  pub acknowledged : (r : Railway) → s.acknowledged r ≡ t.acknowledged r
+  pub outbox : (r : Railway) → IsPermutation (s.outbox r) (t.outbox r)
+
+-- the call fetches items
+abbrev pub IsFetch : Call → Type 0
+IsFetch (Fetch by limit) = Unit {0}
+IsFetch _ = ⊥
+
+-- whichever of two messages comes first, each gets the same reply, and the two lists are alike
+abbrev pub MayOvertake : Type 0
+MayOvertake = (calls : List Call) (m n : Message) → IsTrue (is_apart (standing_after calls) m n) →
+    (reply_to (standing_after (calls ++ Send m ∷ [])) (Send n) ≡ reply_to (standing_after calls) (Send n)) ×
+    (reply_to (standing_after (calls ++ Send n ∷ [])) (Send m) ≡ reply_to (standing_after calls) (Send m)) ×
+    AreAlike (standing_after (calls ++ Send m ∷ Send n ∷ [])) (standing_after (calls ++ Send n ∷ Send m ∷ []))
+
+-- alike lists stay alike under any call, and reply alike to each that is no fetch
+abbrev pub StayAlike : Type 0
+StayAlike = (before after : List Call) (call : Call) → AreAlike (standing_after before) (standing_after after) →
+    AreAlike (standing_after (before ++ call ∷ [])) (standing_after (after ++ call ∷ [])) ×
+    ((IsFetch call → ⊥) → reply_to (standing_after before) call ≡ reply_to (standing_after after) call)
+
+-- and through any calls that follow
+abbrev pub StayAlikeThrough : Type 0
+StayAlikeThrough = (before after calls : List Call) → AreAlike (standing_after before) (standing_after after) →
+    AreAlike (standing_after (before ++ calls)) (standing_after (after ++ calls))

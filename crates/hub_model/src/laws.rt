@@ -1,0 +1,110 @@
+//! The laws of the definitions. Each is the contract of a function that does nothing.
+ghost use Rattle.hub_model.specs.Accepted.{LookupsAreTheLists};
+ghost use Rattle.hub_model.specs.Accepting.{
+  OthersChangeNothing,
+  TakenOnce,
+  AnsweredAsAtFirst,
+  JudgedByTheAccepted,
+};
+ghost use Rattle.hub_model.specs.Bounds.{
+  AlwaysOnLeg,
+  ItemsAreFew,
+  OutboxesAreBounded,
+  AcknowledgedAreThere,
+  JourneysAreBounded,
+  FirstSendsStand,
+};
+ghost use Rattle.hub_model.specs.Laws.{
+  AlwaysInOrder,
+  EstimatesFit,
+  RepliesAreTheRun,
+  KnownByTheCalls,
+  OneMoreEntry,
+};
+ghost use Rattle.hub_model.specs.Overtaking.{
+  ApartIsExact,
+  MayOvertake,
+  StayAlike,
+  StayAlikeThrough,
+};
+ghost use Rattle.hub_model.specs.Responsibility.{LastReceiverAnswers};
+
+/// The replies of a legal history are the run of its calls, one after another. What is known after
+/// it is what is known after its calls; and it stays legal with one more call and its answer.
+pub fn histories_are_runs()
+    ensures replies { RepliesAreTheRun }
+    ensures known { KnownByTheCalls }
+    ensures more { OneMoreEntry }
+{}
+
+/// What is looked up after calls is what the lists of accepted messages, sends and
+/// acknowledgements say.
+///
+/// A journey is the wagon's shares of the accepted messages from its last plan on, each read by the
+/// offers of the whole list. An offer is open when no accepted answer or withdrawal names it. An
+/// outbox is the items of all accepted messages to its railway, in order. The acknowledged number is
+/// the greatest that was not ahead.
+pub fn lookups_are_the_lists()
+    ensures { LookupsAreTheLists }
+{}
+
+/// A new message is judged, and makes its items, by the accepted messages before it alone. Sent
+/// again it changes nothing and gets the reply that it got at first. No call that is refused, and
+/// none that only asks, changes a journey, an offer, an outbox or an acknowledged number.
+pub fn messages_are_taken_once()
+    ensures judged { JudgedByTheAccepted }
+    ensures once { TakenOnce }
+    ensures again { AnsweredAsAtFirst }
+    ensures others { OthersChangeNothing }
+{}
+
+/// Whatever calls came, the railway that answers for a wagon on its way is the last that received
+/// it: the sender of the last accepted message that is its departure notice or an answer that
+/// received it (4.2.7, 4.2.8). A wagon that is not on its way has none.
+pub fn last_receiver_answers()
+    ensures { LastReceiverAnswers }
+{}
+
+/// Whatever calls came, a wagon is in at most one open offer, every wagon of an open offer is
+/// offered (4.2.8), and a wagon has a responsible railway exactly when it is on its way (4.2.7).
+pub fn offers_are_in_order()
+    ensures { AlwaysInOrder }
+{}
+
+/// The leg index of a wagon with a journey stays below the number of its legs, which is at most 8,
+/// where each plan that was sent has 1 to 8 legs, as every `Plan` has.
+pub fn wagons_are_on_their_legs()
+    ensures { AlwaysOnLeg }
+{}
+
+/// No estimate of a wagon passes the calendar (4.2.6), where the moments of the messages that were
+/// sent are of the calendar, as every `Moment` is.
+pub fn estimates_fit()
+    ensures { EstimatesFit }
+{}
+
+/// Where lists keep their limits, as those of every `Message` do, an accepted message makes at most
+/// 1,322 items, and an outbox has at most so many for each entry of the history. What a railway
+/// acknowledged is in its outbox. A journey has at most one event for each entry.
+pub fn items_and_events_are_bounded()
+    ensures items { ItemsAreFew }
+    ensures outboxes { OutboxesAreBounded }
+    ensures acknowledged { AcknowledgedAreThere }
+    ensures journeys { JourneysAreBounded }
+{}
+
+/// The first send of a name stands in the history, with its reply, at its position, counted from 0.
+/// A name without a position was never sent.
+pub fn first_sends_stand_in_the_history()
+    ensures { FirstSendsStand }
+{}
+
+/// The test of messages that are apart is exact. Whichever of two such messages comes first, each
+/// gets the same reply, and what is known after both is alike; and alike lists of calls stay alike
+/// under any call and through any list, and give every call but a fetch the same reply.
+pub fn messages_may_overtake()
+    ensures apart { ApartIsExact }
+    ensures either { MayOvertake }
+    ensures alike { StayAlike }
+    ensures through { StayAlikeThrough }
+{}

@@ -1,0 +1,37 @@
+//! What the hub is defined to answer and to tell, and the laws of these definitions.
+//!
+//! Railways send messages on the movement of wagons and ask questions (Regulation (EU) No
+//! 1305/2014, Annex, 4.2.6, 4.2.7, 4.2.8, 4.2.11). From the list of their calls alone, oldest first,
+//! the definitions in `specs/` say what each call is answered and what each railway is told:
+//!
+//! - `Standing`: what is looked up after calls (journeys, plans, offers, first sends, outboxes,
+//!   the fleet), the wagons that a message names, and a wagon's share of it;
+//! - `Faults`: why a new message is refused; `Units`: where the intermodal units are;
+//! - `Items`: what an accepted message has the railways told;
+//! - `Answers`: the reply to each call, what it changes, and the histories whose replies are these;
+//! - `Accepted`: the accepted messages, and the lists that the look-ups are of;
+//! - `Accepting`, `Responsibility`, `Laws`, `Bounds`: what holds of them at every moment;
+//! - `Overtaking`: the messages that may come in either order.
+//!
+//! A hub keeps tables and walks no list. That it answers the same is what its own contracts say, in
+//! these words.
+//!
+//! There is no code here but three types: [`Entry`] is a call with its reply, [`Fault`] why a message
+//! is refused and at which wagon, [`Addressed`] an item with the railway that it goes to. The
+//! functions do nothing when they are called: the contract of each is a law of the definitions, for
+//! all calls that can come.
+#![tactic(auto)]
+
+mod addressed;
+mod entry;
+mod fault;
+mod laws;
+
+pub use addressed::Addressed;
+pub use entry::Entry;
+pub use fault::Fault;
+pub use laws::{
+    estimates_fit, first_sends_stand_in_the_history, histories_are_runs,
+    items_and_events_are_bounded, last_receiver_answers, lookups_are_the_lists,
+    messages_are_taken_once, messages_may_overtake, offers_are_in_order, wagons_are_on_their_legs,
+};

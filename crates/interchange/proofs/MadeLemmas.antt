@@ -1,0 +1,42 @@
+-- What is known of an offer by what was made.
+use Rattle.std.proofs.Common.{◌≡◌, ℕ, Bool, true, false, List, Option, Some, None, if◌then◌else◌, refl, ap, sym, ◌∙◌, bytes_eq, ◌==◌, option_map}
+use Rattle.taf_codes.specs.Equality.{texts, numbers, both}
+use Rattle.taf_codes.specs.declared.code.Railway.{Railway}
+use Rattle.replay_numbers.specs.Names.{same_name}
+use Rattle.std.specs.Option.{option_map_or}
+use Rattle.interchange.specs.declared.offer.Offer.{Offer}
+use Rattle.interchange.specs.declared.offer.Made.{Made}
+use Rattle.interchange.specs.Made.{made_as, closed}
+
+-- where there is no offer, none was made
+pub none_made : (made : Option Made) → option_map (λ m. m.offer) made ≡ None → made ≡ None
+none_made None h = refl
+none_made (Some m) h = cc
+
+-- the offer of what is put in place of this
+pub offer_if : (here : Bool) (offer : Offer) (is_open : Bool) (before : Option Made) → option_map (λ m. m.offer) (if here then Some (record { offer = offer; is_open = is_open }) else before) ≡ (if here then Some offer else option_map (λ m. m.offer) before)
+offer_if true offer is_open before = refl
+offer_if false offer is_open before = refl
+
+-- and whether it is open
+pub open_if : (here : Bool) (offer : Offer) (is_open : Bool) (before : Option Made) → option_map_or (λ m. m.is_open) (if here then Some (record { offer = offer; is_open = is_open }) else before) false ≡ (if here then is_open else option_map_or (λ m. m.is_open) before false)
+open_if true offer is_open before = refl
+open_if false offer is_open before = refl
+
+-- equal names have the same offer
+pub same_made : (offers : List ((Railway × ℕ) × Made)) (by : Railway) (number : ℕ) (also : Railway) (other : ℕ) → same_name by number also other ≡ true → made_as offers also other ≡ made_as offers by number
+same_made offers by number also other same =
+    let parts = both (bytes_eq by also) (number == other) same in
+    let sender = texts.equal by also parts.0 in
+    let count = numbers.equal number other parts.1 in
+    λ i. made_as offers (sym sender i) (sym count i)
+
+-- what stands under each name once the offer of this one is closed
+pub made_as-closed : (before after : List ((Railway × ℕ) × Made)) (by : Railway) (number : ℕ) (made : Made) → made_as before by number ≡ Some made
+    → ((name : Railway × ℕ) → made_as after name.0 name.1 ≡ (if same_name by number name.0 name.1 then Some (closed made) else made_as before name.0 name.1))
+    → (also : Railway) (other : ℕ) → made_as after also other ≡ (if same_name by number also other then option_map closed (made_as before also other) else made_as before also other)
+made_as-closed before after by number made found written also other = written (also, other) ∙ here (same_name by number also other) refl
+  where
+    here : (same : Bool) → same_name by number also other ≡ same → (if same then Some (closed made) else made_as before also other) ≡ (if same then option_map closed (made_as before also other) else made_as before also other)
+    here true e = ap (option_map closed) (sym (same_made before by number also other e ∙ found))
+    here false e = refl

@@ -1,0 +1,26 @@
+use taf_codes::{Place, Railway};
+use taf_messages::{LegIndex, LegMinutes, MessageNumber, MovementKind};
+use taf_moment::Moment;
+use trip_plan::{Plan, Route};
+
+/// A wagon's share of a message.
+#[derive(Debug, Drop)]
+pub struct Event {
+    pub by: Railway,
+    pub no: MessageNumber,
+    pub at: Option<Moment>,
+    pub body: EventBody,
+}
+
+/// What a message says of one wagon.
+#[derive(Debug, Drop)]
+pub enum EventBody {
+    Planned(Plan),
+    Moved(MovementKind),
+    EstimateAsked,
+    LegTimed { leg: LegIndex, minutes: LegMinutes },
+    Offered { place: Place, to: Railway },
+    Answered { place: Place, received: bool },
+    Withdrawn { place: Place },
+    Rerouted(Route),
+}

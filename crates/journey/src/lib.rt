@@ -1,0 +1,42 @@
+//! The journey of one wagon: what was said of it since its last plan, and what that comes to.
+//!
+//! A message may name many wagons. What it says of one of them is an [`Event`]: its sender, its number, its moment
+//! where it has one, and an [`EventBody`]. A journey is the list of a wagon's events, oldest first; the first is its
+//! plan (Regulation (EU) No 1305/2014, Annex, 4.2.7 and 4.2.8). All that a further event is judged by is read off
+//! the events by the definitions of `specs/`:
+//!
+//! | | read off the events | definition |
+//! |---|---|---|
+//! | stage | the last event that leads to one | `Stages.stage` |
+//! | leg index | how many railways received the wagon | `Stages.leg_index` |
+//! | legs | the plan's, with later routes and times of legs | `Legs.legs` |
+//! | responsible railway | the last that took the wagon over, from departure to delivery | `Stages.responsible` |
+//! | place | where the legs begin or end, or the yard, by the stage | `Legs.place` |
+//! | next event | the first check that refuses it, in the order of the rules | `Checks.refusal` |
+//!
+//! - [`Track`] is a wagon with the events of its journey, and contracts see it as these (`specs/Journey.antt`).
+//!   [`Track::open`] begins it with a plan, [`Track::admits`] says why an event may not come next, and
+//!   [`Track::add`] adds one that may. Where memory is refused, a track is as it was.
+//! - [`Event::prepared`] gives an event memory of its own. [`Track::begin`] and [`Track::put`] then take none.
+//! - [`Situation`] is what the events come to. A track keeps it beside them, so that no call but
+//!   [`Track::events`] leads to a walk: stage, leg index, legs, responsible railway, place and checks take a step.
+//!   [`Track::situation_after`] is the situation that one event more would lead to.
+//! - [`Legs`] are the one to eight legs of a wagon, kept in place.
+//!
+//! Promised: each answer is that of the definitions over the track's own events, for every journey. A wagon is
+//! always on one of its legs, of which there are at most eight. Only `open`, `add` and `prepared` take memory.
+#![tactic(auto)]
+
+mod checks;
+mod effects;
+mod event;
+mod legs;
+mod prepared;
+mod situation;
+mod track;
+
+pub use event::{Event, EventBody};
+pub use legs::Legs;
+pub use prepared::Prepared;
+pub use situation::Situation;
+pub use track::Track;

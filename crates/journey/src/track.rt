@@ -1,0 +1,188 @@
+ghost use Rattle.std.specs.Prelude.{◌≡◌, ◌+◌, ◌<◌, ◌≤◌, ◌^◌, [], ◌∷◌, ◌++◌, length, true, Some, None, IfOk, OnOk, OnErr};
+
+use crate::event::{Event, EventBody};
+use crate::prepared::Prepared;
+use crate::situation::Situation;
+use std::alloc::Global;
+use std::collections::LinkedList;
+use std::marker::Model;
+use taf_codes::{Memory, Place, Railway};
+use taf_messages::{Stage, Why};
+use trip_plan::{Leg, Plan};
+use wagon_number::WagonNumber;
+
+/// A wagon and the events of its journey, which begins with a plan.
+#[derive(Debug, Drop)]
+pub struct Track {
+    wagon: WagonNumber,
+    events: LinkedList<Event>,
+    // What the events come to.
+    situation: Situation,
+}
+
+impl Model for Track {
+    ghost use Rattle.journey.specs.Journey.{Journey};
+
+    ghost Value = { Journey };
+
+    ghost use Rattle.journey.specs.Kept.{IsKept};
+
+    ghost view = { λ t. record { wagon = t.wagon; events = t.events } };
+
+    ghost invariant = { λ t. IsKept t.events t.situation };
+}
+
+impl Track {
+    ghost use Rattle.std.specs.Prelude.{slice_get};
+    ghost use Rattle.journey.specs.Stages as of;
+    ghost use Rattle.journey.specs.Legs as legs_of;
+    ghost use Rattle.journey.specs.Situations.{situation};
+    ghost use Rattle.journey.specs.Checks.{refusal};
+
+    /// A journey that begins with this plan.
+    pub fn open(alloc: Global, wagon: WagonNumber, event: Event) -> Result<Track, Memory>
+        requires { of.is_plan event.body ≡ true }
+        ensures { IfOk result (λ t. t ≡ record { wagon = wagon; events = event ∷ [] }) }
+    {
+        Ok(Track::begin(wagon, event.prepared(alloc)?))
+    }
+
+    /// A journey that begins with this plan. It takes no memory.
+    pub fn begin(wagon: WagonNumber, event: Prepared) -> Track
+        requires { of.is_plan event.body ≡ true }
+        ensures { result ≡ record { wagon = wagon; events = event ∷ [] } }
+    {
+        let situation = match &event.event().body {
+            EventBody::Planned(plan) => Situation::planned(plan),
+            _ => unreachable!(),
+        };
+        Track {
+            wagon,
+            events: event.into_list(),
+            situation,
+        }
+    }
+
+    /// Why the event may not come next, if it may not: the first check that applies.
+    pub fn admits(&self, event: &Event) -> Option<Why>
+        ensures { result ≡ refusal self.now.events event.now.by event.now.body }
+    {
+        self.situation.refusal(event)
+    }
+
+    /// Adds an event that may come next. Where memory is refused, the track is as it was.
+    pub fn add(&mut self, event: Event) -> Result<(), Memory>
+        requires { refusal self.old.events event.by event.body ≡ None }
+        ensures ok { OnOk result (self.new ≡ record self.old { events = self.old.events ++ event ∷ [] }) }
+        ensures err { OnErr result (self.new ≡ self.old) }
+    {
+        let situation = self.situation.after(&event);
+        self.events.push_back(event)?;
+        self.situation = situation;
+        Ok(())
+    }
+
+    /// Adds a prepared event that may come next. It takes no memory.
+    pub fn put(&mut self, event: Prepared)
+        requires admitted { refusal self.old.events event.by event.body ≡ None }
+        requires room { length self.old.events + 1 < 2 ^ 63 }
+        ensures { self.new ≡ record self.old { events = self.old.events ++ event ∷ [] } }
+    {
+        let situation = self.situation.after(event.event());
+        let mut node = event.into_list();
+        let _ = self.events.append(&mut node);
+        self.situation = situation;
+    }
+
+    pub fn wagon(&self) -> WagonNumber
+        ensures { result ≡ self.now.wagon }
+    {
+        self.wagon
+    }
+
+    /// The events, oldest first.
+    pub fn events(&self) -> &LinkedList<Event>
+        ensures value { result.now ≡ self.now.events }
+        ensures have_room { legs_of.HaveRoom 0 result.now }
+    {
+        &self.events
+    }
+
+    /// The plan that the journey begins with.
+    pub fn plan(&self) -> &Plan
+        ensures { of.plan self.now.events ≡ Some result.now }
+    {
+        match self.events.front() {
+            Some(event) => match &event.body {
+                EventBody::Planned(plan) => plan,
+                _ => unreachable!(),
+            },
+            None => unreachable!(),
+        }
+    }
+
+    /// How far the journey has come.
+    pub fn stage(&self) -> Stage
+        ensures { of.stage self.now.events ≡ Some result }
+    {
+        match self.situation.stage {
+            Some(stage) => stage,
+            None => unreachable!(),
+        }
+    }
+
+    /// How many legs are behind the wagon: 0 to 7.
+    pub fn leg_index(&self) -> usize
+        ensures value { result ≡ of.leg_index self.now.events }
+        ensures on_a_leg { result < length (legs_of.legs self.now.events) }
+        ensures few { result < 8 }
+    {
+        self.situation.leg_index
+    }
+
+    /// The legs in their order, with their minutes as they are now: 1 to 8.
+    pub fn legs(&self) -> &[Leg]
+        ensures value { result.now ≡ legs_of.legs self.now.events }
+        ensures some { 0 < length result.now }
+        ensures few { length result.now ≤ 8 }
+    {
+        self.situation.legs.as_slice()
+    }
+
+    /// The leg at this place, from 0 on.
+    pub fn leg(&self, i: usize) -> Option<Leg>
+        ensures { result ≡ legs_of.leg self.now.events i }
+    {
+        self.situation.legs.leg(i)
+    }
+
+    /// The railway that answers for the wagon, while it is on its way (4.2.7).
+    pub fn responsible(&self) -> Option<Railway>
+        ensures { result ≡ of.responsible self.now.events }
+    {
+        self.situation.responsible()
+    }
+
+    /// Where the wagon is, if it is at a place.
+    pub fn place(&self) -> Option<Place>
+        ensures { result ≡ legs_of.place self.now.events }
+    {
+        self.situation.place()
+    }
+
+    /// What the events come to.
+    pub fn situation(&self) -> &Situation
+        ensures { result.now ≡ situation self.now.events }
+    {
+        &self.situation
+    }
+
+    /// What the events and this one, which may come next, come to.
+    pub fn situation_after(&self, event: &Event) -> Situation
+        requires { refusal self.now.events event.now.by event.now.body ≡ None }
+        ensures value { result ≡ situation (self.now.events ++ event.now ∷ []) }
+        ensures on_a_leg { result.leg_index < length result.legs }
+    {
+        self.situation.after(event)
+    }
+}

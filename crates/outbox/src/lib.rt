@@ -1,0 +1,28 @@
+//! The items that wait for their railways.
+//!
+//! Each railway has a box. The items that are pushed into it are numbered from 1 and stay until the railway acknowledges
+//! them: a fetch shows the first ones and changes nothing, and an acknowledgement of a number drops all items up to it.
+//! So a box holds only what was not acknowledged, and each item is dropped once. A number past the last item is ahead
+//! ([`AckAhead`]) and changes nothing.
+//!
+//! In contracts [`Outboxes`] is the list of its boxes, and `kept_for` gives what is kept for a railway: the acknowledged
+//! number and the bodies of the items after it (`specs/Kept.antt`). [`boxes_keep_the_lists`] says that this is all that one
+//! needs of the whole list of what a railway was ever told (`specs/Keeping.antt`).
+//!
+//! What must not fail is done in two steps: [`Outboxes::open`] and [`Prepared::new`] first, which may be refused memory, and
+//! [`Outboxes::put`], which may not.
+#![tactic(auto)]
+
+mod boxes;
+mod fault;
+mod laws;
+mod outbox;
+mod outboxes;
+mod prepared;
+#[cfg(test)]
+mod tests;
+
+pub use fault::AckAhead;
+pub use laws::boxes_keep_the_lists;
+pub use outboxes::Outboxes;
+pub use prepared::Prepared;

@@ -1,0 +1,134 @@
+ghost use Rattle.std.specs.Prelude.{◌≡◌, ◌+◌, ◌<◌, ◌≤◌, ◌^◌, ◌↔◌, [], ◌∷◌, true, max, if◌then◌else◌, bytes_eq, IfOk, IfErr, OnOk, OnErr, IsOk};
+ghost use Rattle.taf_codes.specs.declared.code.Railway.{Railway};
+ghost use Rattle.outbox.specs.Kept.{kept_for, has_box, last_of, pushed, acknowledged_to, first_items};
+
+use crate::boxes::{self, Boxes};
+use crate::fault::AckAhead;
+use crate::outbox::Outbox;
+use crate::prepared::Prepared;
+use indexmap::IndexMap;
+use std::alloc::Global;
+use std::marker::Model;
+use taf_codes::{Memory, Railway};
+use taf_messages::{FetchLimit, ItemBody, ItemList};
+
+/// The boxes of all railways.
+#[derive(Drop)]
+pub struct Outboxes {
+    boxes: Boxes,
+}
+
+impl Model for Outboxes {
+    ghost use Rattle.std.specs.Prelude.{List};
+    ghost use Rattle.taf_codes.specs.declared.code.Railway.{Railway};
+    ghost use Rattle.outbox.specs.Kept.{Kept};
+
+    ghost Value = { List (Railway × Kept) };
+
+    ghost view = { λ o. o.boxes.entries };
+}
+
+impl Outboxes {
+    /// No box. Takes no memory.
+    pub fn new(alloc: Global) -> Outboxes
+        ensures { result ≡ [] }
+    {
+        Outboxes {
+            boxes: IndexMap::new(alloc),
+        }
+    }
+
+    /// The number of a railway's last item, 0 if it was told nothing.
+    pub fn last(&self, railway: Railway) -> u64
+        ensures value { result ≡ last_of (kept_for self.now railway) }
+        ensures few { result ≤ 2 ^ 63 }
+    {
+        match self.boxes.get(&railway) {
+            Some(outbox) => outbox.last(),
+            None => 0,
+        }
+    }
+
+    /// The number that a railway acknowledged last, 0 if there is none.
+    pub fn acknowledged(&self, railway: Railway) -> u64
+        ensures { result ≡ (kept_for self.now railway).acknowledged }
+    {
+        match self.boxes.get(&railway) {
+            Some(outbox) => outbox.acknowledged(),
+            None => 0,
+        }
+    }
+
+    /// The first items after the acknowledged one, at most so many.
+    pub fn fetch(&self, railway: Railway, limit: FetchLimit) -> Result<ItemList, Memory>
+        ensures { IfOk result (λ items. items ≡ first_items (kept_for self.now railway) limit) }
+    {
+        let alloc = *self.boxes.allocator();
+        match self.boxes.get(&railway) {
+            Some(outbox) => outbox.first(alloc, limit.get()),
+            None => Ok(ItemList::from_vec(Vec::new(alloc))),
+        }
+    }
+
+    /// Whether a railway has a box.
+    pub fn is_open(&self, railway: Railway) -> bool
+        ensures { result ≡ has_box self.now railway }
+    {
+        self.boxes.get(&railway).is_some()
+    }
+
+    /// Makes a box for a railway that has none. No item changes.
+    pub fn open(&mut self, railway: Railway) -> Result<(), Memory>
+        ensures kept { (also : Railway) → kept_for self.new also ≡ kept_for self.old also }
+        ensures stay_open { (also : Railway) → has_box self.old also ≡ true → has_box self.new also ≡ true }
+        ensures ok { OnOk result (has_box self.new railway ≡ true) }
+        ensures succeeds { has_box self.old railway ≡ true → IsOk result }
+        ensures err { OnErr result (self.new ≡ self.old) }
+    {
+        if self.is_open(railway) {
+            return Ok(());
+        }
+        let outbox = Outbox::new(*self.boxes.allocator());
+        boxes::add(&mut self.boxes, railway, outbox)
+    }
+
+    /// Adds a prepared item for a railway that has a box, and gives its number. Takes no memory.
+    pub fn put(&mut self, railway: Railway, item: Prepared) -> u64
+        requires open { has_box self.old railway ≡ true }
+        requires few { last_of (kept_for self.old railway) + 1 < 2 ^ 63 }
+        ensures number { result ≡ last_of (kept_for self.old railway) + 1 }
+        ensures kept { (also : Railway) → kept_for self.new also ≡ (if bytes_eq railway also then pushed (kept_for self.old also) item else kept_for self.old also) }
+        ensures stay_open { (also : Railway) → has_box self.new also ≡ has_box self.old also }
+    {
+        boxes::put(&mut self.boxes, railway, item)
+    }
+
+    /// Adds an item for a railway, and gives its number: 1 for the first one.
+    pub fn push(&mut self, railway: Railway, body: ItemBody) -> Result<u64, Memory>
+        requires { last_of (kept_for self.old railway) + 1 < 2 ^ 63 }
+        ensures number { IfOk result (λ number. number ≡ last_of (kept_for self.old railway) + 1) }
+        ensures kept { OnOk result ((also : Railway) → kept_for self.new also ≡ (if bytes_eq railway also then pushed (kept_for self.old also) (body ∷ []) else kept_for self.old also)) }
+        ensures err { OnErr result (self.new ≡ self.old) }
+    {
+        let item = Prepared::new(*self.boxes.allocator(), body)?;
+        self.open(railway)?;
+        Ok(self.put(railway, item))
+    }
+
+    /// Drops a railway's items up to this number, and gives the acknowledged number that now stands: a lower number changes
+    /// nothing. Takes no memory.
+    pub fn ack(&mut self, railway: Railway, number: u64) -> Result<u64, AckAhead>
+        ensures when { IsOk result ↔ (number ≤ last_of (kept_for self.old railway)) }
+        ensures stands { IfOk result (λ stands. stands ≡ max (kept_for self.old railway).acknowledged number) }
+        ensures kept { OnOk result ((also : Railway) → kept_for self.new also ≡ (if bytes_eq railway also then acknowledged_to (kept_for self.old also) number else kept_for self.old also)) }
+        ensures stay_open { (also : Railway) → has_box self.new also ≡ has_box self.old also }
+        ensures ahead { IfErr result (λ ahead. ahead.last ≡ last_of (kept_for self.old railway)) }
+        ensures err { OnErr result (self.new ≡ self.old) }
+    {
+        let last = self.last(railway);
+        if number > last {
+            return Err(AckAhead { last });
+        }
+        Ok(boxes::acknowledge(&mut self.boxes, railway, number))
+    }
+}

@@ -1,0 +1,175 @@
+ghost use Rattle.std.specs.Prelude.{◌≡◌, ◌<◌, ◌≤◌, ◌+◌, length, bytes_eq, Some, IfOk};
+ghost use Rattle.std.specs.List.{list_any};
+ghost use Rattle.journey.specs.Checks.{is_lead};
+ghost use Rattle.journey.specs.Legs.{HasRoom, HaveRoom};
+ghost use Rattle.journey.specs.Situations.{situation};
+ghost use Rattle.eti_chain.specs.Chains.{chain};
+ghost use Rattle.eti_chain.specs.Estimates as of;
+ghost use Rattle.wimo.specs.Records as records;
+
+use eti_chain::Estimates;
+use journey::{Event, EventBody, Track};
+use std::alloc::{AllocError, Global};
+use std::collections::LinkedList;
+use taf_codes::{Memory, Railway};
+use taf_messages::{
+    EstimateAt, EstimateList, Happened, LegIndex, Listed, Record, RecordEvent, RecordEvents, Stage,
+    Status, Units,
+};
+use trip_plan::{Leg, Load, UnitLoad};
+use wagon_number::WagonNumber;
+
+/// What is shown of a wagon: its record, from its track and the track's estimates.
+pub fn record_of(alloc: Global, track: &Track, estimates: &Estimates) -> Result<Record, Memory>
+    requires { estimates.now ≡ chain track.now.events }
+    ensures { IfOk result (λ r. records.record_of track.now.wagon track.now.events ≡ Some r) }
+{
+    let plan = track.plan();
+    let stage = track.stage();
+    Ok(Record {
+        wagon: track.wagon(),
+        lead: plan.lead(),
+        consignment: plan.consignment(),
+        load: plan.load(),
+        commit: plan.commit(),
+        stage,
+        status: status(stage, plan.load()),
+        leg: leg_number(track.leg_index()),
+        place: track.place(),
+        responsible: track.responsible(),
+        estimates: estimates_of(alloc, track, estimates)?,
+        eta: estimates.eta(),
+        late: estimates.late(),
+        events: events_of(alloc, track.events())?,
+        units: units_on(alloc, plan.units(), track.wagon())?,
+    })
+}
+
+/// Whether the railway may see the wagon's record: the lead and the railways of the legs may.
+pub fn may_see(track: &Track, by: Railway) -> bool
+    ensures { result ≡ records.may_see track.now.events by }
+{
+    is_lead(track, by) || runs_a_leg(track.legs(), by)
+}
+
+fn is_lead(track: &Track, by: Railway) -> bool
+    ensures { result ≡ is_lead (situation track.now.events) by }
+{
+    track.situation().lead == Some(by)
+}
+
+fn runs_a_leg(legs: &[Leg], by: Railway) -> bool
+    ensures { result ≡ list_any (λ l. bytes_eq l.ru by) legs.now }
+{
+    legs.iter().any(|leg| leg.ru == by)
+}
+
+fn status(stage: Stage, load: Load) -> Status
+    ensures { result ≡ records.status stage load }
+{
+    match stage {
+        Stage::Planned | Stage::Released => by_load(load, Status::Loading, Status::FleetControl),
+        Stage::Delivered => by_load(load, Status::Unloading, Status::FleetControl),
+        _ => by_load(load, Status::LoadedOnJourney, Status::EmptyOnJourney),
+    }
+}
+
+fn by_load(load: Load, loaded: Status, empty: Status) -> Status
+    ensures { result ≡ records.by_load load loaded empty }
+{
+    match load {
+        Load::Loaded => loaded,
+        Load::Empty => empty,
+    }
+}
+
+fn leg_number(leg: usize) -> LegIndex
+    requires { leg < 8 }
+    ensures { result ≡ leg }
+{
+    match LegIndex::new(leg as u64) {
+        Some(leg) => leg,
+        None => unreachable!(),
+    }
+}
+
+// All estimates, by their legs.
+fn estimates_of(
+    alloc: Global,
+    track: &Track,
+    estimates: &Estimates,
+) -> Result<EstimateList, AllocError>
+    requires { estimates.now ≡ chain track.now.events }
+    ensures { IfOk result (λ l. l ≡ of.estimates track.now.events) }
+{
+    let mut shown = Vec::new(alloc);
+    for leg in 0..track.legs().len() {
+        if let Some(at) = estimates.estimate(leg) {
+            let leg = leg_number(leg);
+            shown.push(EstimateAt { leg, at })?;
+        }
+    }
+    Ok(Listed::from_vec(shown))
+}
+
+// The events as they are shown.
+fn events_of(alloc: Global, events: &LinkedList<Event>) -> Result<RecordEvents, AllocError>
+    requires { HaveRoom 0 events.now }
+    ensures { IfOk result (λ l. l ≡ records.record_events 0 events.now) }
+{
+    let mut shown = Vec::new(alloc);
+    let mut current: usize = 0;
+    for event in events.iter() {
+        let what = shown_as(current, &event.body);
+        shown.reserve(1)?;
+        shown.push_reserved(RecordEvent {
+            by: event.by,
+            no: event.no,
+            at: event.at,
+            what,
+        });
+        if let EventBody::Answered { received: true, .. } = event.body {
+            current += 1;
+        }
+    }
+    Ok(Listed::from_vec(shown))
+}
+
+fn shown_as(current: usize, body: &EventBody) -> Happened
+    requires { HasRoom current body.now }
+    ensures { result ≡ records.shown current body.now }
+{
+    match body {
+        EventBody::Planned(_) => Happened::Planned,
+        EventBody::Moved(what) => Happened::Moved(*what),
+        EventBody::EstimateAsked => Happened::EstimateAsked,
+        EventBody::LegTimed { leg, minutes } => Happened::LegTimed {
+            leg: *leg,
+            minutes: *minutes,
+        },
+        EventBody::Offered { place, to: _ } => Happened::Offered { place: *place },
+        EventBody::Answered { place: _, received } => Happened::Answered {
+            received: *received,
+        },
+        EventBody::Withdrawn { place: _ } => Happened::Withdrawn,
+        EventBody::Rerouted(route) => {
+            let _legs = route.legs();
+            Happened::Rerouted {
+                leg: leg_number(current + 1),
+            }
+        }
+    }
+}
+
+// The units that are loaded on the wagon, in the plan's order.
+fn units_on(alloc: Global, loads: &[UnitLoad], wagon: WagonNumber) -> Result<Units, AllocError>
+    ensures { IfOk result (λ l. l ≡ records.units_among loads.now wagon) }
+{
+    let mut units = Vec::new(alloc);
+    for loaded in loads {
+        if loaded.wagon == wagon {
+            units.push(loaded.unit)?;
+        }
+    }
+    Ok(Listed::from_vec(units))
+}
