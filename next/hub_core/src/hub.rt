@@ -1,0 +1,111 @@
+ghost use Rattle.std.specs.Prelude.{◌≡◌, ◌↔◌, ◌<◌, ◌≤◌, [], ◌∷◌, ◌++◌, List, length, slice_get, option_copied, IfOk, IfErr, OnErr, IsTrue, Err};
+
+ghost use Rattle.hub_model.specs.Answers.{answer, standing_of, view};
+ghost use Rattle.hub_core.specs.Apart.{are_apart};
+ghost use Rattle.hub_core.specs.Faults.{IsFault};
+
+use crate::books::Books;
+use crate::fault::HubFault;
+use crate::take::take;
+use crate::view::View;
+use hub_answers::{apart, view};
+use hub_model::Entry;
+use std::alloc::Global;
+use std::marker::Model;
+use taf_codes::Memory;
+use taf_messages::{Call, Reply};
+
+/// The most calls that a hub takes.
+pub const MOST_CALLS: usize = 1_000_000;
+
+/// The hub, seen as its history: the entries in the order in which it took their calls.
+#[derive(Drop)]
+pub struct Hub {
+    books: Books,
+    alloc: Global,
+}
+
+impl Model for Hub {
+    ghost use Rattle.std.specs.Prelude.{List};
+    ghost use Rattle.hub_model.specs.declared.entry.Entry.{Entry};
+    ghost use Rattle.hub_core.specs.Books.{IsKept};
+
+    ghost Value = { List Entry };
+
+    ghost view = { λ h. h.books.history.entries };
+
+    ghost invariant = { λ h. IsKept h.books };
+}
+
+impl Hub {
+    /// A hub that has taken no call. Takes no memory.
+    pub fn new(alloc: Global) -> Hub
+        ensures { result ≡ [] }
+    {
+        Hub {
+            books: Books::new(alloc),
+            alloc,
+        }
+    }
+
+    /// How many calls the hub has taken: at most 1,000,000.
+    pub fn len(&self) -> usize
+        ensures value { result ≡ length self.now }
+        ensures few { result ≤ 1000000 }
+    {
+        self.books.history.len()
+    }
+
+    /// Whether the hub has taken no call.
+    pub fn is_empty(&self) -> bool
+        ensures { IsTrue result ↔ (self.now ≡ []) }
+    {
+        self.books.history.len() == 0
+    }
+
+    /// The entry at this position, from 0.
+    pub fn entry(&self, i: usize) -> Option<&Entry>
+        ensures { option_copied result ≡ slice_get self.now i }
+    {
+        self.books.history.get(i)
+    }
+
+    /// Takes a call, and gives its position in the history and its reply.
+    pub fn apply(&mut self, call: Call) -> Result<(u64, Reply), HubFault>
+        ensures answered { IfOk result (λ r. (r.0 ≡ length self.old) × (r.1 ≡ answer self.old call)) }
+        ensures grows { IfOk result (λ r. self.new ≡ self.old ++ record { call = call; reply = r.1 } ∷ []) }
+        ensures room { IfOk result (λ r. r.0 < 1000000) }
+        ensures fault { IfErr result (λ f. IsFault f call (length self.old)) }
+        ensures full { length self.old ≡ 1000000 → result ≡ Err (HubFault.Full call) }
+        ensures unchanged { OnErr result (self.new ≡ self.old) }
+    {
+        let position = self.books.history.len();
+        if position >= MOST_CALLS {
+            return Err(HubFault::Full(call));
+        }
+        match take(self.alloc, &mut self.books, call) {
+            Ok(reply) => Ok((position as u64, reply)),
+            Err(_) => Err(HubFault::Memory),
+        }
+    }
+
+    /// The records of all planned wagons, by the first accepted plan that named each, then by its
+    /// place in that plan.
+    pub fn view(&self) -> Result<View, Memory>
+        ensures { IfOk result (λ v. v ≡ view (standing_of self.now)) }
+    {
+        let records = view(self.alloc, &self.books.tables)?;
+        Ok(View::from_vec(records))
+    }
+
+    /// Whether both calls are sends whose messages may come in either order: they share no wagon,
+    /// unit, consignment, offer or name. It takes no memory.
+    pub fn apart(&self, call: &Call, other: &Call) -> bool
+        ensures { result ≡ are_apart (standing_of self.now) call.now other.now }
+    {
+        match (call, other) {
+            (Call::Send(message), Call::Send(also)) => apart(&self.books.tables, message, also),
+            _ => false,
+        }
+    }
+}

@@ -1,0 +1,7 @@
+pub mod SoFar
+pub mod Planned
+pub mod Accepted
+pub mod Alerted
+pub mod Noticed
+pub mod Told
+pub mod FirstPlan
