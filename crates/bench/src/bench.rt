@@ -11,16 +11,18 @@ pub enum Bench {
     Record,
     Items,
     Journey,
+    Hub,
     Report,
 }
 
-pub const ALL: [Bench; 7] = [
+pub const ALL: [Bench; 8] = [
     Bench::Parse,
     Bench::Read,
     Bench::Replies,
     Bench::Record,
     Bench::Items,
     Bench::Journey,
+    Bench::Hub,
     Bench::Report,
 ];
 
@@ -35,6 +37,7 @@ impl Bench {
             Bench::Record => "record",
             Bench::Items => "items",
             Bench::Journey => "journey",
+            Bench::Hub => "hub",
             Bench::Report => "report",
         }
     }
@@ -56,6 +59,7 @@ impl Bench {
             Bench::Record => "replies with a record of sixty events",
             Bench::Items => "replies of fifty items",
             Bench::Journey => "events on tracks of several lengths",
+            Bench::Hub => "calls of whole trips, to hubs of several lengths",
             Bench::Report => "lines of the report, by one thread and by all",
         }
     }
@@ -67,6 +71,7 @@ impl Bench {
             Bench::Replies => 1_000_000,
             Bench::Record | Bench::Items => 10_000,
             Bench::Journey | Bench::Report => 100_000,
+            Bench::Hub => 900_000,
         }
     }
 }

@@ -11,6 +11,7 @@
 //! | `record` | a reply that shows a record of sixty events | 10,000 |
 //! | `items` | a reply of fifty items | 10,000 |
 //! | `journey` | one exception more on a track of up to 10, 100, 1,000 and 10,000 exceptions, with its checks and estimates | 100,000 |
+//! | `hub` | a call of a trip, given to hubs that take an eighteenth of the calls, a quarter, and all | 900,000 |
 //! | `report` | a line of the report, made by one thread (`report plain`) and by all (`report`) | 100,000 |
 //!
 //! What is made is made before the clock starts. Promised: which name is which benchmark ([`Bench::named`]), and what
@@ -26,6 +27,7 @@ mod report;
 mod samples;
 #[cfg(test)]
 mod tests;
+mod trips;
 mod words;
 
 use anyhow::Result;

@@ -1,6 +1,6 @@
 use crate::bench::{ALL, Bench};
 use crate::words::Asked;
-use crate::{codec, journeys, report};
+use crate::{codec, journeys, report, trips};
 use anyhow::Result;
 use std::alloc::Global;
 use std::io::Write;
@@ -42,6 +42,7 @@ fn measure<W: Write>(
         Bench::Record => codec::shown(rt, alloc, count)?,
         Bench::Items => codec::items(rt, alloc, count)?,
         Bench::Journey => return measure_journeys(rt, alloc, output, count),
+        Bench::Hub => return measure_hubs(rt, alloc, output, count),
         Bench::Report => return measure_report(rt, alloc, output, count),
     };
     output.write_fmt(format_args!("{}: {measured}\n", bench.name()))?;
@@ -57,6 +58,20 @@ fn measure_journeys<W: Write>(
     for length in [10u32, 100, 1_000, 10_000] {
         let measured = journeys::events(clock, alloc, length, count)?;
         output.write_fmt(format_args!("journey of {length}: {measured}\n"))?;
+    }
+    Ok(())
+}
+
+// Hubs that take an eighteenth of the calls, a quarter and all: of 50,000, 225,000 and 900,000 calls where no count is given.
+fn measure_hubs<W: Write>(
+    clock: &impl Clock,
+    alloc: Global,
+    output: &mut W,
+    count: u64,
+) -> Result<()> {
+    for length in [count / 18, count / 4, count] {
+        let measured = trips::taken(clock, alloc, length)?;
+        output.write_fmt(format_args!("hub of {length}: {measured}\n"))?;
     }
     Ok(())
 }

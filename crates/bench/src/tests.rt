@@ -13,6 +13,7 @@ fn each_benchmark_runs(rt: HostRuntime) -> Result<(), Fail> {
         ("record", 1),
         ("items", 1),
         ("journey", 4),
+        ("hub", 3),
         ("report", 2),
     ];
     for (name, lines) in cases {

@@ -1,1 +1,4 @@
 pub mod Faults
+pub mod Books
+pub mod Parcels
+pub mod Apart

@@ -1,18 +1,38 @@
 //! The hub: the calls that it has taken with their replies, and what it replies to a call.
 //!
-//! The hub keeps a list of entries and finds what it needs by walking it. It serves plans,
-//! releases, departures and asks; any other call is refused.
+//! [`Hub::apply`] takes a call and gives its position in the history and its reply, which is the one that `hub_model`
+//! defines after all calls before it. The history grows by exactly that call and reply. A call that meets a full history
+//! is handed back, and where memory is refused all stays as it was.
 //!
-//! [`View`] is what a report of the operational database (4.2.11) is made from: the wagons' records.
+//! Contracts see a [`Hub`] as its history, the list of its entries. Behind it stand the hub's *books*: the history in
+//! pages, the tables of wagons, plans and offers, the first sends by their names, and the outboxes. The books are *kept*:
+//! the history is legal, and each of them answers as the model does after it (`specs/Books.antt`). No function looks
+//! through the history, so a call takes no longer when it is long.
+//!
+//! A message is taken in two steps. First comes all that may be refused memory: the items, their places in the outboxes,
+//! room in the history and among the names, and the tables' own step, which is all or nothing. Then come steps that
+//! cannot fail. So there is no half-taken message.
+//!
+//! | part | what it does |
+//! |---|---|
+//! | `ask` | the replies to questions, and to a fetch of items |
+//! | `ack` | acknowledgements |
+//! | `send` | messages: sent before, refused, accepted |
+//! | `parcels` | items on their way into the outboxes |
+//! | `take` | each call to its part |
 #![tactic(auto)]
 
-mod entry;
+mod ack;
+mod ask;
+mod books;
+mod fault;
 mod hub;
-mod journey;
-#[cfg(test)]
-mod tests;
+mod parcels;
+mod send;
+mod take;
 mod view;
 
-pub use entry::{Entry, HubFault};
+pub use fault::HubFault;
 pub use hub::Hub;
+pub use hub_model::Entry;
 pub use view::View;

@@ -1,10 +1,7 @@
-ghost use Rattle.std.specs.Prelude.{◌≡◌};
-
 use std::marker::Model;
 use taf_messages::Record;
 
-/// What the hub shows of its wagons, seen as their records, in order: the operational database of
-/// 4.2.11 at one moment.
+/// The records of wagons, in order.
 #[derive(Drop)]
 pub struct View {
     records: Vec<Record>,
@@ -19,15 +16,17 @@ impl Model for View {
     ghost view = { λ v. v.records.items };
 }
 
+ghost use Rattle.std.specs.Prelude.{◌≡◌};
+
 impl View {
-    /// The view of these records, in their order.
+    /// The view of these records.
     pub fn from_vec(records: Vec<Record>) -> View
         ensures { result ≡ records.items }
     {
         View { records }
     }
 
-    /// The records, in their order.
+    /// The records.
     pub fn records(&self) -> &[Record]
         ensures { result.now ≡ self.now }
     {

@@ -1,116 +1,136 @@
-ghost use Rattle.std.specs.Prelude.{◌≡◌, ◌+◌, ◌≤◌, ◌<◌, ◌^◌, length, IfOk};
-ghost use Rattle.hub_replay.specs.Tally.{IsTallied};
+//! A run over all the bytes of a reader.
+ghost use Rattle.std.specs.Prelude.{◌≡◌, ℕ, ◌+◌, ◌*◌, ◌-◌, ◌<◌, ◌≤◌, ◌^◌, ◌++◌, [], List, length, take, slice_range, OnOk, OnErr, IfOk, IfErr};
+ghost use Rattle.std.specs.List.{count_by};
+ghost use Rattle.std.specs.Io.KnownBytes.{Appends, Consumes, IsAtEnd};
+ghost use Rattle.hub_replay.specs.Lines.{heard_in};
+ghost use Rattle.hub_replay.specs.Outcomes.{Answers, IsStopped, is_told, start_of};
+ghost use Rattle.hub_replay.specs.Running.{ComesOf};
 
 use crate::counts::Counts;
+use crate::desk::Desk;
 use crate::fault::RunFault;
-use crate::line::answer_line;
+use crate::pieces::{finish, take_piece};
+use crate::turn::flush;
 use hub_core::Hub;
 use std::alloc::Global;
-use taf_codes::{Memory, Sink, Source};
+use taf_codes::{Sink, Source};
 
-// How many bytes are read at most.
-const MOST_BYTES: u64 = 1 << 40;
-
-// How many bytes are read at once.
+// How many bytes are asked for at once.
 const PIECE: usize = 65_536;
 
-/// Gives the calls of the reader's lines to the hub, and writes a line for each that is not blank.
+// The longest beginning of a line that is kept, and a piece.
+const ROOM: usize = 131_072;
+
+/// How many bytes of a reader are read at most.
+pub const MOST_BYTES: u64 = 1 << 40;
+
+/// Gives the calls of the reader's lines to the hub, and writes a line for each line that is not blank.
 ///
-/// The lines are answered once the reader has ended. A line of more than 65,536 bytes is answered
-/// `line_too_long`; a last line without newline counts if it has a byte. At most 2^40 bytes are read.
+/// A line ends with a newline; a last one without newline counts if it has a byte. It is answered by the hub's reply
+/// to its call, by `line_too_long` if it has more than 65,536 bytes, else by its fault if it is no call, or by
+/// `hub_full` where the history has 1,000,000 entries. No call enters the history by a fault line.
+///
+/// Each reply is pushed before the next call is given to the hub. The writer is flushed before each pull and at the
+/// end; a flush that fails is [`RunFault::Write`]. The reader is read for at most 2^40 bytes, and where they have no
+/// end, [`RunFault::NoEnd`] is the answer. After a fault the hub has the entries of the calls so far, and of these
+/// only the last may lack its whole line.
 pub fn run<R: Source, W: Sink>(
     alloc: Global,
     reader: &mut R,
     writer: &mut W,
     hub: &mut Hub,
 ) -> Result<Counts, RunFault>
-    ensures answered { IfOk result IsTallied }
+    // All bytes were read, and just the answers to their lines were written.
+    ensures ok { IfOk result (λ counts. (read written : List ℕ)
+        × Consumes (R.remaining reader.old) (R.remaining reader.new) read × IsAtEnd (R.remaining reader.new)
+        × Appends (W.contents writer.old) (W.contents writer.new) written
+        × Answers hub.old read hub.new written counts) }
+    // Lines that aren't blank were counted, each as a call that is in the history now or as a fault.
+    ensures lines { IfOk result (λ counts. (read : List ℕ) × Consumes (R.remaining reader.old) (R.remaining reader.new) read
+        × (counts.lines ≡ count_by is_told (heard_in read))) }
     ensures calls { IfOk result (λ counts. length hub.new ≡ length hub.old + counts.calls) }
-{
-    let input = read_all(alloc, reader)?;
-    let mut out = Vec::new(alloc);
-    let counts = match answer_lines(alloc, hub, &mut out, &input) {
-        Ok(counts) => counts,
-        Err(Memory) => return Err(RunFault::Memory),
-    };
-    match write_all(writer, &out) {
-        Ok(()) => Ok(counts),
-        Err(fault) => Err(fault),
-    }
-}
+    ensures faults { IfOk result (λ counts. counts.lines ≡ counts.calls + counts.faults) }
 
-// Answers each line of the input.
-fn answer_lines(
-    alloc: Global,
-    hub: &mut Hub,
-    out: &mut Vec<u8>,
-    input: &[u8],
-) -> Result<Counts, Memory>
-    requires { length input.now < 2 ^ 61 }
-    ensures answered { IfOk result IsTallied }
-    ensures calls { IfOk result (λ counts. length hub.new ≡ length hub.old + counts.calls) }
-{
-    let mut counts = Counts {
-        lines: 0,
-        calls: 0,
-        faults: 0,
-    };
-    let mut rest = input;
-    while !rest.is_empty() {
-        let (line, more) = first_line(rest);
-        counts = answer_line(alloc, hub, out, counts, line)?;
-        rest = more;
-    }
-    Ok(counts)
-}
+    // No read, write or flush failed.
+    ensures kept { OnOk result ((R.failures reader.new ≡ R.failures reader.old) × (W.failures writer.new ≡ W.failures writer.old)) }
 
-// The first line, without its newline, and what follows it.
-fn first_line(bytes: &[u8]) -> (&[u8], &[u8])
-    requires { 0 < length bytes.now }
-    ensures { length result.1.now < length bytes.now }
+    // Some bytes were read, and the answers to their lines were written up to some place.
+    ensures err { IfErr result (λ fault. (read written : List ℕ)
+        × Consumes (R.remaining reader.old) (R.remaining reader.new) read
+        × Appends (W.contents writer.old) (W.contents writer.new) written
+        × IsStopped (start_of hub.old) (heard_in read) written hub.new
+        × ComesOf fault (R.failures reader.old) (R.failures reader.new) (W.failures writer.old) (W.failures writer.new) (length read)) }
 {
-    match bytes.iter().position(|byte| *byte == b'\n') {
-        Some(end) => (&bytes[..end], &bytes[end + 1..]),
-        None => (bytes, &bytes[bytes.len()..]),
-    }
-}
-
-// All bytes of the reader.
-fn read_all<R: Source>(alloc: Global, reader: &mut R) -> Result<Vec<u8>, RunFault>
-    ensures { IfOk result (λ input. length input.items ≤ 2 ^ 41) }
-{
-    let mut input = Vec::new(alloc);
-    let Ok(mut room) = vec![in alloc; 0u8; PIECE] else {
+    let mut desk = Desk::new(alloc);
+    let Ok(mut room) = vec![in alloc; 0u8; ROOM] else {
         return Err(RunFault::Memory);
     };
     let room = room.as_mut_slice();
+    let mut held: usize = 0;
+    let mut skipping = false;
     let mut total: u64 = 0;
-    while total < MOST_BYTES {
-        let Ok(count) = reader.pull(room) else {
-            return Err(RunFault::Read);
+    'pieces: while total < MOST_BYTES {
+        if let Err(fault) = flush(writer, &mut desk) {
+            return Err(fault);
+        }
+        let count = match pull_piece(reader, room, held, MOST_BYTES - total) {
+            Ok(count) => count,
+            Err(fault) => return Err(fault),
         };
         if count == 0 {
-            return Ok(input);
+            let counts = match finish(writer, hub, &mut desk, &room[..held]) {
+                Ok(counts) => counts,
+                Err(fault) => return Err(fault),
+            };
+            return Ok(counts);
         }
-        let Ok(()) = input.extend_from_slice(&room[..count]) else {
-            return Err(RunFault::Memory);
-        };
         total += count as u64;
+        let end = held + count;
+        let rest = match take_piece(writer, hub, &mut desk, &room[..end], held, skipping) {
+            Ok(rest) => rest,
+            Err(fault) => return Err(fault),
+        };
+        move_to_front(room, rest.start, end);
+        held = end - rest.start;
+        skipping = rest.skipping;
     }
     Err(RunFault::NoEnd)
 }
 
-// Writes all of the bytes, and sends them on.
-fn write_all<W: Sink>(writer: &mut W, bytes: &[u8]) -> Result<(), RunFault> {
-    let mut rest = bytes;
-    while !rest.is_empty() {
-        let Ok(count) = writer.push(rest) else {
-            return Err(RunFault::Write);
-        };
-        rest = &rest[count..];
+// Reads some bytes behind the first ones, no more than so many. None is the end.
+fn pull_piece<R: Source>(
+    reader: &mut R,
+    room: &mut [u8],
+    held: usize,
+    most: u64,
+) -> Result<usize, RunFault>
+    requires room { held + 65536 ≤ length room.old }
+    requires some { 0 < most }
+    ensures bounds { IfOk result (λ n. (n ≤ 65536) × (n ≤ most)) }
+    ensures bytes { IfOk result (λ n. Consumes (R.remaining reader.old) (R.remaining reader.new) (slice_range room.new held (held + n))) }
+    ensures end { IfOk result (λ n. n ≡ 0 → IsAtEnd (R.remaining reader.new)) }
+    ensures kept { take held room.new ≡ take held room.old }
+    ensures nothing { OnErr result (Consumes (R.remaining reader.old) (R.remaining reader.new) []) }
+    ensures fault { IfErr result (λ f. (f ≡ RunFault.Read) × (R.failures reader.new ≡ R.failures reader.old + 1)) }
+    ensures same { OnOk result (R.failures reader.new ≡ R.failures reader.old) }
+{
+    let size = if most < PIECE as u64 {
+        most as usize
+    } else {
+        PIECE
+    };
+    match reader.pull(&mut room[held..held + size]) {
+        Ok(count) => Ok(count),
+        Err(_) => Err(RunFault::Read),
     }
-    match writer.flush() {
-        Ok(()) => Ok(()),
-        Err(_failed) => Err(RunFault::Write),
+}
+
+// Moves what is left to the front.
+fn move_to_front(room: &mut [u8], start: usize, end: usize)
+    requires { (start ≤ end) × (end ≤ length room.old) }
+    ensures { take (end - start) room.new ≡ slice_range room.old start end }
+{
+    if start > 0 {
+        room.copy_within(start..end, 0);
     }
 }

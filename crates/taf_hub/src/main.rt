@@ -2,7 +2,7 @@
 //!
 //! | command | does | status |
 //! |---|---|---|
-//! | `taf_hub replay` | answers the lines of standard input on standard output, on a new hub | 0; 3 reading or writing failed, or no end came; 4 memory was refused |
+//! | `taf_hub replay` | answers the lines of standard input on standard output, on a new hub, and prints the report of all wagons | 0; 3 reading or writing failed, or no end came; 4 memory was refused |
 //! | `taf_hub number TEXT` | prints the vehicle number that TEXT shows in the marked form | 0; 1 TEXT shows none |
 //!
 //! `--help` prints clap's help, with status 0. Words that name no command end with status 2 and
@@ -33,6 +33,7 @@ fn main(rt: HostRuntime) -> ExitCode {
     let output = io::writer(&rt);
     let mut errors = rt.stderr();
     ExitCode::from(perform(
+        &rt,
         rt.alloc(),
         words.as_slice(),
         rt.reader(),

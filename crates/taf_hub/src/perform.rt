@@ -5,9 +5,11 @@ use clap::Error;
 use clap::error::ErrorKind;
 use std::alloc::Global;
 use std::io::{Read, Write};
+use std::thread::Threads;
 
 /// Does what the words name, the program's name first, and gives the status.
 pub fn perform<R: Read + Drop, W: Write + Drop, E: Write>(
+    rt: &(impl Threads + Sync),
     alloc: Global,
     words: &[String],
     input: R,
@@ -15,7 +17,7 @@ pub fn perform<R: Read + Drop, W: Write + Drop, E: Write>(
     errors: &mut E,
 ) -> u8 {
     let done = match task_of(alloc, words) {
-        Ok(Task::Replay) => replay::perform(alloc, input, output),
+        Ok(Task::Replay) => replay::perform(rt, alloc, input, output),
         Ok(Task::Number(text)) => number::perform(output, text),
         Err(error) => explain(&error, output, errors),
     };

@@ -3,13 +3,17 @@ use hub_core::Hub;
 use hub_replay::run;
 use std::alloc::Global;
 use std::io::{BufWriter, Read, Write};
+use std::thread::Threads;
 use taf_codes::Std;
+use wimo_report::lines;
 
 // How many bytes of replies are gathered before they are written.
 const GATHERED: usize = 65_536;
 
-/// Answers the lines of the input on the output, on a new hub.
+/// Answers the lines of the input on the output, on a new hub, and then prints the report of all
+/// wagons.
 pub fn perform<R: Read + Drop, W: Write + Drop>(
+    rt: &(impl Threads + Sync),
     alloc: Global,
     input: R,
     output: W,
@@ -21,5 +25,26 @@ pub fn perform<R: Read + Drop, W: Write + Drop>(
     let mut writer = Std::new(gathered);
     let mut hub = Hub::new(alloc);
     run(alloc, &mut reader, &mut writer, &mut hub)?;
+    let Ok(view) = hub.view() else {
+        return Err(Fault::Memory);
+    };
+    let Ok(report) = lines(rt, alloc, &view) else {
+        return Err(Fault::Memory);
+    };
+    let mut printed = writer.into_inner();
+    print(&mut printed, &report)?;
     Ok(0)
+}
+
+// Prints lines, and sends them on.
+fn print<W: Write>(output: &mut W, lines: &[String]) -> Result<(), Fault> {
+    for line in lines {
+        let Ok(()) = output.write_fmt(format_args!("{line}\n")) else {
+            return Err(Fault::Write);
+        };
+    }
+    match output.flush() {
+        Ok(()) => Ok(()),
+        Err(_failed) => Err(Fault::Write),
+    }
 }

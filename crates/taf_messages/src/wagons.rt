@@ -1,5 +1,5 @@
 //! Lists with limits.
-ghost use Rattle.std.specs.Prelude.{◌≡◌, ◌≤◌, [], nat_eq, nat_le, length, Some, None, if◌then◌else◌};
+ghost use Rattle.std.specs.Prelude.{◌≡◌, ◌≤◌, [], true, nat_eq, nat_le, length, Some, None, if◌then◌else◌};
 ghost use Rattle.std.specs.Cmp.Lexicographic.{pointwise, nat_list_eq_equiv};
 ghost use Rattle.std.specs.Cmp.{partial_equiv_from_equiv};
 ghost use Rattle.taf_messages.specs.Limits.{may_be_offered};
@@ -123,6 +123,7 @@ impl OfferedWagons {
     pub fn as_slice(&self) -> &[WagonNumber]
         ensures value { result.now ≡ self.now }
         ensures few { length result.now ≤ 60 }
+        ensures allowed { may_be_offered result.now ≡ true }
     {
         self.wagons.as_slice()
     }

@@ -1,0 +1,84 @@
+//! Answers to a railway that asks for a wagon or an intermodal unit (4.2.11).
+ghost use Rattle.std.specs.Prelude.{◌≡◌, IfOk, is_some, true};
+ghost use Rattle.wimo.specs.Records.{record_of};
+ghost use Rattle.hub_model.specs.Answers as of;
+ghost use Rattle.hub_model.specs.Units.{unit_wagon};
+ghost use Rattle.hub_tables.specs.Tabled.{known};
+
+use crate::units::unit_wagon;
+use hub_tables::{Tables, Wagon};
+use std::alloc::Global;
+use taf_codes::{Memory, Railway, UnitCode};
+use taf_messages::{Reply, Why};
+use wagon_number::WagonNumber;
+
+/// The reply to a railway that asks for a wagon: its record, or why it gets none. A refusal names
+/// the wagon. The only error is that memory was refused.
+pub fn ask(alloc: Global, tables: &Tables, by: Railway, wagon: WagonNumber) -> Result<Reply, Memory>
+    ensures { IfOk result (λ r. r ≡ of.ask_reply (known tables.now) by wagon) }
+{
+    record_reply(alloc, tables, by, wagon, Why::UnknownWagon, Some(wagon))
+}
+
+/// The reply to a railway that asks for an intermodal unit: the record of its wagon, or why it gets
+/// none. A refusal names no wagon. The only error is that memory was refused.
+pub fn ask_unit(
+    alloc: Global,
+    tables: &Tables,
+    by: Railway,
+    unit: UnitCode,
+) -> Result<Reply, Memory>
+    ensures { let s = known tables.now in
+        IfOk result (λ r. r ≡ of.unit_reply s by (unit_wagon s unit)) }
+{
+    match unit_wagon(tables, unit) {
+        Some(wagon) => record_reply(alloc, tables, by, wagon, Why::UnknownUnit, None),
+        None => Ok(refused(Why::UnknownUnit, None)),
+    }
+}
+
+/// The record of the wagon for a railway that may see it. It is refused by `unknown` where there is
+/// no such wagon, and else as not the railway's own. A refusal names the wagon that is `told`.
+fn record_reply(
+    alloc: Global,
+    tables: &Tables,
+    by: Railway,
+    wagon: WagonNumber,
+    unknown: Why,
+    told: Option<WagonNumber>,
+) -> Result<Reply, Memory>
+    ensures { let events = (known tables.now).journey wagon in
+        let unseen = of.refused Why.NotYours told in
+        IfOk result (λ r. r ≡ of.record_reply by events (record_of wagon events) (of.refused unknown told) unseen) }
+{
+    let Some(found) = tables.wagon(wagon) else {
+        return Ok(refused(unknown, told));
+    };
+    if wimo::may_see(found.track(), by) {
+        let shown = wimo::record_of(alloc, found.track(), found.estimates())?;
+        Ok(Reply::One(shown))
+    } else {
+        has_record(found);
+        Ok(refused(Why::NotYours, told))
+    }
+}
+
+/// A wagon of the tables has a record: its journey has a plan and a stage.
+fn has_record(wagon: &Wagon)
+    ensures { is_some (record_of wagon.now.wagon wagon.now.events) ≡ true }
+{
+    let _plan = wagon.track().plan();
+    let _stage = wagon.track().stage();
+}
+
+/// The refusal of a question.
+pub(crate) fn refused(why: Why, wagon: Option<WagonNumber>) -> Reply
+    ensures { result ≡ of.refused why wagon }
+{
+    Reply::Refused {
+        no: None,
+        why,
+        wagon,
+        last: None,
+    }
+}

@@ -1,0 +1,73 @@
+//! The wagons of a plan that are expected late (4.2.6).
+ghost use Rattle.std.specs.Prelude.{◌≡◌, ◌&&◌, IfOk, None, if◌then◌else◌};
+ghost use Rattle.eti_chain.specs.Estimates.{is_late};
+ghost use Rattle.wimo.specs.Records.{record_of};
+ghost use Rattle.hub_model.specs.Answers as of;
+ghost use Rattle.hub_model.specs.Units.{is_on_plan};
+ghost use Rattle.hub_tables.specs.Tabled.{known};
+
+use crate::asking::refused;
+use crate::units::is_on_plan;
+use hub_tables::Tables;
+use std::alloc::Global;
+use taf_codes::{ConsignmentId, Memory, Railway};
+use taf_messages::{Listed, Record, Reply, Why};
+use trip_plan::Plan;
+use wagon_number::WagonNumber;
+
+/// The reply to a railway that asks for the deviations of a consignment. Its lead gets the records,
+/// in the plan's order, of the wagons that are expected after what was promised to the customer and
+/// whose journey begins with the plan; any other railway gets why it gets none. A refusal names no
+/// wagon. The only error is that memory was refused.
+pub fn deviation(
+    alloc: Global,
+    tables: &Tables,
+    by: Railway,
+    consignment: ConsignmentId,
+) -> Result<Reply, Memory>
+    ensures { let s = known tables.now in
+        IfOk result (λ r. r ≡ of.deviation_reply s by (s.plan_of consignment)) }
+{
+    let Some(plan) = tables.plan(consignment) else {
+        return Ok(refused(Why::UnknownConsignment, None));
+    };
+    if plan.lead() == by {
+        let late = deviating(alloc, tables, plan)?;
+        Ok(Reply::Many(Listed::from_vec(late)))
+    } else {
+        Ok(refused(Why::NotYours, None))
+    }
+}
+
+/// The late wagons of the plan that are still on it, in the plan's order.
+fn deviating(alloc: Global, tables: &Tables, plan: &Plan) -> Result<Vec<Record>, Memory>
+    ensures { IfOk result (λ v. v.items ≡ of.deviating (known tables.now) plan.now) }
+{
+    let mut late = Vec::new(alloc);
+    for wagon in plan.wagons() {
+        if let Some(deviation) = deviating_record(alloc, tables, plan, *wagon)? {
+            late.push(deviation)?;
+        }
+    }
+    Ok(late)
+}
+
+/// The record of the wagon, if it is late and still on the plan.
+fn deviating_record(
+    alloc: Global,
+    tables: &Tables,
+    plan: &Plan,
+    wagon: WagonNumber,
+) -> Result<Option<Record>, Memory>
+    ensures { let events = (known tables.now).journey wagon in
+        let deviates = is_late events && is_on_plan events plan.now in
+        IfOk result (λ r. r ≡ (if deviates then record_of wagon events else None)) }
+{
+    match tables.wagon(wagon) {
+        Some(found) if found.estimates().late() && is_on_plan(found, plan) => {
+            let shown = wimo::record_of(alloc, found.track(), found.estimates())?;
+            Ok(Some(shown))
+        }
+        _ => Ok(None),
+    }
+}

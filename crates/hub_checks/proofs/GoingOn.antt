@@ -1,0 +1,38 @@
+-- A message goes on with the journey of a wagon that it names and that admits it.
+use Rattle.std.proofs.Common.{◌≡◌, ℕ, Bool, true, cond, not, List, [], ◌∷◌, ◌++◌, Some, None, refl, ap, ◌∙◌}
+use Rattle.std.specs.Prelude.{◌&&◌}
+use Rattle.trip_plan.specs.Rules.{has}
+use Rattle.taf_messages.specs.declared.message.Message.{Message}
+use Rattle.taf_messages.specs.declared.message.TrainAnswer.{TrainAnswer}
+use Rattle.taf_messages.specs.declared.message.Body.TheVariants as body
+use Rattle.taf_messages.specs.declared.reply.Why.TheVariants.{BeyondCalendar}
+use Rattle.journey.specs.declared.event.Event.{Event}
+use Rattle.eti_chain.specs.Estimates.{fits, is_reckoned}
+use Rattle.hub_model.specs.Standing.{Standing, named, share, said_of, journey_after}
+use Rattle.hub_model.specs.Faults.{whole_fault, known_fault, calendar_fault}
+use Rattle.hub_model.specs.Laws.{OpenIsOffered}
+use Rattle.hub_model.proofs.NoFault.{goes_on, listed, answer_fits}
+use Rattle.hub_model.proofs.Sound.{answered_known}
+
+-- the message comes last
+pub comes_last : (s : Standing) (m : Message) (w : ℕ) → has (named s.offer m) w ≡ true → known_fault s m w ≡ None →
+    journey_after s m w ≡ s.journey w ++ share s.offer m w ∷ []
+comes_last s m w h k = rw h (goes_on (s.journey w) (share s.offer m w) k)
+
+-- a wagon that an answer names is offered, so its journey admits the answer
+pub answer_admitted : (s : Standing) (m : Message) (a : TrainAnswer) (w : ℕ) → m.body ≡ body.Answer a → whole_fault s m.by m.body ≡ None → OpenIsOffered s →
+    has (named s.offer m) w ≡ true → known_fault s m w ≡ None
+answer_admitted s m a w e f o h =
+    let parts = answer_fits s m.by a (rw e at f) in
+    let among : has (named s.offer m) w ≡ true → has (a.received ++ a.refused) w ≡ true = λ n. rw e at n in
+    rw e (answered_known (s.journey w) m.by (said_of s.offer m.by (body.Answer a) w) refl (o w a.offer a.offerer (parts.0, listed _ _ w parts.1 (among h))))
+
+-- the check of the calendar, by the wagon's events and its share of the message
+pub calendar_by : (s : Standing) (m : Message) (w : ℕ) (events : List Event) (e : Event) (beyond : Bool) → has (named s.offer m) w ≡ true → known_fault s m w ≡ None →
+    s.journey w ≡ events → share s.offer m w ≡ e → is_reckoned e.body && not (fits (events ++ e ∷ [])) ≡ beyond → calendar_fault s m w ≡ cond beyond (Some BeyondCalendar) None
+calendar_by s m w events e beyond h k j is b =
+    let after : journey_after s m w ≡ events ++ e ∷ [] =
+    comes_last s m w h k ∙ ap (λ es. es ++ share s.offer m w ∷ []) j ∙ ap (λ x. events ++ x ∷ []) is in
+    let last : Bool → Bool = λ r. r && not (fits (events ++ e ∷ [])) in
+    ap (λ c. cond c (Some BeyondCalendar) None)
+    (ap (λ es. is_reckoned (said_of s.offer m.by m.body w) && not (fits es)) after ∙ ap (λ (x : Event). last (is_reckoned x.body)) is ∙ b)

@@ -1,0 +1,23 @@
+//! Why a new message is refused (4.2.6, 4.2.7, 4.2.8, 4.2.11).
+//!
+//! [`fault`] judges a message by the hub's tables. It asks first what may be wrong with the message as a whole, then
+//! each wagon that the message names, in the message's order, and then each intermodal unit that it loads. The first
+//! check that fails is the answer, with the wagon at which it failed. A message without a fault may be accepted.
+//!
+//! | message | as a whole | each wagon |
+//! |---|---|---|
+//! | plan | its consignment is new | it has no journey without delivery; then its units have none |
+//! | answer | the offer is known, asks the sender, is open, and has the answered wagons | no estimate passes the calendar |
+//! | withdrawal | the offer is known and open | |
+//! | any other | | it is known, its journey admits the event, no estimate passes the calendar |
+//!
+//! Nothing is changed, and the tables stay as they are. Memory is taken only for the list of the wagons.
+#![tactic(auto)]
+
+mod judging;
+mod matching;
+mod units;
+mod wagon;
+mod whole;
+
+pub use judging::fault;

@@ -1,0 +1,153 @@
+//! What may be wrong with one wagon that a message names.
+ghost use Rattle.std.specs.Prelude.{◌≡◌, ◌&&◌, ◌++◌, ◌∷◌, [], IfOk, None, Some, true, not, if◌then◌else◌};
+ghost use Rattle.std.specs.Option.{option_or};
+ghost use Rattle.trip_plan.specs.Rules.{has};
+ghost use Rattle.journey.specs.Stages as stages;
+ghost use Rattle.journey.specs.Checks.{refusal};
+ghost use Rattle.eti_chain.specs.Estimates as estimates;
+ghost use Rattle.hub_model.specs.Standing.{named};
+ghost use Rattle.hub_model.specs.Faults as of;
+ghost use Rattle.hub_model.specs.Laws.{OpenIsOffered};
+ghost use Rattle.hub_tables.specs.Tabled.{known};
+
+use hub_tables::{Tables, Wagon};
+use journey::{Event, EventBody};
+use taf_codes::Memory;
+use taf_messages::{Body, Message, MovementKind, Why};
+use wagon_number::WagonNumber;
+
+/// Why the message is refused at a wagon that it names, if it is; it is not refused as a whole.
+pub(crate) fn wagon_fault(
+    tables: &Tables,
+    message: &Message,
+    wagon: WagonNumber,
+) -> Result<Option<Why>, Memory>
+    requires whole { of.whole_fault (known tables.now) message.now.by message.now.body ≡ None }
+    requires offered { OpenIsOffered (known tables.now) }
+    requires is_named { has (named (known tables.now).offer message.now) wagon ≡ true }
+    ensures { IfOk result (λ why. why ≡ of.wagon_fault (known tables.now) message.now message.now.body wagon) }
+{
+    match &message.body {
+        Body::Plan(_) => Ok(busy_fault(tables, wagon)),
+        Body::Answer(_) => calendar_fault(tables, message, wagon),
+        Body::Withdraw { .. } => Ok(None),
+        Body::Movement(_)
+        | Body::EtiAsk { .. }
+        | Body::LegTime { .. }
+        | Body::Offer(_)
+        | Body::Reroute { .. } => either_fault(tables, message, wagon),
+    }
+}
+
+// A wagon is planned anew once it is delivered.
+fn busy_fault(tables: &Tables, wagon: WagonNumber) -> Option<Why>
+    ensures { result ≡ (if of.is_busy ((known tables.now).journey wagon) then Some Why.WagonBusy else None) }
+{
+    if is_busy(tables, wagon) {
+        Some(Why::WagonBusy)
+    } else {
+        None
+    }
+}
+
+// It has a journey without delivery.
+fn is_busy(tables: &Tables, wagon: WagonNumber) -> bool
+    ensures { result ≡ of.is_busy ((known tables.now).journey wagon) }
+{
+    tables.wagon(wagon).is_some() && !is_delivered(tables, wagon)
+}
+
+/// Whether the wagon was delivered.
+pub(crate) fn is_delivered(tables: &Tables, wagon: WagonNumber) -> bool
+    ensures { result ≡ stages.is_delivered ((known tables.now).journey wagon) }
+{
+    match tables.wagon(wagon) {
+        Some(found) => found.track().situation().is_delivered,
+        None => false,
+    }
+}
+
+// The checks by the wagon's own events, and then that of the calendar.
+fn either_fault(
+    tables: &Tables,
+    message: &Message,
+    wagon: WagonNumber,
+) -> Result<Option<Why>, Memory>
+    requires whole { of.whole_fault (known tables.now) message.now.by message.now.body ≡ None }
+    requires is_named { has (named (known tables.now).offer message.now) wagon ≡ true }
+    ensures { IfOk result (λ why. why ≡ option_or (of.known_fault (known tables.now) message.now wagon) (of.calendar_fault (known tables.now) message.now wagon)) }
+{
+    match known_fault(tables, message, wagon)? {
+        Some(why) => Ok(Some(why)),
+        None => calendar_fault(tables, message, wagon),
+    }
+}
+
+// The checks of the wagon by its own events.
+fn known_fault(
+    tables: &Tables,
+    message: &Message,
+    wagon: WagonNumber,
+) -> Result<Option<Why>, Memory>
+    requires { of.whole_fault (known tables.now) message.now.by message.now.body ≡ None }
+    ensures { IfOk result (λ why. why ≡ of.known_fault (known tables.now) message.now wagon) }
+{
+    match tables.wagon(wagon) {
+        Some(found) => Ok(found.track().admits(&tables.share(message, wagon)?)),
+        None => Ok(Some(Why::UnknownWagon)),
+    }
+}
+
+// With the message, an estimate of the wagon, whose journey admits it, would pass the calendar.
+fn calendar_fault(
+    tables: &Tables,
+    message: &Message,
+    wagon: WagonNumber,
+) -> Result<Option<Why>, Memory>
+    requires whole { of.whole_fault (known tables.now) message.now.by message.now.body ≡ None }
+    requires is_named { has (named (known tables.now).offer message.now) wagon ≡ true }
+    requires admitted { of.known_fault (known tables.now) message.now wagon ≡ None }
+    ensures { IfOk result (λ why. why ≡ of.calendar_fault (known tables.now) message.now wagon) }
+{
+    let event = tables.share(message, wagon)?;
+    match tables.wagon(wagon) {
+        Some(found) if is_beyond(found, &event) => Ok(Some(Why::BeyondCalendar)),
+        Some(_) => Ok(None),
+        None => unreachable!(),
+    }
+}
+
+// With the event, which its journey admits, an estimate of the wagon would pass the calendar.
+fn is_beyond(wagon: &Wagon, event: &Event) -> bool
+    requires { refusal wagon.now.events event.now.by event.now.body ≡ None }
+    ensures { result ≡ (estimates.is_reckoned event.now.body && not (estimates.fits (wagon.now.events ++ event.now ∷ []))) }
+{
+    is_reckoned(&event.body) && wagon.estimates().would_pass_calendar(wagon.track(), event)
+}
+
+// An event that is refused where it would make an estimate pass the calendar.
+fn is_reckoned(says: &EventBody) -> bool
+    ensures { result ≡ estimates.is_reckoned says.now }
+{
+    match says {
+        EventBody::Moved(what) => is_reckoned_movement(*what),
+        EventBody::LegTimed { .. } | EventBody::Answered { .. } | EventBody::Rerouted(_) => true,
+        EventBody::Planned(_)
+        | EventBody::EstimateAsked
+        | EventBody::Offered { .. }
+        | EventBody::Withdrawn { .. } => false,
+    }
+}
+
+// The same of a movement.
+fn is_reckoned_movement(what: MovementKind) -> bool
+    ensures { result ≡ estimates.is_reckoned (EventBody.Moved what) }
+{
+    matches!(
+        what,
+        MovementKind::Release
+            | MovementKind::Departure
+            | MovementKind::Exception { .. }
+            | MovementKind::Estimate
+    )
+}

@@ -1,0 +1,75 @@
+-- What an acknowledgement changes.
+use Rattle.std.proofs.Common.{◌≡◌, ℕ, ◌+◌, ◌<◌, ◌≤◌, Bool, true, false, cond, length, List, [], ◌∷◌, ◌++◌, Option, Some, None, refl, ap, ◌∙◌, sym, subst, ltb, leb, inl, inr}
+use Rattle.std.specs.Prelude.{Result, Ok, Err, IsOk, IfOk, IfErr, OnOk, OnErr, ◌↔◌, max, bytes_eq}
+use Rattle.std.proofs.lemmas.Bool.{le-ltb, lt-ltb, leb-true, leb-false, cases_Bool}
+use Rattle.taf_codes.specs.declared.code.Railway.{Railway}
+use Rattle.taf_codes.specs.Equality.{texts}
+use Rattle.taf_messages.specs.declared.call.Call.{Call}
+use Rattle.taf_messages.specs.declared.call.Call.TheVariants.{Ack}
+use Rattle.taf_messages.specs.declared.reply.Reply.{Reply}
+use Rattle.taf_messages.specs.declared.reply.Reply.TheVariants.{Acknowledged, Refused}
+use Rattle.taf_messages.specs.declared.reply.Why.TheVariants.{AckAhead as Ahead}
+use Rattle.taf_messages.specs.declared.item.ItemBody.{ItemBody}
+use Rattle.outbox.specs.declared.fault.AckAhead.{AckAhead}
+use Rattle.outbox.specs.Kept.{Kept, kept_for, last_of, acknowledged_to}
+use Rattle.outbox.specs.Keeping.{Keeps, LastCounts, Acknowledges}
+use Rattle.hub_model.specs.declared.entry.Entry.{Entry}
+use Rattle.hub_model.specs.Standing.{Standing}
+use Rattle.hub_model.specs.Answers.{answer, ack_reply, after_call, acked, standing_of}
+use Rattle.hub_core.specs.Books.{AreKept, told_of_ack}
+use Rattle.hub_core.proofs.Keeping.{kept_more, kept_entered, leads_on}
+
+-- the box of one railway after it
+keeps_acked : (acks : Acknowledges) (b : Bool) (k new : Kept) (bodies : List ItemBody) (a m n : ℕ) → new ≡ cond b (acknowledged_to k n) k → Keeps k bodies a →
+    (b ≡ true → (n ≤ length bodies) × (m ≡ max a n)) → Keeps new bodies (cond b m a)
+keeps_acked acks true k new bodies a m n is keeps h =
+    subst (λ (c : Kept). Keeps c bodies m) (sym is) (subst (λ (c : ℕ). Keeps (acknowledged_to k n) bodies c) (sym (h refl).1) (acks k bodies a n keeps (h refl).0))
+keeps_acked acks false k new bodies a m n is keeps h = subst (λ (c : Kept). Keeps c bodies a) (sym is) keeps
+
+never : false ≡ true → ⊥
+never h = cc
+
+-- a number that cannot be at most the last is past it
+is_past : (n last : ℕ) → (n ≤ last → false ≡ true) → last < n
+is_past n last h = elim (cases_Bool (leb n last)) [
+  | inl e ↦ absurd (never (h (leb-true n last e)))
+  | inr e ↦ leb-false n last e
+]
+
+module _ (count : LastCounts) (acks : Acknowledges) (history : List Entry) (by : Railway) (n : ℕ) (looked_up : Standing) (position : Railway → ℕ → Option ℕ) (old new : List (Railway × Kept))
+    (kept : AreKept history looked_up position (kept_for old)) (room : length history < 1000000) where
+  abbrev s : Standing
+  s = standing_of history
+
+  counted : last_of (kept_for old by) ≡ length (s.outbox by)
+  counted = count (kept_for old by) (s.outbox by) (s.acknowledged by) (kept.boxes by)
+
+  pub ack_answer : (o : Result ℕ AckAhead) → (IsOk o ↔ (n ≤ last_of (kept_for old by))) → IfOk o (λ stands. stands ≡ max (kept_for old by).acknowledged n) → IfErr o (λ x. x.last ≡ last_of (kept_for old by)) →
+      told_of_ack o ≡ answer history (Ack by n)
+  ack_answer (Ok stands) when is ahead =
+      let within : n ≤ length (s.outbox by) = subst (λ (k : ℕ). n ≤ k) counted (when.0 refl) in
+      ap Acknowledged (is ∙ ap (λ (a : ℕ). max a n) (kept.boxes by).number) ∙
+      ap (λ (b : Bool). cond b (Refused None Ahead None (Some (length (s.outbox by)))) (Acknowledged (max (s.acknowledged by) n))) (sym (le-ltb (length (s.outbox by)) n within))
+  ack_answer (Err x) when is ahead =
+      let past : length (s.outbox by) < n = subst (λ (k : ℕ). k < n) counted (is_past n (last_of (kept_for old by)) when.1) in
+      ap (λ (k : ℕ). Refused None Ahead None (Some k)) (ahead ∙ counted) ∙
+      ap (λ (b : Bool). cond b (Refused None Ahead None (Some (length (s.outbox by)))) (Acknowledged (max (s.acknowledged by) n))) (sym (lt-ltb (length (s.outbox by)) n past))
+
+  pub kept_ack : (o : Result ℕ AckAhead) → (IsOk o ↔ (n ≤ last_of (kept_for old by))) → IfOk o (λ stands. stands ≡ max (kept_for old by).acknowledged n) → IfErr o (λ x. x.last ≡ last_of (kept_for old by)) →
+      OnOk o ((r : Railway) → kept_for new r ≡ cond (bytes_eq by r) (acknowledged_to (kept_for old r) n) (kept_for old r)) → OnErr o (new ≡ old) →
+      AreKept (history ++ record { call = Ack by n; reply = told_of_ack o } ∷ []) looked_up position (kept_for new)
+  kept_ack (Ok stands) when is ahead boxes err =
+      let within : n ≤ length (s.outbox by) = subst (λ (k : ℕ). n ≤ k) counted (when.0 refl) in
+      let answered = ack_answer (Ok stands) when is ahead in
+      subst (λ (r : Reply). AreKept (history ++ record { call = Ack by n; reply = r } ∷ []) looked_up position (kept_for new)) (sym answered)
+      (kept_more history (Ack by n) looked_up position (kept_for old) kept room tt (acked s by stands) looked_up position (kept_for new)
+       (ap (after_call s (Ack by n)) (sym answered))
+       kept.tables
+       (λ also k. leads_on history (record { call = Ack by n; reply = answer history (Ack by n) }) (position also k) (s.first_send also k) (kept.firsts also k))
+       (λ r. keeps_acked acks (bytes_eq by r) (kept_for old r) (kept_for new r) (s.outbox r) (s.acknowledged r) stands n (boxes r) (kept.boxes r)
+         (λ e. let same = texts.equal by r e in
+           (subst (λ (q : Railway). n ≤ length (s.outbox q)) same within, is ∙ ap (λ (a : ℕ). max a n) (kept.boxes by).number ∙ ap (λ (q : Railway). max (s.acknowledged q) n) same)))
+       kept.offers)
+  kept_ack (Err x) when is ahead boxes err =
+      subst (λ (bs : List (Railway × Kept)). AreKept (history ++ record { call = Ack by n; reply = told_of_ack (Err x) } ∷ []) looked_up position (kept_for bs)) (sym err)
+      (kept_entered history (Ack by n) (told_of_ack (Err x)) looked_up position (kept_for old) kept room tt (ack_answer (Err x) when is ahead) refl)

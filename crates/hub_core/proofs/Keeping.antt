@@ -1,0 +1,115 @@
+-- What keeps the books, where a history has one more entry.
+use Rattle.std.proofs.Common.{◌≡◌, ℕ, ◌+◌, ◌<◌, ◌≤◌, Bool, true, false, cond, length, List, [], ◌∷◌, ◌++◌, Option, Some, None, refl, ap, ◌∙◌, sym, subst, arith, inl, inr}
+use Rattle.std.specs.Prelude.{slice_get, is_some, max, bytes_eq}
+use Rattle.std.proofs.lemmas.Option.{slice_get_within}
+use Rattle.std.proofs.lemmas.Bool.{cases_Bool}
+use Rattle.std.proofs.lemmas.List.{length-append}
+use Rattle.history_pages.proofs.EntryLemmas.{slice_get-left, slice_get-right}
+use Rattle.taf_codes.specs.declared.code.Railway.{Railway}
+use Rattle.taf_messages.specs.declared.call.Call.{Call}
+use Rattle.taf_messages.specs.declared.call.Call.TheVariants.{Send, Fetch}
+use Rattle.taf_messages.specs.declared.reply.Reply.{Reply}
+use Rattle.taf_messages.specs.declared.reply.Reply.TheVariants.{Items}
+use Rattle.taf_messages.specs.declared.message.Message.{Message}
+use Rattle.outbox.specs.Kept.{Kept, first_items}
+use Rattle.outbox.proofs.NumberLemmas.{first_items-kept}
+use Rattle.outbox.specs.Keeping.{Keeps}
+use Rattle.std.specs.Map.{lookup}
+use Rattle.replay_numbers.specs.Names.{same_name}
+use Rattle.replay_numbers.specs.Notes.{Noted, position_of}
+use Rattle.hub_model.specs.declared.entry.Entry.{Entry}
+use Rattle.hub_model.specs.Standing.{Standing, Told, moment_in}
+use Rattle.hub_model.specs.Answers.{answer, after, noted, standing_of}
+use Rattle.hub_model.specs.Laws.{AreDated, IsSend, IsMoment}
+use Rattle.hub_model.proofs.Histories.{one_more_entry}
+use Rattle.hub_model.proofs.Steps.{standing_of-push}
+use Rattle.hub_tables.specs.Tabled.{tabled}
+use Rattle.hub_core.specs.Books.{AreKept, LeadsTo, OffersWereSent, entry_of}
+
+-- a first send is still found once there are more entries
+pub leads_on : (history : List Entry) (e : Entry) (o : Option ℕ) (t : Option Told) → LeadsTo history o t → LeadsTo (history ++ e ∷ []) o t
+leads_on history e None None h = tt
+leads_on history e (Some p) (Some t) h = slice_get-left history (e ∷ []) p (slice_get_within history p (entry_of t) h) ∙ h
+leads_on history e None (Some t) h = h
+leads_on history e (Some p) None h = h
+
+-- the last entry is found at the old length
+pub leads_to_last : (history : List Entry) (t : Told) → LeadsTo (history ++ entry_of t ∷ []) (Some (length history)) (Some t)
+leads_to_last [] t = refl
+leads_to_last (e ∷ history) t = leads_to_last history t
+
+-- a new name leads to the last entry, and the others as before
+pub leads_noted : (history : List Entry) (t : Told) (b : Bool) (o : Option ℕ) (u : Option Told) → LeadsTo history o u →
+    LeadsTo (history ++ entry_of t ∷ []) (cond b (Some (length history)) o) (cond b (Some t) u)
+leads_noted history t true o u h = leads_to_last history t
+leads_noted history t false o u h = leads_on history (entry_of t) o u h
+
+pub dated_more : (history : List Entry) (e : Entry) → AreDated history → IsSend (λ m. IsMoment (moment_in m.body)) e.call → AreDated (history ++ e ∷ [])
+dated_more [] e d k = (k, tt)
+dated_more (first ∷ history) e d k = (d.0, dated_more history e d.1 k)
+
+few_more : (history : List Entry) (e : Entry) (n : ℕ) → length history < n → length (history ++ e ∷ []) ≤ n
+few_more history e n h = rw (length-append history (e ∷ [])) (omega (arith, h))
+
+module _ (history : List Entry) (call : Call) (looked_up : Standing) (position : Railway → ℕ → Option ℕ) (box : Railway → Kept)
+    (kept : AreKept history looked_up position box) (room : length history < 1000000) (dated : IsSend (λ m. IsMoment (moment_in m.body)) call) where
+  abbrev pub e : Entry
+  e = record { call = call; reply = answer history call }
+
+  -- the books of the longer history
+  pub kept_more : (s looked_up' : Standing) (position' : Railway → ℕ → Option ℕ) (box' : Railway → Kept) → after (standing_of history) e ≡ s → looked_up' ≡ tabled s →
+      ((by : Railway) (n : ℕ) → LeadsTo (history ++ e ∷ []) (position' by n) (s.first_send by n)) → ((r : Railway) → Keeps (box' r) (s.outbox r) (s.acknowledged r)) → OffersWereSent s →
+      AreKept (history ++ e ∷ []) looked_up' position' box'
+  kept_more s looked_up' position' box' is tables firsts boxes offers =
+      let now : s ≡ standing_of (history ++ e ∷ []) = sym (standing_of-push history e ∙ is) in
+      record {
+        legal = one_more_entry history call kept.legal;
+        dated = dated_more history e kept.dated dated;
+        few = few_more history e 1000000 room;
+        tables = tables ∙ ap tabled now;
+        firsts = λ by n. subst (λ (t : Standing). LeadsTo (history ++ e ∷ []) (position' by n) (t.first_send by n)) now (firsts by n);
+        boxes = λ r. subst (λ (t : Standing). Keeps (box' r) (t.outbox r) (t.acknowledged r)) now (boxes r);
+        offers = subst OffersWereSent now offers;
+      }
+
+  -- after an entry that changes no look-up
+  pub kept_quiet : (looked_up' : Standing) (position' : Railway → ℕ → Option ℕ) (box' : Railway → Kept) → after (standing_of history) e ≡ standing_of history → looked_up' ≡ looked_up →
+      ((by : Railway) (n : ℕ) → position' by n ≡ position by n) → ((r : Railway) → box' r ≡ box r) → AreKept (history ++ e ∷ []) looked_up' position' box'
+  kept_quiet looked_up' position' box' is tables positions boxes =
+      kept_more (standing_of history) looked_up' position' box' is (tables ∙ kept.tables)
+      (λ by n. subst (λ (o : Option ℕ). LeadsTo (history ++ e ∷ []) o ((standing_of history).first_send by n)) (sym (positions by n)) (leads_on history e (position by n) ((standing_of history).first_send by n) (kept.firsts by n)))
+      (λ r. subst (λ (k : Kept). Keeps k ((standing_of history).outbox r) ((standing_of history).acknowledged r)) (sym (boxes r)) (kept.boxes r))
+      kept.offers
+
+-- after an entry with the answer, which changes no look-up
+pub kept_entered : (history : List Entry) (call : Call) (reply : Reply) (looked_up : Standing) (position : Railway → ℕ → Option ℕ) (box : Railway → Kept) →
+    AreKept history looked_up position box → length history < 1000000 → IsSend (λ m. IsMoment (moment_in m.body)) call → reply ≡ answer history call →
+    after (standing_of history) (record { call = call; reply = reply }) ≡ standing_of history → AreKept (history ++ record { call = call; reply = reply } ∷ []) looked_up position box
+kept_entered history call reply looked_up position box kept room dated answered quiet =
+    subst (λ (r : Reply). after (standing_of history) (record { call = call; reply = r }) ≡ standing_of history → AreKept (history ++ record { call = call; reply = r } ∷ []) looked_up position box)
+    (sym answered)
+    (λ is. kept_quiet history call looked_up position box kept room dated looked_up position box is refl (λ by n. refl) (λ r. refl))
+    quiet
+
+-- what is fetched from a box is the answer
+pub fetch_answer : (history : List Entry) (looked_up : Standing) (position : Railway → ℕ → Option ℕ) (box : Railway → Kept) (by : Railway) (limit : ℕ) →
+    AreKept history looked_up position box → Items (first_items (box by) limit) ≡ answer history (Fetch by limit)
+fetch_answer history looked_up position box by limit kept =
+    ap Items (first_items-kept (box by) ((standing_of history).outbox by) ((standing_of history).acknowledged by) limit (kept.boxes by))
+
+-- where nothing that is looked up has changed
+pub kept_same : (history : List Entry) (looked_up looked_up' : Standing) (position position' : Railway → ℕ → Option ℕ) (box box' : Railway → Kept) →
+    looked_up' ≡ looked_up → ((by : Railway) (n : ℕ) → position' by n ≡ position by n) → ((r : Railway) → box' r ≡ box r) → AreKept history looked_up position box → AreKept history looked_up' position' box'
+kept_same history looked_up looked_up' position position' box box' tables positions boxes kept = record {
+  legal = kept.legal;
+  dated = kept.dated;
+  few = kept.few;
+  tables = tables ∙ kept.tables;
+  firsts = λ by n. subst (λ (o : Option ℕ). LeadsTo history o ((standing_of history).first_send by n)) (sym (positions by n)) (kept.firsts by n);
+  boxes = λ r. subst (λ (k : Kept). Keeps k ((standing_of history).outbox r) ((standing_of history).acknowledged r)) (sym (boxes r)) (kept.boxes r);
+  offers = kept.offers;
+}
+
+-- positions go by the notes
+pub positions_by_notes : (a b : Noted) → b.notes ≡ a.notes → (by : Railway) (n : ℕ) → position_of b by n ≡ position_of a by n
+positions_by_notes a b same by n = ap (λ (notes : List ((Railway × ℕ) × ℕ)). lookup (λ name. same_name by n name.0 name.1) notes) same

@@ -1,0 +1,6 @@
+pub mod SoFar
+pub mod Planned
+pub mod Accepted
+pub mod Alerted
+pub mod Noticed
+pub mod Told

@@ -1,0 +1,117 @@
+//! The estimates that are news (4.2.6).
+ghost use Rattle.std.specs.Prelude.{◌≡◌, ◌++◌, ◌<◌, [], if◌then◌else◌, IfOk, OnOk, option_map, option_to_list};
+ghost use Rattle.taf_messages.specs.declared.record.EstimateAt.{EstimateAt};
+ghost use Rattle.eti_chain.specs.Estimates as reckoned;
+ghost use Rattle.hub_model.specs.Items as of;
+ghost use Rattle.hub_items.specs.Onward.{after};
+
+use crate::progress::Progress;
+use hub_model::Addressed;
+use std::alloc::Global;
+use taf_codes::Memory;
+use taf_messages::{EstimateAt, ItemBody, LegIndex};
+
+/// Adds the items of the estimates that are news.
+pub(crate) fn put_estimates(
+    alloc: Global,
+    items: &mut Vec<Addressed>,
+    progress: &Progress<'_>,
+) -> Result<(), Memory>
+    ensures { OnOk result (items.new.items ≡ items.old.items ++ of.estimate_items progress.now.before (after progress.now) progress.now.wagon) }
+{
+    let estimates = estimates(alloc, progress)?;
+    for estimate in estimates.as_slice() {
+        put_news(items, progress, estimate)?;
+    }
+    Ok(())
+}
+
+// All estimates with the event, by their legs.
+fn estimates(alloc: Global, progress: &Progress<'_>) -> Result<Vec<EstimateAt>, Memory>
+    ensures { IfOk result (λ v. v.items ≡ reckoned.estimates (after progress.now)) }
+{
+    let mut found = Vec::new(alloc);
+    for leg in 0..progress.leg_count() {
+        put_estimate(&mut found, progress, leg)?;
+    }
+    Ok(found)
+}
+
+// Adds the estimate of a leg with the event, if there is one.
+fn put_estimate(
+    found: &mut Vec<EstimateAt>,
+    progress: &Progress<'_>,
+    leg: usize,
+) -> Result<(), Memory>
+    requires { leg < 8 }
+    ensures { OnOk result (found.new.items ≡ found.old.items ++ option_to_list (option_map (λ at. record { leg = leg; at = at }) (reckoned.estimate (after progress.now) leg))) }
+{
+    if let Some(estimate) = estimate_of(progress, leg) {
+        found.push(estimate)?;
+    }
+    Ok(())
+}
+
+// The estimate of a leg with the event.
+fn estimate_of(progress: &Progress<'_>, leg: usize) -> Option<EstimateAt>
+    requires { leg < 8 }
+    ensures { result ≡ option_map (λ at. record { leg = leg; at = at }) (reckoned.estimate (after progress.now) leg) }
+{
+    let at = progress.estimate_after(leg)?;
+    let leg = LegIndex::new(leg as u64)?;
+    Some(EstimateAt { leg, at })
+}
+
+// The estimate is not what it was, or the next leg has another railway, or there was or is no next leg.
+fn is_news(progress: &Progress<'_>, estimate: &EstimateAt) -> bool
+    ensures { result ≡ of.is_news progress.now.before (after progress.now) estimate.now }
+{
+    let leg = estimate.leg.get() as usize;
+    progress.estimate_before(leg) != Some(estimate.at)
+        || progress.runner_before(leg + 1) != progress.runner_after(leg + 1)
+}
+
+// Adds the item of the estimate, if that is news.
+fn put_news(
+    items: &mut Vec<Addressed>,
+    progress: &Progress<'_>,
+    estimate: &EstimateAt,
+) -> Result<(), Memory>
+    ensures { OnOk result (items.new.items ≡ items.old.items ++ (if of.is_news progress.now.before (after progress.now) estimate.now then of.estimate_item (after progress.now) progress.now.wagon estimate.now else [])) }
+{
+    if let Some(item) = news_item(progress, estimate) {
+        items.push(item)?;
+    }
+    Ok(())
+}
+
+// The item of the estimate, if that is news.
+fn news_item(progress: &Progress<'_>, estimate: &EstimateAt) -> Option<Addressed>
+    ensures { option_to_list result ≡ (if of.is_news progress.now.before (after progress.now) estimate.now then of.estimate_item (after progress.now) progress.now.wagon estimate.now else []) }
+{
+    if is_news(progress, estimate) {
+        estimate_item(progress, estimate)
+    } else {
+        None
+    }
+}
+
+// The estimate for the railway of the next leg, or of the last leg for the lead.
+fn estimate_item(progress: &Progress<'_>, estimate: &EstimateAt) -> Option<Addressed>
+    ensures { option_to_list result ≡ of.estimate_item (after progress.now) progress.now.wagon estimate.now }
+{
+    let wagon = progress.wagon();
+    let EstimateAt { leg, at } = *estimate;
+    let next = leg.get() as usize + 1;
+    if next == progress.leg_count() {
+        Some(Addressed {
+            to: progress.lead()?,
+            body: ItemBody::Eta { wagon, at },
+        })
+    } else {
+        Some(Addressed {
+            to: progress.runner_after(next)?,
+            body: ItemBody::Eti { wagon, leg, at },
+        })
+    }
+}

@@ -1,0 +1,25 @@
+//! What an accepted message has the railways told (4.2.6, 4.2.7, 4.2.8).
+//!
+//! [`items`] lists the items of an accepted message, each with the railway that it goes to, in the order in which they
+//! are put into the outboxes:
+//!
+//! 1. the notices: the message itself, once to each railway that it concerns;
+//! 2. for an answer that received wagons, the sub notice to the infrastructure manager that it names;
+//! 3. of each wagon of the message, the estimates that are news: each to the railway of the next leg, or for the last
+//!    leg to the lead;
+//! 4. of each wagon of the message, the alert that begins or ends: to the lead, and to the railway that answers for it.
+//!
+//! None goes to the sender of the message. Nothing is changed: what the message leads to is reckoned by one step from
+//! what the tables have of its wagons.
+#![tactic(auto)]
+
+mod alerts;
+mod each;
+mod estimates;
+mod notices;
+mod notified;
+mod once;
+mod progress;
+mod telling;
+
+pub use telling::items;

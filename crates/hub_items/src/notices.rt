@@ -1,0 +1,75 @@
+//! The notices of a message, and the sub notice (4.2.8).
+ghost use Rattle.std.specs.Prelude.{◌≡◌, ◌++◌, IfOk, OnOk, option_to_list};
+ghost use Rattle.hub_model.specs.Items as of;
+ghost use Rattle.hub_tables.specs.Tabled.{IsAcceptable, known};
+
+use crate::each::put_each;
+use crate::notified::notified;
+use crate::once::each_once;
+use hub_model::Addressed;
+use hub_tables::Tables;
+use std::alloc::Global;
+use taf_codes::{Memory, Railway};
+use taf_messages::{Body, ItemBody, Message, SubNotice, TrainAnswer, copy};
+
+/// The notices of a message, and the sub notice.
+pub(crate) fn notices(
+    alloc: Global,
+    tables: &Tables,
+    message: &Message,
+) -> Result<Vec<Addressed>, Memory>
+    requires { IsAcceptable (known tables.now) message.now }
+    ensures { IfOk result (λ v. v.items ≡ of.notices (known tables.now) message.now) }
+{
+    let concerned = notified(alloc, tables, message)?;
+    let railways = each_once(alloc, concerned.as_slice())?;
+    let mut items = Vec::new(alloc);
+    put_each(
+        &mut items,
+        &ItemBody::Notice(copy(message)?),
+        railways.as_slice(),
+    )?;
+    put_sub_notice(&mut items, message.by, &message.body)?;
+    Ok(items)
+}
+
+// Adds the sub notice, if there is one.
+fn put_sub_notice(items: &mut Vec<Addressed>, by: Railway, says: &Body) -> Result<(), Memory>
+    ensures { OnOk result (items.new.items ≡ items.old.items ++ of.sub_items by says.now) }
+{
+    if let Some(item) = sub_notice(by, says)? {
+        items.push(item)?;
+    }
+    Ok(())
+}
+
+// The item for the manager, where a manager is named and a wagon was received.
+fn sub_notice(by: Railway, says: &Body) -> Result<Option<Addressed>, Memory>
+    ensures { IfOk result (λ o. option_to_list o ≡ of.sub_items by says.now) }
+{
+    let Body::Answer(answer) = says else {
+        return Ok(None);
+    };
+    match answer.manager {
+        Some(manager) if !answer.received.as_slice().is_empty() => {
+            Ok(Some(sub_item(by, answer, manager)?))
+        }
+        _ => Ok(None),
+    }
+}
+
+// What the manager is told of an answer that received wagons.
+fn sub_item(by: Railway, answer: &TrainAnswer, manager: Railway) -> Result<Addressed, Memory>
+    ensures { IfOk result (λ i. i ≡ of.sub_item by answer.now manager) }
+{
+    Ok(Addressed {
+        to: manager,
+        body: ItemBody::Sub(SubNotice {
+            at: answer.at,
+            from: by,
+            offer: answer.offer,
+            offerer: answer.offerer,
+            wagons: answer.received.clone()?,
+        }),
+    })
+}

@@ -1,0 +1,141 @@
+//! Who gets the notice of a message.
+ghost use Rattle.std.specs.Prelude.{◌≡◌, ◌++◌, true, IfOk, OnOk, filter_map, option_to_list};
+ghost use Rattle.journey.specs.Legs as legs_of;
+ghost use Rattle.hub_model.specs.Standing.{named, journey_after};
+ghost use Rattle.hub_model.specs.Items as of;
+ghost use Rattle.hub_tables.specs.Tabled.{IsAcceptable, known, goes_on};
+ghost use Rattle.hub_items.specs.Onward.{after};
+ghost use Rattle.taf_messages.specs.declared.message.Body.TheVariants as body;
+
+use crate::progress::Progress;
+use hub_tables::Tables;
+use journey::Track;
+use std::alloc::{AllocError, Global};
+use taf_codes::{Memory, Railway};
+use taf_messages::{Body, Message, MovementKind, TrainAnswer};
+use trip_plan::Leg;
+use wagon_number::WagonNumber;
+
+/// Who gets the notice of a message, as often as one is concerned.
+pub(crate) fn notified(
+    alloc: Global,
+    tables: &Tables,
+    message: &Message,
+) -> Result<Vec<Railway>, Memory>
+    requires { IsAcceptable (known tables.now) message.now }
+    ensures { IfOk result (λ v. v.items ≡ of.notified (known tables.now) (journey_after (known tables.now) message.now) message.now.by message.now.body) }
+{
+    match &message.body {
+        Body::Plan(plan) => Ok(runners(alloc, plan.legs())?),
+        Body::Movement(movement) => {
+            let progress = Progress::of(tables, message, movement.wagon)?;
+            Ok(listed(alloc, told_of_movement(&progress, movement.what))?)
+        }
+        Body::EtiAsk { wagon } => {
+            let progress = Progress::of(tables, message, *wagon)?;
+            Ok(listed(alloc, progress.responsible())?)
+        }
+        Body::LegTime { .. } => Ok(Vec::new(alloc)),
+        Body::Offer(offer) => Ok(listed(alloc, Some(offer.to))?),
+        Body::Answer(answer) => told_of_answer(alloc, tables, message, answer),
+        Body::Withdraw { offer, .. } => {
+            let asked = tables.offer(message.by, *offer).map(|found| found.to);
+            Ok(listed(alloc, asked)?)
+        }
+        Body::Reroute { wagon, route } => match tables.wagon(*wagon) {
+            Some(found) => Ok(told_of_route(alloc, found.track(), route.legs())?),
+            None => unreachable!(),
+        },
+    }
+}
+
+// The railway, if there is one.
+fn listed(alloc: Global, railway: Option<Railway>) -> Result<Vec<Railway>, AllocError>
+    ensures { IfOk result (λ v. v.items ≡ option_to_list railway) }
+{
+    match railway {
+        Some(railway) => Vec::from_slice(alloc, &[railway]),
+        None => Ok(Vec::new(alloc)),
+    }
+}
+
+// The railways of these legs, in order.
+fn runners(alloc: Global, legs: &[Leg]) -> Result<Vec<Railway>, AllocError>
+    ensures { IfOk result (λ v. v.items ≡ of.runners legs.now) }
+{
+    legs.iter().map(|leg| leg.ru).collect(alloc)
+}
+
+// Who is told of a movement.
+fn told_of_movement(progress: &Progress<'_>, what: MovementKind) -> Option<Railway>
+    ensures { option_to_list result ≡ of.told_of_movement (after progress.now) what }
+{
+    match what {
+        MovementKind::Release => progress.runner_after(0),
+        MovementKind::Estimate => None,
+        MovementKind::Departure
+        | MovementKind::YardArrival { .. }
+        | MovementKind::YardDeparture { .. }
+        | MovementKind::Exception { .. }
+        | MovementKind::Arrival
+        | MovementKind::Delivery => progress.lead(),
+    }
+}
+
+// Who is told of new legs: the current leg's railway, and those of the legs taken away and set.
+fn told_of_route(alloc: Global, track: &Track, route: &[Leg]) -> Result<Vec<Railway>, AllocError>
+    ensures { IfOk result (λ v. v.items ≡ of.told_of_route track.now.events route.now) }
+{
+    let current = track.leg_index();
+    let mut railways = listed(alloc, track.leg(current).map(|leg| leg.ru))?;
+    let taken_away = runners(alloc, &track.legs()[current + 1..])?;
+    railways.extend_from_slice(taken_away.as_slice())?;
+    let set = runners(alloc, route)?;
+    railways.extend_from_slice(set.as_slice())?;
+    Ok(railways)
+}
+
+// Who is told of an answer: who made the offer, and the leads of the wagons.
+fn told_of_answer(
+    alloc: Global,
+    tables: &Tables,
+    message: &Message,
+    answer: &TrainAnswer,
+) -> Result<Vec<Railway>, Memory>
+    requires acceptable { IsAcceptable (known tables.now) message.now }
+    requires is_answer { message.now.body ≡ body.Answer answer.now }
+    ensures { IfOk result (λ v. v.items ≡ of.notified (known tables.now) (journey_after (known tables.now) message.now) message.now.by message.now.body) }
+{
+    let mut railways = listed(alloc, Some(answer.offerer))?;
+    let wagons = tables.named(alloc, message)?;
+    put_leads(&mut railways, tables, message, wagons.as_slice())?;
+    Ok(railways)
+}
+
+// Adds the leads of the wagons that the message, which is no plan, names.
+fn put_leads(
+    railways: &mut Vec<Railway>,
+    tables: &Tables,
+    message: &Message,
+    wagons: &[WagonNumber],
+) -> Result<(), Memory>
+    requires acceptable { IsAcceptable (known tables.now) message.now }
+    requires no_plan { goes_on message.now.body ≡ true }
+    requires are_named { wagons.now ≡ named (known tables.now).offer message.now }
+    ensures { OnOk result (railways.new.items ≡ railways.old.items ++ filter_map (λ w. legs_of.lead_of (journey_after (known tables.now) message.now w)) wagons.now) }
+{
+    for wagon in wagons {
+        put_lead(railways, &Progress::of(tables, message, *wagon)?)?;
+    }
+    Ok(())
+}
+
+// Adds the lead of a wagon.
+fn put_lead(railways: &mut Vec<Railway>, progress: &Progress<'_>) -> Result<(), AllocError>
+    ensures { OnOk result (railways.new.items ≡ railways.old.items ++ option_to_list (legs_of.lead_of (after progress.now))) }
+{
+    if let Some(lead) = progress.lead() {
+        railways.push(lead)?;
+    }
+    Ok(())
+}

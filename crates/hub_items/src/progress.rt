@@ -1,0 +1,154 @@
+//! A journey with one event more.
+ghost use Rattle.std.specs.Prelude.{◌≡◌, ◌≤◌, ◌++◌, ◌∷◌, [], length, true, None, IfOk};
+ghost use Rattle.trip_plan.specs.Rules.{has};
+ghost use Rattle.journey.specs.Checks.{refusal};
+ghost use Rattle.journey.specs.Stages as stages;
+ghost use Rattle.journey.specs.Legs as legs_of;
+ghost use Rattle.eti_chain.specs.Estimates as of;
+ghost use Rattle.hub_model.specs.Standing.{named, journey_after};
+ghost use Rattle.hub_tables.specs.Tabled.{IsAcceptable, known, goes_on};
+ghost use Rattle.hub_items.specs.Onward.{after, onward};
+
+use eti_chain::Estimates;
+use hub_tables::{Tables, Wagon};
+use journey::{Event, Situation};
+use std::marker::Model;
+use taf_codes::{Memory, Railway};
+use taf_messages::Message;
+use taf_moment::Moment;
+use wagon_number::WagonNumber;
+
+/// A wagon, with an event that its journey admits, and what both come to.
+#[derive(Drop)]
+pub(crate) struct Progress<'a> {
+    wagon: &'a Wagon,
+    event: Event,
+    // What the journey comes to with the event.
+    situation: Situation,
+    estimates: Estimates,
+}
+
+impl<'a> Model for Progress<'a> {
+    ghost use Rattle.hub_items.specs.Onward.{Onward, IsKept, onward};
+
+    ghost Value = { Onward };
+
+    ghost view = { λ p. onward p.wagon.now p.event };
+
+    ghost invariant = { λ p. IsKept (onward p.wagon.now p.event) p.situation p.estimates };
+}
+
+impl<'a> Progress<'a> {
+    /// The progress of a wagon that an acceptable message names, which is no plan, by its share of the message.
+    pub(crate) fn of(
+        tables: &'a Tables,
+        message: &Message,
+        wagon: WagonNumber,
+    ) -> Result<Progress<'a>, Memory>
+        requires acceptable { IsAcceptable (known tables.now) message.now }
+        requires no_plan { goes_on message.now.body ≡ true }
+        requires is_named { has (named (known tables.now).offer message.now) wagon ≡ true }
+        ensures wagon { IfOk result (λ p. p.wagon ≡ wagon) }
+        ensures before { IfOk result (λ p. p.before ≡ (known tables.now).journey wagon) }
+        ensures after { IfOk result (λ p. after p ≡ journey_after (known tables.now) message.now wagon) }
+    {
+        let event = tables.share(message, wagon)?;
+        match tables.wagon(wagon) {
+            Some(found) => Ok(Progress::new(found, event)),
+            None => unreachable!(),
+        }
+    }
+
+    // The wagon with an event, with which its estimates stay in the calendar.
+    fn new(wagon: &'a Wagon, event: Event) -> Progress<'a>
+        requires admitted { refusal wagon.now.events event.by event.body ≡ None }
+        requires fits { of.fits (wagon.now.events ++ event ∷ []) ≡ true }
+        ensures { result ≡ onward wagon.now event }
+    {
+        let situation = wagon.track().situation_after(&event);
+        let estimates = wagon.estimates().followed(wagon.track(), &event);
+        Progress {
+            wagon,
+            event,
+            situation,
+            estimates,
+        }
+    }
+
+    pub(crate) fn wagon(&self) -> WagonNumber
+        ensures { result ≡ self.now.wagon }
+    {
+        self.wagon.track().wagon()
+    }
+
+    /// The lead railway undertaking.
+    pub(crate) fn lead(&self) -> Option<Railway>
+        ensures { result ≡ legs_of.lead_of (after self.now) }
+    {
+        self.situation.lead
+    }
+
+    /// The railway that answers for the wagon with the event.
+    pub(crate) fn responsible(&self) -> Option<Railway>
+        ensures { result ≡ stages.responsible (after self.now) }
+    {
+        self.situation.responsible()
+    }
+
+    /// How many legs there are with the event: at most eight.
+    pub(crate) fn leg_count(&self) -> usize
+        ensures value { result ≡ length (legs_of.legs (after self.now)) }
+        ensures few { result ≤ 8 }
+    {
+        self.situation.legs.as_slice().len()
+    }
+
+    /// The railway of a leg before the event.
+    pub(crate) fn runner_before(&self, leg: usize) -> Option<Railway>
+        ensures { result ≡ legs_of.runner_of self.now.before leg }
+    {
+        self.wagon.track().leg(leg).map(|leg| leg.ru)
+    }
+
+    /// The railway of a leg with the event.
+    pub(crate) fn runner_after(&self, leg: usize) -> Option<Railway>
+        ensures { result ≡ legs_of.runner_of (after self.now) leg }
+    {
+        self.situation.legs.leg(leg).map(|leg| leg.ru)
+    }
+
+    /// When the wagon was expected at the end of a leg before the event.
+    pub(crate) fn estimate_before(&self, leg: usize) -> Option<Moment>
+        ensures { result ≡ of.estimate self.now.before leg }
+    {
+        self.wagon.estimates().estimate(leg)
+    }
+
+    /// When the wagon is expected at the end of a leg with the event.
+    pub(crate) fn estimate_after(&self, leg: usize) -> Option<Moment>
+        ensures { result ≡ of.estimate (after self.now) leg }
+    {
+        self.estimates.estimate(leg)
+    }
+
+    /// Whether the wagon was late before the event.
+    pub(crate) fn was_late(&self) -> bool
+        ensures { result ≡ of.is_late self.now.before }
+    {
+        self.wagon.estimates().late()
+    }
+
+    /// Whether the wagon is late with the event.
+    pub(crate) fn is_late(&self) -> bool
+        ensures { result ≡ of.is_late (after self.now) }
+    {
+        self.estimates.late()
+    }
+
+    /// By how many minutes the wagon is late with the event, if it is.
+    pub(crate) fn late_by(&self) -> Option<u32>
+        ensures { result ≡ of.late_by (after self.now) }
+    {
+        self.estimates.late_by()
+    }
+}

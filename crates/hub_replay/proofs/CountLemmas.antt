@@ -1,0 +1,62 @@
+-- What is counted.
+use Rattle.std.proofs.Common.{◌≡◌, ℕ, ◌+◌, nat_lt, true, false, cond, List, [], ◌∷◌, ◌++◌, length, length-append, arith, codes, refl, subst, ap, ◌∙◌}
+use Rattle.std.proofs.lemmas.List.Sums.{sum_by-cons}
+use Rattle.std.specs.List.{count_by}
+use Rattle.taf_messages.specs.declared.call.Call.{Call}
+use Rattle.hub_model.specs.declared.entry.Entry.{Entry}
+use Rattle.hub_replay.specs.declared.counts.Counts.{Counts}
+use Rattle.hub_replay.specs.declared.heard.Heard.{Heard}
+use Rattle.hub_replay.specs.declared.heard.Heard.TheVariants.{Blank, TooLong, Fault, Called}
+use Rattle.hub_replay.specs.Lines.{fault_text, heard_in}
+use Rattle.hub_replay.specs.Outcomes.{Outcome, outcome, faulted, replied, entry_of, is_told, Answers, start_of}
+
+-- lines that lead from one outcome to another
+record IsCounted (o p : Outcome) (hs : List Heard) : Type 0 where
+  lines : p.counts.lines ≡ o.counts.lines + count_by is_told hs
+  calls : length p.entries + o.counts.calls ≡ length o.entries + p.counts.calls
+  sum : p.counts.lines + (o.counts.calls + o.counts.faults) ≡ o.counts.lines + (p.counts.calls + p.counts.faults)
+
+told_more : (h : Heard) (hs : List Heard) → is_told h ≡ true → count_by is_told (h ∷ hs) ≡ 1 + count_by is_told hs
+told_more h hs e = sum_by-cons (λ x. cond (is_told x) 1 0) h hs ∙ ap (λ t. cond t 1 0 + count_by is_told hs) e
+
+fault_more : (o p : Outcome) (text : List ℕ) (h : Heard) (hs : List Heard) → is_told h ≡ true → IsCounted (faulted o text) p hs → IsCounted o p (h ∷ hs)
+unfolding faulted
+fault_more o p text h hs e c = record {
+  lines = omega (arith, c.lines, told_more h hs e);
+  calls = c.calls;
+  sum = omega (arith, c.sum);
+}
+
+call_more : (o p : Outcome) (call : Call) (hs : List Heard) → IsCounted (replied o call) p hs → IsCounted o p (Called call ∷ hs)
+unfolding replied
+call_more o p call hs c =
+    let grown : length (o.entries ++ entry_of o.entries call ∷ []) ≡ length o.entries + 1 = length-append o.entries (entry_of o.entries call ∷ []) in
+    record {
+      lines = omega (arith, c.lines, told_more (Called call) hs refl);
+      calls = omega (arith, c.calls, grown);
+      sum = omega (arith, c.sum);
+    }
+
+counted : (o : Outcome) (hs : List Heard) → IsCounted o (outcome o hs) hs
+counted o [] = record { lines = omega arith; calls = refl; sum = refl }
+counted o (Blank ∷ hs) = let c = counted o hs in record { lines = c.lines; calls = c.calls; sum = c.sum }
+counted o (TooLong ∷ hs) = fault_more o _ _ TooLong hs refl (counted (faulted o (codes "{\"fault\":\"line_too_long\"}")) hs)
+counted o (Fault fault ∷ hs) = fault_more o _ _ (Fault fault) hs refl (counted (faulted o (fault_text fault)) hs)
+counted o (Called call ∷ hs) =
+    elim (nat_lt (length o.entries) 1000000) as (λ t. IsCounted o (outcome (cond t (replied o call) (faulted o (codes "{\"fault\":\"hub_full\"}"))) hs) (Called call ∷ hs)) [
+      | true ↦ call_more o _ call hs (counted (replied o call) hs)
+      | false ↦ fault_more o _ _ (Called call) hs refl (counted (faulted o (codes "{\"fault\":\"hub_full\"}")) hs)
+    ]
+
+whole : (old : List Entry) (read : List ℕ) (new : List Entry) (written : List ℕ) (counts : Counts) → Answers old read new written counts → IsCounted (start_of old) (record { entries = new; output = written; counts = counts }) (heard_in read)
+whole old read new written counts a = subst (λ p. IsCounted (start_of old) p (heard_in read)) a (counted (start_of old) (heard_in read))
+
+-- the counts of a whole run
+pub counts_lines : (old : List Entry) (read : List ℕ) (new : List Entry) (written : List ℕ) (counts : Counts) → Answers old read new written counts → counts.lines ≡ count_by is_told (heard_in read)
+counts_lines old read new written counts a = let c = whole old read new written counts a in omega (arith, c.lines)
+
+pub counts_calls : (old : List Entry) (read : List ℕ) (new : List Entry) (written : List ℕ) (counts : Counts) → Answers old read new written counts → length new ≡ length old + counts.calls
+counts_calls old read new written counts a = let c = whole old read new written counts a in omega (arith, c.calls)
+
+pub counts_sum : (old : List Entry) (read : List ℕ) (new : List Entry) (written : List ℕ) (counts : Counts) → Answers old read new written counts → counts.lines ≡ counts.calls + counts.faults
+counts_sum old read new written counts a = let c = whole old read new written counts a in omega (arith, c.sum)

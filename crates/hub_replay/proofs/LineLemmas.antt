@@ -1,0 +1,220 @@
+-- How lines begin and end.
+use Rattle.std.proofs.Common.{◌≡◌, ℕ, ◌+◌, ◌-◌, ◌<◌, ◌≤◌, ◌==◌, true, false, cond, Bool, List, [], ◌∷◌, ◌++◌, length, get_or, take, drop, map, refl, ap, ◌∙◌, sym, arith, append_assoc, append-nil, suc, length-drop, length-append}
+use Rattle.std.specs.List.{slice_range}
+use Rattle.std.proofs.Math.Seq.{take-add}
+use Rattle.std.proofs.lemmas.List.{drop-drop, drop-take}
+use Rattle.std.proofs.lemmas.List.{take_all, get_or-drop, get_or-take, length-take-le, drop_more}
+use Rattle.std.proofs.lemmas.Bool.{eqb-true}
+use Rattle.std.proofs.lemmas.Grind.{common_steps}
+use Rattle.std.proofs.lemmas.List.{drop_all}
+use Rattle.std.proofs.lemmas.List.Folds.{drop_split}
+use Rattle.std.proofs.lemmas.Bool.{lt-ltb}
+use Rattle.std.specs.Prelude.{nat_lt}
+use Rattle.hub_replay.specs.declared.heard.Heard.{Heard}
+use Rattle.hub_replay.specs.declared.heard.Heard.TheVariants.{TooLong}
+use Rattle.hub_replay.specs.Lines.{onto_first, lines_of, unbroken, past, left, heard, heard_in, IsTaken, IsCut}
+
+-- what stands before the first newline
+abbrev pub upto : List ℕ → List ℕ
+upto [] = []
+upto (b ∷ bytes) = cond (b == 10) [] (b ∷ upto bytes)
+
+onto_lines : (b : ℕ) (more : List ℕ) → onto_first b (lines_of more) ≡ (b ∷ upto more) ∷ lines_of (past more)
+onto_lines b [] = refl
+onto_lines b (m ∷ more) =
+    elim (m == 10) as (λ t. onto_first b (cond t ([] ∷ lines_of more) (onto_first m (lines_of more))) ≡ (b ∷ cond t [] (m ∷ upto more)) ∷ lines_of (cond t more (past more)))
+    [ true ↦ refl | false ↦ ap (onto_first b) (onto_lines m more) ]
+
+not_newline : (b : ℕ) (bytes : List ℕ) → unbroken (b ∷ bytes) ≡ true → (b == 10) ≡ false
+not_newline b bytes h = grind (arith, common_steps)
+
+rest_unbroken : (b : ℕ) (bytes : List ℕ) → unbroken (b ∷ bytes) ≡ true → unbroken bytes ≡ true
+rest_unbroken b bytes h = grind (arith, common_steps)
+
+-- a beginning of a line, whatever follows it
+pub first_line : (x : ℕ) (line more : List ℕ) → unbroken (x ∷ line) ≡ true → lines_of ((x ∷ line) ++ more) ≡ ((x ∷ line) ++ upto more) ∷ lines_of (past more)
+first_line x [] more h = rw (not_newline x [] h) (onto_lines x more)
+first_line x (y ∷ line) more h =
+    rw (not_newline x (y ∷ line) h) (ap (onto_first x) (first_line y line more (rest_unbroken x (y ∷ line) h)))
+
+-- a whole line with its newline
+pub whole_line : (line more : List ℕ) → unbroken line ≡ true → lines_of (line ++ (10 ∷ more)) ≡ line ∷ lines_of more
+whole_line [] more h = refl
+whole_line (x ∷ line) more h =
+    rw (not_newline x line h) (ap (onto_first x) (whole_line line more (rest_unbroken x line h)))
+
+pub past_unbroken : (line more : List ℕ) → unbroken line ≡ true → past (line ++ more) ≡ past more
+past_unbroken [] more h = refl
+past_unbroken (x ∷ line) more h = rw (not_newline x line h) (past_unbroken line more (rest_unbroken x line h))
+
+pub past_newline : (line more : List ℕ) → unbroken line ≡ true → past (line ++ (10 ∷ more)) ≡ more
+past_newline line more h = past_unbroken line (10 ∷ more) h
+
+-- no byte is a newline, seen by index
+pub unbroken_from : (bytes : List ℕ) → ((k : ℕ) → k < length bytes → (get_or bytes k 0 == 10) ≡ true → ⊥) → unbroken bytes ≡ true
+unbroken_from [] h = refl
+unbroken_from (x ∷ bytes) h =
+    let here : (x == 10) ≡ false = grind (arith, common_steps, h 0) in
+    let rest : unbroken bytes ≡ true = unbroken_from bytes (λ k lt. h (suc k) (omega arith)) in
+    rw (here, rest) refl
+
+-- What a search from some place on found. `w` is what it looked through.
+pub searched_none : (bytes w : List ℕ) (from : ℕ) → from ≤ length bytes → w ≡ take (length bytes - from) (drop from bytes) → ((k : ℕ) → 0 ≤ k → k < length w → (get_or w k 0 == 10) ≡ true → ⊥) → unbroken (drop from bytes) ≡ true
+searched_none bytes w from le e h =
+    let all : length (drop from bytes) ≤ length bytes - from = omega (arith, length-drop from bytes) in
+    let same : w ≡ drop from bytes = e ∙ take_all (length bytes - from) (drop from bytes) all in
+    sym (ap unbroken same) ∙ unbroken_from w (λ k lt. h k (omega arith) lt)
+
+pub searched_some : (bytes w : List ℕ) (from at : ℕ) → from ≤ length bytes → w ≡ take (length bytes - from) (drop from bytes) → at < length w → (get_or w at 0 == 10) ≡ true → ((k : ℕ) → 0 ≤ k → k < at → (get_or w k 0 == 10) ≡ true → ⊥) → (from ≤ from + at) × (from + at < length bytes) × (get_or bytes (from + at) 0 ≡ 10) × (unbroken (slice_range bytes from (from + at)) ≡ true)
+searched_some bytes w from at le e lt here before =
+    let all : length (drop from bytes) ≤ length bytes - from = omega (arith, length-drop from bytes) in
+    let same : w ≡ drop from bytes = e ∙ take_all (length bytes - from) (drop from bytes) all in
+    let len : length w ≡ length bytes - from = ap length same ∙ length-drop from bytes in
+    let range : slice_range bytes from (from + at) ≡ take at w = grind (arith, common_steps) in
+    let short : length (take at w) ≡ at = length-take-le at w (omega arith) in (
+      omega arith,
+      omega (arith, len),
+      sym (get_or-drop from bytes at 0) ∙ sym (ap (λ l. get_or l at 0) same) ∙ eqb-true (get_or w at 0) 10 here,
+      ap unbroken range ∙ unbroken_from (take at w) (λ k k_lt is. before k (omega arith) (omega (arith, short)) (rw (← get_or-take at w k 0 (omega (arith, short))) is)),
+    )
+
+pub unbroken_join : (xs ys : List ℕ) → unbroken xs ≡ true → unbroken ys ≡ true → unbroken (xs ++ ys) ≡ true
+unbroken_join [] ys h k = k
+unbroken_join (x ∷ xs) ys h k = rw (not_newline x xs h) (unbroken_join xs ys (rest_unbroken x xs h) k)
+
+-- a line that stands in a piece
+pub line_split : (w : List ℕ) (from end : ℕ) → from ≤ end → end < length w → get_or w end 0 ≡ 10 → drop from w ≡ slice_range w from end ++ (10 ∷ drop (end + 1) w)
+line_split w from end le lt is = drop_split w from end le ∙ ap (λ l. slice_range w from end ++ l) (drop_more w end 0 lt ∙ ap (λ b. b ∷ drop (end + 1) w) is)
+
+pub heard_line : (line : List ℕ) → unbroken line ≡ true → 0 < length line → heard_in line ≡ heard line ∷ []
+heard_line [] h lt = absurd (omega arith)
+heard_line (x ∷ line) h lt =
+    let e : lines_of ((x ∷ line) ++ []) ≡ ((x ∷ line) ++ []) ∷ [] = first_line x line [] h in
+    let same : (x ∷ line) ++ [] ≡ x ∷ line = append-nil (x ∷ line) in
+    ap (map heard) (sym (ap lines_of same) ∙ e ∙ ap (λ l. l ∷ []) same)
+
+too_long : (line : List ℕ) → 65536 < length line → heard line ≡ TooLong
+unfolding heard
+too_long line lt = let t : nat_lt 65536 (length line) ≡ true = lt-ltb 65536 (length line) lt in rw t refl
+
+heard_long : (line more : List ℕ) → unbroken line ≡ true → 65536 < length line → heard_in (line ++ more) ≡ TooLong ∷ heard_in (past more)
+heard_long [] more h lt = absurd (omega arith)
+heard_long (x ∷ line) more h lt =
+    let long : 65536 < length ((x ∷ line) ++ upto more) = omega (arith, lt, length-append (x ∷ line) (upto more)) in
+    ap (map heard) (first_line x line more h) ∙ ap (λ t. t ∷ heard_in (past more)) (too_long ((x ∷ line) ++ upto more) long)
+
+pub IsTaken-none : (bytes : List ℕ) → IsTaken bytes [] bytes
+IsTaken-none bytes = record { says = λ more. refl }
+
+-- one more line of a piece
+pub IsTaken-line : (bytes w : List ℕ) (hs : List Heard) (from end : ℕ) (h : Heard) → IsTaken bytes hs (drop from w) → from ≤ end → end < length w → get_or w end 0 ≡ 10 → unbroken (slice_range w from end) ≡ true → h ≡ heard (slice_range w from end) → IsTaken bytes (hs ++ h ∷ []) (drop (end + 1) w)
+IsTaken-line bytes w hs from end h t le lt is whole e = record {
+  says = λ more.
+      let line : List ℕ = slice_range w from end in
+      let split : drop from w ++ more ≡ line ++ (10 ∷ (drop (end + 1) w ++ more)) = ap (λ l. l ++ more) (line_split w from end le lt is) ∙ append_assoc line (10 ∷ drop (end + 1) w) more in
+      let one : heard_in (drop from w ++ more) ≡ h ∷ heard_in (drop (end + 1) w ++ more) = ap heard_in split ∙ ap (map heard) (whole_line line (drop (end + 1) w ++ more) whole) ∙ ap (λ x. x ∷ heard_in (drop (end + 1) w ++ more)) (sym e) in
+      t.says more ∙ ap (λ l. hs ++ l) one ∙ sym (append_assoc hs (h ∷ []) (heard_in (drop (end + 1) w ++ more)));
+}
+
+pub heard_taken : (bytes : List ℕ) (hs : List Heard) (rest : List ℕ) → IsTaken bytes hs rest → heard_in bytes ≡ hs ++ heard_in rest
+heard_taken bytes hs rest t = sym (ap heard_in (append-nil bytes)) ∙ t.says [] ∙ ap (λ l. hs ++ heard_in l) (append-nil rest)
+
+pub false_true : false ≡ true → ⊥
+false_true e = cc
+
+-- a piece that is skipped as a whole
+pub IsCut-skipped : (piece : List ℕ) → unbroken piece ≡ true → IsCut piece true [] true (drop (length piece) piece)
+IsCut-skipped piece h =
+    let none : drop (length piece) piece ≡ [] = drop_all (length piece) piece (omega arith) in
+    rw none (record { whole = refl; bare = λ e. refl; says = λ more. ap heard_in (past_unbroken piece more h) })
+
+-- a piece of which the rest is too long for a line
+pub IsCut-long : (piece : List ℕ) (skipping : Bool) (hs : List Heard) (start end : ℕ) → ((more : List ℕ) → left skipping (piece ++ more) ≡ drop start piece ++ more) → IsTaken (drop start piece) hs (drop end piece) → unbroken (drop end piece) ≡ true → 65536 < length (drop end piece) → IsCut piece skipping (hs ++ TooLong ∷ []) true (drop (length piece) piece)
+IsCut-long piece skipping hs start end begins t h lt =
+    let none : drop (length piece) piece ≡ [] = drop_all (length piece) piece (omega arith) in
+    rw none (record {
+      whole = refl;
+      bare = λ e. refl;
+      says = λ more. ap heard_in (begins more) ∙ t.says more ∙ ap (λ l. hs ++ l) (heard_long (drop end piece) more h lt) ∙ sym (append_assoc hs (TooLong ∷ []) (heard_in (past more)));
+    })
+
+-- one more piece
+pub IsCut-more : (read kept new piece : List ℕ) (hs hs' : List Heard) (skips skips' : Bool) (kept' : List ℕ) → IsCut read false hs skips kept → piece ≡ kept ++ new → IsCut piece skips hs' skips' kept' → IsCut (read ++ new) false (hs ++ hs') skips' kept'
+IsCut-more read kept new piece hs hs' skips skips' kept' a e b = record {
+  whole = b.whole;
+  bare = b.bare;
+  says = λ more.
+      let joined : kept ++ (new ++ more) ≡ piece ++ more = sym (append_assoc kept new more) ∙ ap (λ l. l ++ more) (sym e) in
+      ap heard_in (append_assoc read new more) ∙ a.says (new ++ more) ∙ ap (λ l. hs ++ heard_in (left skips l)) joined ∙ ap (λ l. hs ++ l) (b.says more) ∙ sym (append_assoc hs hs' (heard_in (left skips' (kept' ++ more))));
+}
+
+-- what the bytes say that were read so far and a piece more
+pub heard_more : (read kept new piece : List ℕ) (hs : List Heard) (skips : Bool) → IsCut read false hs skips kept → piece ≡ kept ++ new → heard_in (read ++ new) ≡ hs ++ heard_in (left skips piece)
+heard_more read kept new piece hs skips a e = a.says new ∙ ap (λ l. hs ++ heard_in (left skips l)) (sym e)
+
+-- what all bytes say
+pub heard_all : (read kept : List ℕ) (hs : List Heard) (skips : Bool) → IsCut read false hs skips kept → heard_in read ≡ hs ++ heard_in kept
+heard_all read kept hs true a =
+    let none : kept ≡ [] = a.bare refl in
+    sym (ap heard_in (append-nil read)) ∙ a.says [] ∙ ap (λ l. hs ++ heard_in (past (l ++ []))) none ∙ ap (λ l. hs ++ heard_in l) (sym none)
+heard_all read kept hs false a = sym (ap heard_in (append-nil read)) ∙ a.says [] ∙ ap (λ l. hs ++ heard_in l) (append-nil kept)
+
+pub IsCut-none : IsCut [] false [] false []
+IsCut-none = record { whole = refl; bare = λ e. refl; says = λ more. refl }
+
+pub heard_none : (line : List ℕ) → (length line == 0) ≡ true → heard_in line ≡ []
+heard_none [] h = refl
+heard_none (x ∷ line) h = absurd (grind (arith, common_steps))
+
+pub nonempty : (line : List ℕ) → (length line == 0) ≡ false → 0 < length line
+nonempty [] h = absurd (grind (arith, common_steps))
+nonempty (x ∷ line) h = omega arith
+
+pub unbroken_nothing : (w : List ℕ) (j : ℕ) → unbroken (slice_range w j j) ≡ true
+unbroken_nothing w j = let z : j - j ≡ 0 = omega arith in rw z refl
+
+slice_join : (w : List ℕ) (from place end : ℕ) → from ≤ place → place ≤ end → slice_range w from end ≡ slice_range w from place ++ slice_range w place end
+slice_join w from place end le more =
+    let size : end - from ≡ (place - from) + (end - place) = omega arith in
+    let at : from + (place - from) ≡ place = omega arith in
+    ap (λ n. take n (drop from w)) size ∙ take-add (place - from) (end - place) (drop from w) ∙ ap (λ l. take (place - from) (drop from w) ++ take (end - place) l) (drop-drop (place - from) from w ∙ ap (λ n. drop n w) at)
+
+pub unbroken_slices : (w : List ℕ) (from place end : ℕ) → from ≤ place → place ≤ end → unbroken (slice_range w from place) ≡ true → unbroken (slice_range w place end) ≡ true → unbroken (slice_range w from end) ≡ true
+unbroken_slices w from place end le more h k = ap unbroken (slice_join w from place end le more) ∙ unbroken_join (slice_range w from place) (slice_range w place end) h k
+
+pub unbroken_rest : (w : List ℕ) (from place : ℕ) → from ≤ place → unbroken (slice_range w from place) ≡ true → unbroken (drop place w) ≡ true → unbroken (drop from w) ≡ true
+unbroken_rest w from place le h k = ap unbroken (drop_split w from place le) ∙ unbroken_join (slice_range w from place) (drop place w) h k
+
+-- where the lines of a piece begin that comes while the rest of a line is skipped
+pub begins_past : (piece : List ℕ) (end : ℕ) → end < length piece → get_or piece end 0 ≡ 10 → unbroken (slice_range piece 0 end) ≡ true → (more : List ℕ) → past (piece ++ more) ≡ drop (end + 1) piece ++ more
+begins_past piece end lt is h more =
+    let split : piece ≡ slice_range piece 0 end ++ (10 ∷ drop (end + 1) piece) = line_split piece 0 end (omega arith) lt is in
+    ap (λ l. past (l ++ more)) split ∙ ap past (append_assoc (slice_range piece 0 end) (10 ∷ drop (end + 1) piece) more) ∙ past_newline (slice_range piece 0 end) (drop (end + 1) piece ++ more) h
+
+pub heard_from : (piece : List ℕ) (skipping : Bool) (start : ℕ) → ((more : List ℕ) → left skipping (piece ++ more) ≡ drop start piece ++ more) → heard_in (left skipping piece) ≡ heard_in (drop start piece)
+heard_from piece skipping start begins = ap heard_in (sym (ap (left skipping) (append-nil piece)) ∙ begins [] ∙ append-nil (drop start piece))
+
+pub heard_rest : (line : List ℕ) → unbroken line ≡ true → 65536 < length line → heard_in line ≡ TooLong ∷ []
+heard_rest line h lt = sym (ap heard_in (append-nil line)) ∙ heard_long line [] h lt
+
+pub piece_split : (room : List ℕ) (held n : ℕ) → take (held + n) room ≡ take held room ++ slice_range room held (held + n)
+piece_split room held n =
+    let size : held + n - held ≡ n = omega arith in
+    take-add held n room ∙ ap (λ k. take held room ++ take k (drop held room)) (sym size)
+
+pub length-piece : (room : List ℕ) (held n : ℕ) → held + n ≤ length room → length (slice_range room held (held + n)) ≡ n
+length-piece room held n le =
+    let size : held + n - held ≡ n = omega arith in
+    ap (λ k. length (take k (drop held room))) size ∙ length-take-le n (drop held room) (omega (arith, length-drop held room))
+
+pub held_none : (room : List ℕ) (held : ℕ) → held ≤ length room → take held room ≡ [] → held ≡ 0
+held_none room held le e = omega (arith, length-take-le held room le, ap length e)
+
+pub nothing_more : (xs ys : List ℕ) → length ys ≡ 0 → xs ++ ys ≡ xs
+nothing_more xs [] h = append-nil xs
+nothing_more xs (y ∷ ys) h = absurd (omega (arith, h))
+
+pub rest_kept : (room : List ℕ) (start end : ℕ) → start ≤ end → slice_range room start end ≡ drop start (take end room)
+rest_kept room start end le =
+    let size : start + (end - start) ≡ end = omega arith in
+    sym (drop-take start (end - start) room) ∙ ap (λ n. drop start (take n room)) size

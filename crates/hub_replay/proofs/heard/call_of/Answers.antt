@@ -1,0 +1,19 @@
+use Rattle.std.proofs.Common.{◌≡◌, ◌∙◌, sym, refl, true, false, cond, Err}
+use Rattle.std.specs.Str.{is_utf8}
+use Rattle.std.proofs.lemmas.Str.{IsUtf8-from_is_utf8, is_utf8-from_IsUtf8}
+use Rattle.serde_json.specs.Read.{read as read_json}
+use Rattle.taf_messages.specs.declared.fault.RecordFault.TheVariants.{BadJson}
+use Rattle.taf_messages.specs.Reading.{Gives, call_read}
+use Rattle.hub_replay.specs.Lines.{call_in}
+use Rattle.hub_replay.proofs.heard.call_of.Goals as goal
+
+false_true : false ≡ true → ⊥
+false_true e = cc
+
+pub returns : goal.returns
+unfolding call_in
+returns c =
+    elim (is_utf8 c.args.line.now) as (λ t. is_utf8 c.args.line.now ≡ t → Gives c.read_call.result (cond t (call_read (read_json c.args.line.now)) (Err BadJson))) [
+      | true ↦ λ e. c.read_call.ensures.text (IsUtf8-from_is_utf8 c.args.line.now e)
+      | false ↦ λ e. c.read_call.ensures.no_text (λ u. false_true (sym e ∙ is_utf8-from_IsUtf8 c.args.line.now u))
+    ] refl

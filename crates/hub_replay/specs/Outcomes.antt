@@ -1,0 +1,85 @@
+-- What lines lead to: the history, what is written, and the counts.
+use Rattle.std.specs.Prelude.{◌≡◌, ℕ, ◌+◌, ◌<◌, ◌≤◌, nat_lt, Bool, true, false, List, [], ◌∷◌, ◌++◌, length, fold, Option, Some, None, if◌then◌else◌, codes}
+use Rattle.taf_messages.specs.declared.call.Call.{Call}
+use Rattle.taf_messages.specs.declared.reply.Reply.{Reply}
+use Rattle.hub_model.specs.declared.entry.Entry.{Entry}
+use Rattle.hub_model.specs.Answers.{answer}
+use Rattle.hub_replay.specs.declared.counts.Counts.{Counts}
+use Rattle.hub_replay.specs.declared.heard.Heard.{Heard}
+use Rattle.hub_replay.specs.declared.heard.Heard.TheVariants.{Blank, TooLong, Fault, Called}
+use Rattle.hub_replay.specs.Lines.{heard_in, fault_text, reply_text}
+
+-- the entries of the history, the bytes written so far, and the counts
+pub record Outcome : Type 0 where
+  pub entries : List Entry
+  pub output : List ℕ
+  pub counts : Counts
+
+abbrev pub one_fault_more : Counts → Counts
+one_fault_more c = record { lines = c.lines + 1; calls = c.calls; faults = c.faults + 1 }
+
+abbrev pub one_call_more : Counts → Counts
+one_call_more c = record { lines = c.lines + 1; calls = c.calls + 1; faults = c.faults }
+
+-- a line that tells a fault
+unfoldable pub faulted : Outcome → List ℕ → Outcome
+faulted o text = record {
+  entries = o.entries;
+  output = o.output ++ (text ++ 10 ∷ []);
+  counts = one_fault_more o.counts;
+}
+
+-- the entry that a call makes: it has the hub's answer after the entries before it
+unfoldable pub entry_of : List Entry → Call → Entry
+entry_of entries call = record { call = call; reply = answer entries call }
+
+-- a call's entry, and the line of its reply
+unfoldable pub replied : Outcome → Call → Outcome
+replied o call = record {
+  entries = o.entries ++ entry_of o.entries call ∷ [];
+  output = o.output ++ (reply_text (entry_of o.entries call).reply ++ 10 ∷ []);
+  counts = one_call_more o.counts;
+}
+
+-- what one more line leads to: a full history takes no call
+abbrev pub after : Outcome → Heard → Outcome
+after o Blank = o
+after o TooLong = faulted o (codes "{\"fault\":\"line_too_long\"}")
+after o (Fault fault) = faulted o (fault_text fault)
+after o (Called call) = if nat_lt (length o.entries) 1000000 then replied o call else faulted o (codes "{\"fault\":\"hub_full\"}")
+
+-- a line that is answered: all but the blank ones
+abbrev pub is_told : Heard → Bool
+is_told Blank = false
+is_told _ = true
+
+-- what lines lead to
+abbrev pub outcome : Outcome → List Heard → Outcome
+outcome o hs = fold after o hs
+
+abbrev pub start_of : List Entry → Outcome
+start_of entries = record { entries = entries; output = []; counts = record { lines = 0; calls = 0; faults = 0 } }
+
+-- the lines of what was read lead from the old entries to the new ones, with this written and counted
+abbrev pub Answers : List Entry → List ℕ → List Entry → List ℕ → Counts → Type 0
+Answers old read new written counts = outcome (start_of old) (heard_in read) ≡ record { entries = new; output = written; counts = counts }
+
+-- The lines were answered up to some place. What was written begins with the whole answers to the lines `told`, and
+-- is a front of those to `told` and `last`. The entries are those that the calls among both lead to, and `last`
+-- brought at most one.
+pub record IsStopped (start : Outcome) (hs : List Heard) (written : List ℕ) (entries : List Entry) : Type 0 where
+  pub told : List Heard
+  pub last : List Heard
+  pub rest : List Heard
+  pub split : hs ≡ told ++ (last ++ rest)
+  pub cut : List ℕ
+  pub begins : written ≡ (outcome start told).output ++ cut
+  pub lacks : List ℕ
+  pub within : written ++ lacks ≡ (outcome start (told ++ last)).output
+  pub entered : entries ≡ (outcome start (told ++ last)).entries
+  pub one : length entries ≤ length (outcome start told).entries + 1
+
+-- a call that was given to the hub: it is the last entry, with its reply, or the history is full
+abbrev pub IsEntered : List Entry → Call → List Entry → Option Reply → Type 0
+IsEntered old call new (Some reply) = (length old < 1000000) × (new ≡ old ++ entry_of old call ∷ []) × (reply ≡ (entry_of old call).reply)
+IsEntered old call new None = (length old ≡ 1000000) × (new ≡ old)

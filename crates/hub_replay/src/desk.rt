@@ -1,0 +1,100 @@
+//! What is still to be written, and what was counted.
+ghost use Rattle.std.specs.Prelude.{◌≡◌, ◌≢◌, ◌+◌, ◌<◌, ◌≤◌, ◌^◌, ◌++◌, ◌∷◌, [], List, ℕ, OnOk, OnErr, IfErr};
+ghost use Rattle.std.specs.Io.KnownBytes.{Appends};
+ghost use Rattle.taf_messages.specs.declared.fault.RecordFault.TheVariants.{Memory as NoMemory};
+ghost use Rattle.hub_replay.specs.Lines.{fault_text, reply_text};
+ghost use Rattle.hub_replay.specs.Running.{tally};
+ghost use Rattle.hub_replay.specs.Outcomes.{one_fault_more, one_call_more};
+
+use crate::counts::Counts;
+use std::alloc::Global;
+use taf_codes::{Failed, Memory, Sink};
+use taf_messages::{RecordFault, Reply, append_fault, append_reply};
+
+/// Lines that are still to be written, and the counts so far.
+#[derive(Drop)]
+pub(crate) struct Desk {
+    pub(crate) alloc: Global,
+    pub(crate) out: Vec<u8>,
+    pub(crate) counts: Counts,
+}
+
+impl Desk {
+    pub(crate) fn new(alloc: Global) -> Desk
+        ensures out { result.out.items ≡ [] }
+        ensures counts { result.counts ≡ record { lines = 0; calls = 0; faults = 0 } }
+    {
+        Desk {
+            alloc,
+            out: Vec::new(alloc),
+            counts: Counts {
+                lines: 0,
+                calls: 0,
+                faults: 0,
+            },
+        }
+    }
+
+    /// Adds a line of this text, which tells a fault.
+    pub(crate) fn say_text(&mut self, text: &[u8]) -> Result<(), Memory>
+        requires { tally self.old.counts < 2 ^ 62 }
+        ensures out { OnOk result (self.new.out.items ≡ self.old.out.items ++ (text.now ++ 10 ∷ [])) }
+        ensures counts { OnOk result (self.new.counts ≡ one_fault_more self.old.counts) }
+    {
+        self.out.extend_from_slice(text)?;
+        self.end_fault_line()
+    }
+
+    /// Adds the line of a record's fault.
+    #[tactic(auto, unfolding(crate::specs::Lines::fault_text))]
+    pub(crate) fn say_fault(&mut self, fault: &RecordFault) -> Result<(), Memory>
+        requires few { tally self.old.counts < 2 ^ 62 }
+        requires told { fault.now ≢ NoMemory }
+        ensures out { OnOk result (self.new.out.items ≡ self.old.out.items ++ (fault_text fault.now ++ 10 ∷ [])) }
+        ensures counts { OnOk result (self.new.counts ≡ one_fault_more self.old.counts) }
+    {
+        append_fault(self.alloc, &mut self.out, fault)?;
+        self.end_fault_line()
+    }
+
+    /// Adds the line of a reply.
+    #[tactic(auto, unfolding(crate::specs::Lines::reply_text))]
+    pub(crate) fn say_reply(&mut self, reply: &Reply) -> Result<(), Memory>
+        requires { tally self.old.counts < 2 ^ 62 }
+        ensures out { OnOk result (self.new.out.items ≡ self.old.out.items ++ (reply_text reply.now ++ 10 ∷ [])) }
+        ensures counts { OnOk result (self.new.counts ≡ one_call_more self.old.counts) }
+    {
+        append_reply(self.alloc, &mut self.out, reply)?;
+        self.out.push(b'\n')?;
+        self.counts.lines += 1;
+        self.counts.calls += 1;
+        Ok(())
+    }
+
+    // Ends a line that tells a fault.
+    fn end_fault_line(&mut self) -> Result<(), Memory>
+        requires { tally self.old.counts < 2 ^ 62 }
+        ensures out { OnOk result (self.new.out.items ≡ self.old.out.items ++ 10 ∷ []) }
+        ensures counts { OnOk result (self.new.counts ≡ one_fault_more self.old.counts) }
+    {
+        self.out.push(b'\n')?;
+        self.counts.lines += 1;
+        self.counts.faults += 1;
+        Ok(())
+    }
+}
+
+/// Writes all of the bytes. Where the writer fails, it took a front of them.
+pub(crate) fn write_all<W: Sink>(writer: &mut W, bytes: &[u8]) -> Result<(), Failed>
+    ensures ok { OnOk result (Appends (W.contents writer.old) (W.contents writer.new) bytes.now) }
+    ensures err { OnErr result ((front rest : List ℕ) × (bytes.now ≡ front ++ rest) × Appends (W.contents writer.old) (W.contents writer.new) front) }
+    ensures failed { OnErr result (W.failures writer.new ≡ W.failures writer.old + 1) }
+    ensures kept { OnOk result (W.failures writer.new ≡ W.failures writer.old) }
+{
+    let mut rest = bytes;
+    while !rest.is_empty() {
+        let count = writer.push(rest)?;
+        rest = &rest[count..];
+    }
+    Ok(())
+}

@@ -1,0 +1,155 @@
+//! One line at a time: its answer, and what is written of it.
+ghost use Rattle.std.specs.Prelude.{◌≡◌, ◌≢◌, ◌+◌, ◌*◌, ◌<◌, ◌≤◌, ◌^◌, ◌++◌, ◌∷◌, [], List, IfOk, OnOk, OnErr, IfErr, vec_len};
+ghost use Rattle.hub_model.specs.declared.entry.Entry.{Entry};
+ghost use Rattle.taf_messages.specs.declared.fault.RecordFault.TheVariants.{Memory as NoMemory};
+ghost use Rattle.hub_replay.specs.declared.heard.Heard.TheVariants.{Called};
+ghost use Rattle.hub_replay.specs.Lines.{CanBeTold, fault_text};
+ghost use Rattle.hub_replay.specs.Outcomes.{IsEntered, one_fault_more};
+ghost use Rattle.hub_replay.specs.Running.{Goes, Stops, tally, ComesLate};
+
+use crate::desk::{Desk, write_all};
+use crate::fault::RunFault;
+use crate::heard::Heard;
+use hub_core::{Hub, HubFault};
+use taf_codes::{Memory, Sink};
+use taf_messages::{Call, RecordFault, Reply};
+
+// From this many bytes on the lines that are pending are written.
+const MUCH: usize = 32_768;
+
+/// Answers a line.
+pub(crate) fn turn<W: Sink>(
+    writer: &mut W,
+    hub: &mut Hub,
+    desk: &mut Desk,
+    heard: Heard,
+) -> Result<(), RunFault>
+    requires few { tally desk.old.counts < 2 ^ 62 }
+    requires told { CanBeTold heard }
+    ensures ok { OnOk result (Goes (W.contents writer.old) (W.contents writer.new) hub.old desk.old hub.new desk.new (heard ∷ [])) }
+    ensures err { OnErr result (Stops (W.contents writer.old) (W.contents writer.new) hub.old desk.old hub.new (heard ∷ [])) }
+    ensures fault { IfErr result (λ f. ComesLate f (W.failures writer.old) (W.failures writer.new)) }
+    ensures kept { OnOk result (W.failures writer.new ≡ W.failures writer.old) }
+    ensures counted { OnOk result (tally desk.new.counts ≤ tally desk.old.counts + 2) }
+{
+    match heard {
+        Heard::Blank => Ok(()),
+        Heard::TooLong => say_text(desk, b"{\"fault\":\"line_too_long\"}"),
+        Heard::Fault(fault) => say_fault(desk, &fault),
+        Heard::Called(call) => give(writer, hub, desk, call),
+    }
+}
+
+// Adds a line of this text, which tells a fault.
+fn say_text(desk: &mut Desk, text: &[u8]) -> Result<(), RunFault>
+    requires { tally desk.old.counts < 2 ^ 62 }
+    ensures out { OnOk result (desk.new.out.items ≡ desk.old.out.items ++ (text.now ++ 10 ∷ [])) }
+    ensures counts { OnOk result (desk.new.counts ≡ one_fault_more desk.old.counts) }
+    ensures err { IfErr result (λ f. f ≡ RunFault.Memory) }
+{
+    match desk.say_text(text) {
+        Ok(()) => Ok(()),
+        Err(Memory) => Err(RunFault::Memory),
+    }
+}
+
+// Adds the line of a record's fault.
+fn say_fault(desk: &mut Desk, fault: &RecordFault) -> Result<(), RunFault>
+    requires few { tally desk.old.counts < 2 ^ 62 }
+    requires told { fault.now ≢ NoMemory }
+    ensures out { OnOk result (desk.new.out.items ≡ desk.old.out.items ++ (fault_text fault.now ++ 10 ∷ [])) }
+    ensures counts { OnOk result (desk.new.counts ≡ one_fault_more desk.old.counts) }
+    ensures err { IfErr result (λ f. f ≡ RunFault.Memory) }
+{
+    match desk.say_fault(fault) {
+        Ok(()) => Ok(()),
+        Err(Memory) => Err(RunFault::Memory),
+    }
+}
+
+// Gives a call to the hub, and writes its reply and what was pending. So of the calls in the
+// history only the last may lack its reply's line.
+fn give<W: Sink>(writer: &mut W, hub: &mut Hub, desk: &mut Desk, call: Call) -> Result<(), RunFault>
+    requires { tally desk.old.counts < 2 ^ 62 }
+    ensures ok { OnOk result (Goes (W.contents writer.old) (W.contents writer.new) hub.old desk.old hub.new desk.new (Called call ∷ [])) }
+    ensures err { OnErr result (Stops (W.contents writer.old) (W.contents writer.new) hub.old desk.old hub.new (Called call ∷ [])) }
+    ensures fault { IfErr result (λ f. ComesLate f (W.failures writer.old) (W.failures writer.new)) }
+    ensures kept { OnOk result (W.failures writer.new ≡ W.failures writer.old) }
+    ensures counted { OnOk result (tally desk.new.counts ≤ tally desk.old.counts + 2) }
+{
+    match enter(hub, call) {
+        Ok(Some(reply)) => {
+            let Ok(()) = desk.say_reply(&reply) else {
+                return Err(RunFault::Memory);
+            };
+            let Ok(()) = write_all(writer, desk.out.as_slice()) else {
+                return Err(RunFault::Write);
+            };
+            desk.out.clear();
+            Ok(())
+        }
+        Ok(None) => say_text(desk, b"{\"fault\":\"hub_full\"}"),
+        Err(Memory) => Err(RunFault::Memory),
+    }
+}
+
+// Gives a call to the hub. None where its history is full.
+#[tactic(auto, unfolding(crate::specs::Outcomes::entry_of))]
+fn enter(hub: &mut Hub, call: Call) -> Result<Option<Reply>, Memory>
+    ensures ok { IfOk result (λ reply. IsEntered hub.old call hub.new reply) }
+    ensures err { OnErr result (hub.new ≡ hub.old) }
+{
+    match hub.apply(call) {
+        Ok((_, reply)) => Ok(Some(reply)),
+        Err(HubFault::Full(_)) => Ok(None),
+        Err(HubFault::Memory) => Err(Memory),
+    }
+}
+
+/// Writes what is pending.
+pub(crate) fn write_out<W: Sink>(writer: &mut W, desk: &mut Desk) -> Result<(), RunFault>
+    ensures ok { OnOk result ((e : List Entry) → Goes (W.contents writer.old) (W.contents writer.new) e desk.old e desk.new []) }
+    ensures err { OnErr result ((e : List Entry) → Stops (W.contents writer.old) (W.contents writer.new) e desk.old e []) }
+    ensures fault { IfErr result (λ f. ComesLate f (W.failures writer.old) (W.failures writer.new)) }
+    ensures kept { OnOk result (W.failures writer.new ≡ W.failures writer.old) }
+    ensures counts { OnOk result (desk.new.counts ≡ desk.old.counts) }
+    ensures empty { OnOk result (desk.new.out.items ≡ []) }
+{
+    let Ok(()) = write_all(writer, desk.out.as_slice()) else {
+        return Err(RunFault::Write);
+    };
+    desk.out.clear();
+    Ok(())
+}
+
+/// Writes what is pending, if it is much.
+pub(crate) fn write_much<W: Sink>(writer: &mut W, desk: &mut Desk) -> Result<(), RunFault>
+    ensures ok { OnOk result ((e : List Entry) → Goes (W.contents writer.old) (W.contents writer.new) e desk.old e desk.new []) }
+    ensures err { OnErr result ((e : List Entry) → Stops (W.contents writer.old) (W.contents writer.new) e desk.old e []) }
+    ensures fault { IfErr result (λ f. ComesLate f (W.failures writer.old) (W.failures writer.new)) }
+    ensures kept { OnOk result (W.failures writer.new ≡ W.failures writer.old) }
+    ensures counts { OnOk result (desk.new.counts ≡ desk.old.counts) }
+{
+    if desk.out.len() < MUCH {
+        return Ok(());
+    }
+    write_out(writer, desk)
+}
+
+/// Writes what is pending, and has the writer send it on.
+pub(crate) fn flush<W: Sink>(writer: &mut W, desk: &mut Desk) -> Result<(), RunFault>
+    ensures ok { OnOk result ((e : List Entry) → Goes (W.contents writer.old) (W.contents writer.new) e desk.old e desk.new []) }
+    ensures err { OnErr result ((e : List Entry) → Stops (W.contents writer.old) (W.contents writer.new) e desk.old e []) }
+    ensures fault { IfErr result (λ f. ComesLate f (W.failures writer.old) (W.failures writer.new)) }
+    ensures kept { OnOk result (W.failures writer.new ≡ W.failures writer.old) }
+    ensures counts { OnOk result (desk.new.counts ≡ desk.old.counts) }
+    ensures empty { OnOk result (desk.new.out.items ≡ []) }
+{
+    if let Err(fault) = write_out(writer, desk) {
+        return Err(fault);
+    }
+    match writer.flush() {
+        Ok(()) => Ok(()),
+        Err(_) => Err(RunFault::Write),
+    }
+}

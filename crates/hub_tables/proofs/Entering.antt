@@ -1,0 +1,75 @@
+-- Journeys that go on in the table of wagons.
+use Rattle.std.proofs.Common.{◌≡◌, ℕ, Bool, true, false, cond, List, [], ◌∷◌, ◌++◌, length, Option, Some, None, IfSome, refl, sym, ap, subst, ◌∙◌, arith, true≢false, if◌then◌else◌}
+use Rattle.std.specs.Prelude.{nat_eq}
+use Rattle.std.specs.Option.{option_map_or}
+use Rattle.std.specs.Map.{lookup, update_all}
+use Rattle.indexmap.specs.IndexMap.{IndexMap, get, insert_entry, insert_all}
+use Rattle.std.proofs.lemmas.Bool.{eqb-true}
+use Rattle.journey.specs.declared.event.Event.{Event}
+use Rattle.journey.specs.Journey.{Journey}
+use Rattle.hub_model.specs.Faults.{is_unknown}
+use Rattle.hub_tables.specs.Tabled.{events_in, IsFiled, AreFiled}
+use Rattle.hub_tables.specs.Taking.{IsAdmitted, put_on}
+
+pub nothing_left : {X : Type 0} (xs : List X) → length xs ≡ 0 → xs ≡ []
+nothing_left [] h = refl
+nothing_left (x ∷ xs) h = absurd (omega arith)
+
+-- the events of a journey, if there is one
+abbrev pub of_journey : Option Journey → List Event
+of_journey o = option_map_or (λ j. j.events) o []
+
+-- the events of a wagon that is in the table
+pub events_there : (wagons : List (ℕ × Journey)) (w : ℕ) (j : Journey) → lookup (nat_eq w) wagons ≡ Some j → events_in wagons w ≡ j.events
+events_there wagons w j found = ap of_journey found
+
+pub admitted_there : (wagons : List (ℕ × Journey)) (w : ℕ) (j : Journey) (e : Event) → lookup (nat_eq w) wagons ≡ Some j → IsAdmitted (events_in wagons w) e → IsAdmitted j.events e
+admitted_there wagons w j e found h = subst (λ (es : List Event). IsAdmitted es e) (events_there wagons w j found) h
+
+-- a wagon without journey is unknown
+pub not_there : (wagons : List (ℕ × Journey)) (w : ℕ) → lookup (nat_eq w) wagons ≡ None → is_unknown (events_in wagons w) ≡ false → ⊥
+not_there wagons w none begun = true≢false (sym (ap (λ (o : Option Journey). is_unknown (of_journey o)) none) ∙ begun)
+
+module _ (before after : List (ℕ × Journey)) (w : ℕ) (j k : Journey) (e : Event) (found : lookup (nat_eq w) before ≡ Some j) (put : k ≡ record j { events = j.events ++ e ∷ [] })
+  where
+    module _ (written : (q : ℕ) → lookup (nat_eq q) after ≡ cond (nat_eq w q) (Some k) (lookup (nat_eq q) before)) where
+      put_by : (q : ℕ) (b : Bool) → nat_eq w q ≡ b → of_journey (cond b (Some k) (lookup (nat_eq q) before)) ≡ (if b then events_in before q ++ e ∷ [] else events_in before q)
+      put_by q true same =
+          ap (λ (t : Journey). t.events) put ∙
+          ap (λ (es : List Event). es ++ e ∷ []) (sym (events_there before w j found) ∙ ap (events_in before) (eqb-true w q same))
+      put_by q false same = refl
+
+      pub put_written : (q : ℕ) → events_in after q ≡ put_on (events_in before) (w, e) q
+      put_written q = ap of_journey (written q) ∙ put_by q (nat_eq w q) refl
+
+    module _ (filed : AreFiled before) (written : (q : ℕ) → lookup (nat_eq q) after ≡ cond (nat_eq w q) (Some k) (lookup (nat_eq q) before)) where
+      still_begun : (events : List Event) → is_unknown (events ++ e ∷ []) ≡ false
+      still_begun [] = refl
+      still_begun (first ∷ events) = refl
+
+      here : IsFiled w j
+      here = subst (λ (o : Option Journey). IfSome o (IsFiled w)) found (filed w)
+
+      there : IsFiled w k
+      there = record {
+        wagon = ap (λ (t : Journey). t.wagon) put ∙ here.wagon;
+        begun = ap (λ (t : Journey). is_unknown t.events) put ∙ still_begun j.events;
+      }
+
+      filed_by : (q : ℕ) (b : Bool) → nat_eq w q ≡ b → IfSome (cond b (Some k) (lookup (nat_eq q) before)) (IsFiled q)
+      filed_by q true same = subst (λ (v : ℕ). IsFiled v k) (eqb-true w q same) there
+      filed_by q false same = filed q
+
+      pub put_filed : AreFiled after
+      put_filed q = subst (λ (o : Option Journey). IfSome o (IsFiled q)) (sym (written q)) (filed_by q (nat_eq w q) refl)
+
+-- a table into which entries are put one after another
+module _ {K V S : Type 0} (eq : K → K → Bool) (before table next : IndexMap K V S) (all items rest : List (K × V)) (key : K) (value : V) (steps : items ≡ (key, value) ∷ rest) where
+  pub entered_more : next.entries ≡ insert_entry eq table.entries key value → insert_all eq table.entries items ≡ insert_all eq before.entries all → insert_all eq next.entries rest ≡ insert_all eq before.entries all
+  entered_more entry h =
+      ap (λ (es : List (K × V)). insert_all eq es rest) entry ∙ ap (λ (xs : List (K × V)). insert_all eq table.entries xs) (sym steps) ∙ h
+
+  pub values_more : ((q : K) → get eq next q ≡ cond (eq key q) (Some value) (get eq table q)) → ((q : K) → update_all eq (get eq table) items q ≡ update_all eq (get eq before) all q) →
+      (q : K) → update_all eq (get eq next) rest q ≡ update_all eq (get eq before) all q
+  values_more updates h q =
+      ap (λ (f : K → Option V). update_all eq f rest q) (λ i k. updates k i) ∙ ap (λ (xs : List (K × V)). update_all eq (get eq table) xs q) (sym steps) ∙ h q

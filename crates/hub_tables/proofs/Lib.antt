@@ -1,0 +1,5 @@
+pub mod Entering
+pub mod Going
+pub mod Fleet
+pub mod Beginning
+pub mod Taken

@@ -1,0 +1,160 @@
+//! How the tables take a message: first all that may be refused memory, then steps that cannot fail.
+ghost use Rattle.std.specs.Prelude.{◌≡◌, ℕ, IfOk, OnErr, OnOk, false, true, if◌then◌else◌, map};
+ghost use Rattle.taf_codes.specs.declared.code.Railway.{Railway};
+ghost use Rattle.trip_plan.specs.Rules.{all_differ};
+ghost use Rattle.taf_messages.specs.declared.message.Body.TheVariants as says;
+ghost use Rattle.replay_numbers.specs.Names.{same_name};
+ghost use Rattle.interchange.specs.Made.{offer_of, stands};
+ghost use Rattle.interchange.specs.Offers.{wagons_of};
+ghost use Rattle.hub_model.specs.Standing.{named};
+ghost use Rattle.hub_model.specs.Answers.{accepted};
+ghost use Rattle.hub_tables.specs.Tabled.{IsAcceptable, goes_on, known, tabled};
+ghost use Rattle.hub_tables.specs.Taking.{GoesOn, Takes};
+
+use crate::enter::{enter, put_all};
+use crate::tables::Tables;
+use interchange::Offer;
+use std::alloc::Global;
+use taf_codes::{Memory, Railway, UnitCode};
+use taf_messages::{Body, Message, MessageNumber, OfferedWagons, TrainOffer};
+use trip_plan::{Plan, UnitLoad};
+
+impl Tables {
+    /// Takes a message that may be accepted: what is known then is what is known once the message is accepted. `Memory`
+    /// where memory is refused, and where a journey that is to go on has 2^62 events or more: then all is as it was.
+    pub fn accept(&mut self, alloc: Global, message: &Message) -> Result<(), Memory>
+        requires { IsAcceptable (known self.old) message.now }
+        ensures ok { OnOk result (known self.new ≡ tabled (accepted (known self.old) message.now)) }
+        ensures err { OnErr result (known self.new ≡ known self.old) }
+    {
+        match &message.body {
+            Body::Plan(plan) => self.take_plan(alloc, message, plan),
+            Body::Offer(offer) => self.take_offer(alloc, message, offer),
+            Body::Answer(answer) => self.settle(alloc, message, answer.offerer, answer.offer),
+            Body::Withdraw { offer, .. } => {
+                self.offered_differ(message.by, *offer);
+                self.settle(alloc, message, message.by, *offer)
+            }
+            _ => self.take_events(alloc, message),
+        }
+    }
+
+    /// A plan: its journeys begin, and it is found by its consignment and by its units.
+    fn take_plan(&mut self, alloc: Global, message: &Message, plan: &Plan) -> Result<(), Memory>
+        requires acceptable { IsAcceptable (known self.old) message.now }
+        requires plan { message.now.body ≡ says.Plan plan.now }
+        ensures ok { OnOk result (Takes self.old self.new message.now) }
+        ensures err { OnErr result (self.new ≡ self.old) }
+    {
+        let begun = self.begun(alloc, message, plan.wagons())?;
+        let units = unit_plans(alloc, plan, plan.units())?;
+        let copy = plan.copy()?;
+        self.wagons.reserve(begun.len())?;
+        self.plans.reserve(1)?;
+        self.units.reserve(units.len())?;
+        enter(&mut self.wagons, begun);
+        let _before = self.plans.insert(plan.consignment(), copy).unwrap();
+        enter(&mut self.units, units);
+        Ok(())
+    }
+
+    /// An offer: its wagons' journeys go on, and it is open.
+    fn take_offer(
+        &mut self,
+        alloc: Global,
+        message: &Message,
+        offer: &TrainOffer,
+    ) -> Result<(), Memory>
+        requires acceptable { IsAcceptable (known self.old) message.now }
+        requires offer { message.now.body ≡ says.Offer offer.now }
+        ensures ok { OnOk result (Takes self.old self.new message.now) }
+        ensures err { OnErr result (known self.new ≡ known self.old) }
+    {
+        let made = made_by(message, offer)?;
+        differ(&offer.wagons);
+        self.offers.reserve()?;
+        self.take_events(alloc, message)?;
+        self.offers.open_reserved(made);
+        Ok(())
+    }
+
+    /// An answer or a withdrawal: its wagons' journeys go on, and the offer is closed.
+    fn settle(
+        &mut self,
+        alloc: Global,
+        message: &Message,
+        by: Railway,
+        offer: MessageNumber,
+    ) -> Result<(), Memory>
+        requires acceptable { IsAcceptable (known self.old) message.now }
+        requires goes_on { goes_on message.now.body ≡ true }
+        requires differ { all_differ (named (known self.old).offer message.now) ≡ true }
+        requires open { stands self.old.offers by offer ≡ true }
+        ensures ok { OnOk result (GoesOn self.old self.new message.now) }
+        ensures finds { OnOk result ((also : Railway) (other : ℕ) → offer_of self.new.offers also other ≡ offer_of self.old.offers also other) }
+        ensures closes { OnOk result ((also : Railway) (other : ℕ) → stands self.new.offers also other ≡ (if same_name by offer also other then false else stands self.old.offers also other)) }
+        ensures err { OnErr result (self.new ≡ self.old) }
+    {
+        self.take_events(alloc, message)?;
+        self.offers.close_offer(by, offer);
+        Ok(())
+    }
+
+    /// The journeys of the named wagons go on.
+    fn take_events(&mut self, alloc: Global, message: &Message) -> Result<(), Memory>
+        requires acceptable { IsAcceptable (known self.old) message.now }
+        requires goes_on { goes_on message.now.body ≡ true }
+        requires differ { all_differ (named (known self.old).offer message.now) ≡ true }
+        ensures ok { OnOk result (GoesOn self.old self.new message.now) }
+        ensures offers { self.new.offers ≡ self.old.offers }
+        ensures err { OnErr result (self.new ≡ self.old) }
+    {
+        let shares = self.next_shares(alloc, message)?;
+        put_all(&mut self.wagons, shares);
+        Ok(())
+    }
+
+    /// The wagons of an offer that was made are all different.
+    fn offered_differ(&self, by: Railway, offer: MessageNumber)
+        ensures { all_differ (wagons_of ((known self.now).offer by offer)) ≡ true }
+    {
+        if let Some(offer) = self.offer(by, offer) {
+            differ(&offer.wagons);
+        }
+    }
+}
+
+/// The wagons of an offer are all different.
+fn differ(wagons: &OfferedWagons)
+    ensures { all_differ wagons.now ≡ true }
+{
+    let _wagons = wagons.as_slice();
+}
+
+/// Each unit with a copy of the plan.
+fn unit_plans(
+    alloc: Global,
+    plan: &Plan,
+    units: &[UnitLoad],
+) -> Result<Vec<(UnitCode, Plan)>, Memory>
+    ensures { IfOk result (λ v. v.items ≡ map (λ l. (l.unit, plan.now)) units.now) }
+{
+    let mut plans = Vec::new(alloc);
+    for loaded in units {
+        plans.push((loaded.unit, plan.copy()?))?;
+    }
+    Ok(plans)
+}
+
+/// The offer that the message makes.
+fn made_by(message: &Message, offer: &TrainOffer) -> Result<Offer, Memory>
+    ensures { IfOk result (λ o. o ≡ record { by = message.now.by; no = message.now.no; to = offer.now.to; place = offer.now.place; wagons = offer.now.wagons }) }
+{
+    Ok(Offer {
+        by: message.by,
+        no: message.no,
+        to: offer.to,
+        place: offer.place,
+        wagons: offer.wagons.clone()?,
+    })
+}

@@ -1,0 +1,52 @@
+//! Entries and events that are put into tables without memory.
+ghost use Rattle.std.specs.Prelude.{◌≡◌, ℕ, ◌≤◌, fold, length};
+ghost use Rattle.std.specs.Map.{keys_of, update_all};
+ghost use Rattle.indexmap.specs.IndexMap.{get, insert_all, spare};
+ghost use Rattle.hub_tables.specs.Tabled.{AreFiled, events_in};
+ghost use Rattle.hub_tables.specs.Taking.{AreAdmitted, IsAdmitted, put_on};
+
+use crate::wagon::Wagon;
+use indexmap::IndexMap;
+use journey::Prepared;
+use std::hash::Hash;
+use wagon_number::WagonNumber;
+
+/// Enters each value under its key, in turn. There has to be room for all.
+pub(crate) fn enter<K: Eq + Hash + Drop, V: Drop>(table: &mut IndexMap<K, V>, entries: Vec<(K, V)>)
+    requires { length entries.items ≤ spare table.old }
+    ensures entries { table.new.entries ≡ insert_all K.eq table.old.entries entries.items }
+    ensures values { (key : K) → get K.eq table.new key ≡ update_all K.eq (get K.eq table.old) entries.items key }
+{
+    for (key, value) in entries {
+        let _before = table.insert(key, value).unwrap();
+    }
+}
+
+/// Puts each share at the end of its wagon's journey, in turn.
+pub(crate) fn put_all(
+    wagons: &mut IndexMap<WagonNumber, Wagon>,
+    shares: Vec<(WagonNumber, Prepared)>,
+)
+    requires filed { AreFiled wagons.old.entries }
+    requires admitted { AreAdmitted (events_in wagons.old.entries) shares.items }
+    ensures events { (w : ℕ) → events_in wagons.new.entries w ≡ fold put_on (events_in wagons.old.entries) shares.items w }
+    ensures keys { keys_of wagons.new.entries ≡ keys_of wagons.old.entries }
+    ensures filed { AreFiled wagons.new.entries }
+{
+    for (wagon, share) in shares {
+        put(wagons, wagon, share);
+    }
+}
+
+fn put(wagons: &mut IndexMap<WagonNumber, Wagon>, wagon: WagonNumber, share: Prepared)
+    requires filed { AreFiled wagons.old.entries }
+    requires admitted { IsAdmitted (events_in wagons.old.entries wagon) share }
+    ensures events { (w : ℕ) → events_in wagons.new.entries w ≡ put_on (events_in wagons.old.entries) (wagon, share) w }
+    ensures keys { keys_of wagons.new.entries ≡ keys_of wagons.old.entries }
+    ensures filed { AreFiled wagons.new.entries }
+{
+    match wagons.get_mut(&wagon) {
+        Some(found) => found.put(share),
+        None => unreachable!(),
+    }
+}

@@ -1,0 +1,20 @@
+//! The tables by which the hub looks things up, to judge a message and to answer a question: wagons with their journeys
+//! and estimates (4.2.6, 4.2.7), plans by consignment and by intermodal unit, and offers at interchange (4.2.8).
+//!
+//! In contracts [`Tables`] is the record of its entries, `Filings`, and `known` is what is known by them: a `Standing` of
+//! the crate `hub_model` but for first sends and outboxes, which are kept elsewhere. Each look-up answers what the standing
+//! says, and [`Tables::share`] what a message says of one of its wagons.
+//!
+//! [`Tables::accept`] takes a message that may be accepted (`IsAcceptable`), and what is known then is what `accepted` of
+//! `hub_model` says. First comes all that may be refused memory: each wagon's share in a node of its own, copies of a plan,
+//! room in each table. Then come steps that cannot fail. So where it answers [`Memory`](taf_codes::Memory), all is as it was.
+#![tactic(auto)]
+
+mod accept;
+mod enter;
+mod shares;
+mod tables;
+mod wagon;
+
+pub use tables::Tables;
+pub use wagon::Wagon;

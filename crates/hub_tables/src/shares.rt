@@ -1,0 +1,224 @@
+ghost use Rattle.std.specs.Prelude.{◌≡◌, ℕ, ◌^◌, [], ◌∷◌, ◌++◌, IfOk, None, is_none, false, true, length, map, nat_lt, fold};
+ghost use Rattle.std.specs.List.{list_all};
+ghost use Rattle.hub_model.specs.Standing.{journey_after, named, said_of, share, moment_in};
+ghost use Rattle.hub_model.specs.Faults.{whole_fault};
+ghost use Rattle.interchange.specs.Offers.{wagons_of, place_of};
+ghost use Rattle.trip_plan.specs.Rules.{all_differ, has};
+ghost use Rattle.hub_tables.specs.Tabled.{IsAcceptable, events_in, goes_on, known};
+ghost use Rattle.hub_tables.specs.Taking.{AreAdmitted, IsBeginning, put_on};
+
+use crate::tables::Tables;
+use crate::wagon::Wagon;
+use journey::{Event, EventBody, Prepared};
+use std::alloc::{AllocError, Global};
+use taf_codes::{Memory, Place, Railway};
+use taf_messages::{Body, Message, MessageNumber};
+use taf_moment::Moment;
+use wagon_number::WagonNumber;
+
+/// The most events of a journey that goes on: 2^62. Memory could not hold as many.
+const MOST_EVENTS: usize = 1 << 62;
+
+/// The moment that a message gives, if its kind gives one.
+fn moment_in(body: &Body) -> Option<Moment>
+    ensures { result ≡ moment_in body.now }
+{
+    match body {
+        Body::Movement(movement) => Some(movement.at),
+        Body::Offer(offer) => Some(offer.at),
+        Body::Answer(answer) => Some(answer.at),
+        Body::Withdraw { at, .. } => Some(*at),
+        Body::Plan(_) | Body::EtiAsk { .. } | Body::LegTime { .. } | Body::Reroute { .. } => None,
+    }
+}
+
+/// One wagon.
+fn one(alloc: Global, wagon: WagonNumber) -> Result<Vec<WagonNumber>, AllocError>
+    ensures { IfOk result (λ ws. ws.items ≡ wagon ∷ []) }
+{
+    Vec::from_slice(alloc, &[wagon])
+}
+
+/// The wagons of both lists.
+fn both(
+    alloc: Global,
+    first: &[WagonNumber],
+    second: &[WagonNumber],
+) -> Result<Vec<WagonNumber>, AllocError>
+    ensures { IfOk result (λ ws. ws.items ≡ first.now ++ second.now) }
+{
+    let mut wagons = Vec::from_slice(alloc, first)?;
+    wagons.extend_from_slice(second)?;
+    Ok(wagons)
+}
+
+impl Tables {
+    /// The wagons that a message names, in its order: those of an answer are the received and then the refused ones, and
+    /// those of a withdrawal are the wagons of its offer. `Memory` where memory is refused.
+    pub fn named(&self, alloc: Global, message: &Message) -> Result<Vec<WagonNumber>, Memory>
+        ensures { IfOk result (λ ws. ws.items ≡ named (known self.now).offer message.now) }
+    {
+        let wagons = match &message.body {
+            Body::Plan(plan) => Vec::from_slice(alloc, plan.wagons())?,
+            Body::Movement(movement) => one(alloc, movement.wagon)?,
+            Body::EtiAsk { wagon } => one(alloc, *wagon)?,
+            Body::LegTime { wagon, .. } => one(alloc, *wagon)?,
+            Body::Reroute { wagon, .. } => one(alloc, *wagon)?,
+            Body::Offer(offer) => Vec::from_slice(alloc, offer.wagons.as_slice())?,
+            Body::Answer(answer) => {
+                both(alloc, answer.received.as_slice(), answer.refused.as_slice())?
+            }
+            Body::Withdraw { offer, .. } => self.offered(alloc, message.by, *offer)?,
+        };
+        Ok(wagons)
+    }
+
+    /// The wagons of an offer; none where there is no such offer.
+    fn offered(
+        &self,
+        alloc: Global,
+        by: Railway,
+        no: MessageNumber,
+    ) -> Result<Vec<WagonNumber>, AllocError>
+        ensures { IfOk result (λ ws. ws.items ≡ wagons_of ((known self.now).offer by no)) }
+    {
+        match self.offer(by, no) {
+            Some(offer) => Vec::from_slice(alloc, offer.wagons.as_slice()),
+            None => Ok(Vec::new(alloc)),
+        }
+    }
+
+    /// The place of an offer that there is.
+    fn place(&self, by: Railway, no: MessageNumber) -> Place
+        requires { is_none ((known self.now).offer by no) ≡ false }
+        ensures { result ≡ place_of ((known self.now).offer by no) }
+    {
+        match self.offer(by, no) {
+            Some(offer) => offer.place,
+            None => unreachable!(),
+        }
+    }
+
+    /// What a message, which is not refused as a whole, says of a wagon that it names. Plans and routes are shared, not
+    /// copied. `Memory` where one is shared too often.
+    pub fn said(&self, message: &Message, wagon: WagonNumber) -> Result<EventBody, Memory>
+        requires { whole_fault (known self.now) message.now.by message.now.body ≡ None }
+        ensures { IfOk result (λ says. says ≡ said_of (known self.now).offer message.now.by message.now.body wagon) }
+    {
+        Ok(match &message.body {
+            Body::Plan(plan) => EventBody::Planned(plan.copy()?),
+            Body::Movement(movement) => EventBody::Moved(movement.what),
+            Body::EtiAsk { .. } => EventBody::EstimateAsked,
+            Body::LegTime { leg, minutes, .. } => EventBody::LegTimed {
+                leg: *leg,
+                minutes: *minutes,
+            },
+            Body::Offer(offer) => EventBody::Offered {
+                place: offer.place,
+                to: offer.to,
+            },
+            Body::Answer(answer) => EventBody::Answered {
+                place: self.place(answer.offerer, answer.offer),
+                received: has(answer.received.as_slice(), wagon),
+            },
+            Body::Withdraw { offer, .. } => EventBody::Withdrawn {
+                place: self.place(message.by, *offer),
+            },
+            Body::Reroute { route, .. } => EventBody::Rerouted(route.copy()?),
+        })
+    }
+
+    /// The wagon's share of a message that names it, and is not refused as a whole: an event of its journey. `Memory` as in
+    /// [`Tables::said`].
+    pub fn share(&self, message: &Message, wagon: WagonNumber) -> Result<Event, Memory>
+        requires { whole_fault (known self.now) message.now.by message.now.body ≡ None }
+        ensures { IfOk result (λ e. e ≡ share (known self.now).offer message.now wagon) }
+    {
+        Ok(Event {
+            by: message.by,
+            no: message.no,
+            at: moment_in(&message.body),
+            body: self.said(message, wagon)?,
+        })
+    }
+
+    /// Each of the wagons with its share of the message in memory of its own.
+    fn prepared(
+        &self,
+        alloc: Global,
+        message: &Message,
+        wagons: &[WagonNumber],
+    ) -> Result<Vec<(WagonNumber, Prepared)>, Memory>
+        requires { whole_fault (known self.now) message.now.by message.now.body ≡ None }
+        ensures { IfOk result (λ v. v.items ≡ map (λ w. (w, share (known self.now).offer message.now w)) wagons.now) }
+    {
+        let mut shares = Vec::new(alloc);
+        for wagon in wagons {
+            let share = self.share(message, *wagon)?;
+            shares.push((*wagon, share.prepared(alloc)?))?;
+        }
+        Ok(shares)
+    }
+
+    /// The shares by which journeys go on.
+    pub(crate) fn next_shares(
+        &self,
+        alloc: Global,
+        message: &Message,
+    ) -> Result<Vec<(WagonNumber, Prepared)>, Memory>
+        requires acceptable { IsAcceptable (known self.now) message.now }
+        requires goes_on { goes_on message.now.body ≡ true }
+        requires differ { all_differ (named (known self.now).offer message.now) ≡ true }
+        ensures admitted { IfOk result (λ v. AreAdmitted (events_in self.now.wagons) v.items) }
+        ensures after { IfOk result (λ v. (w : ℕ) → fold put_on (events_in self.now.wagons) v.items w ≡ journey_after (known self.now) message.now w) }
+    {
+        let wagons = self.named(alloc, message)?;
+        if !have_room(self, wagons.as_slice()) {
+            return Err(Memory);
+        }
+        let shares = self.prepared(alloc, message, wagons.as_slice())?;
+        Ok(shares)
+    }
+
+    /// Each of the wagons with a journey that begins with its share of the message.
+    pub(crate) fn begun(
+        &self,
+        alloc: Global,
+        message: &Message,
+        wagons: &[WagonNumber],
+    ) -> Result<Vec<(WagonNumber, Wagon)>, Memory>
+        requires sound { whole_fault (known self.now) message.now.by message.now.body ≡ None }
+        requires begins { (w : ℕ) → has wagons.now w ≡ true → IsBeginning (share (known self.now).offer message.now w) }
+        ensures { IfOk result (λ v. v.items ≡ map (λ w. (w, record { wagon = w; events = share (known self.now).offer message.now w ∷ [] })) wagons.now) }
+    {
+        let mut begun = Vec::new(alloc);
+        for wagon in wagons {
+            let share = self.share(message, *wagon)?.prepared(alloc)?;
+            begun.push((*wagon, Wagon::begin(*wagon, share)))?;
+        }
+        Ok(begun)
+    }
+}
+
+/// Whether the journey of each of the wagons has room for one event more.
+fn have_room(tables: &Tables, wagons: &[WagonNumber]) -> bool
+    ensures { result ≡ list_all (λ w. nat_lt (length ((known tables.now).journey w)) (2 ^ 62)) wagons.now }
+{
+    wagons.iter().all(|wagon| has_room(tables, *wagon))
+}
+
+fn has_room(tables: &Tables, wagon: WagonNumber) -> bool
+    ensures { result ≡ nat_lt (length ((known tables.now).journey wagon)) (2 ^ 62) }
+{
+    match tables.wagon(wagon) {
+        Some(found) => found.track().events().len() < MOST_EVENTS,
+        None => true,
+    }
+}
+
+/// Whether the wagon is among these.
+fn has(wagons: &[WagonNumber], wagon: WagonNumber) -> bool
+    ensures { result ≡ has wagons.now wagon }
+{
+    wagons.iter().any(|w| *w == wagon)
+}

@@ -1,0 +1,70 @@
+ghost use Rattle.std.specs.Prelude.{◌≡◌, ◌<◌, ◌+◌, ◌^◌, [], ◌∷◌, ◌++◌, length, true, None};
+ghost use Rattle.journey.specs.Stages.{is_plan};
+ghost use Rattle.journey.specs.Checks.{refusal};
+ghost use Rattle.eti_chain.specs.Estimates.{fits};
+ghost use Rattle.eti_chain.specs.Chains.{chain};
+
+use eti_chain::Estimates;
+use journey::{Prepared, Track};
+use std::marker::Model;
+use wagon_number::WagonNumber;
+
+/// A wagon with its journey and its estimates.
+#[derive(Drop)]
+pub struct Wagon {
+    track: Track,
+    // The estimates of the track.
+    estimates: Estimates,
+}
+
+impl Model for Wagon {
+    ghost use Rattle.journey.specs.Journey.{Journey};
+
+    ghost Value = { Journey };
+
+    ghost use Rattle.std.specs.Prelude.{◌≡◌};
+    ghost use Rattle.eti_chain.specs.Chains.{chain};
+
+    ghost view = { λ w. w.track };
+
+    ghost invariant = { λ w. w.estimates ≡ chain w.track.events };
+}
+
+impl Wagon {
+    /// A journey that begins with this plan. It takes no memory.
+    pub(crate) fn begin(wagon: WagonNumber, plan: Prepared) -> Wagon
+        requires plan { is_plan plan.body ≡ true }
+        requires fits { fits (plan ∷ []) ≡ true }
+        ensures { result ≡ record { wagon = wagon; events = plan ∷ [] } }
+    {
+        let track = Track::begin(wagon, plan);
+        let estimates = Estimates::of(&track);
+        Wagon { track, estimates }
+    }
+
+    /// The journey.
+    pub fn track(&self) -> &Track
+        ensures { result.now ≡ self.now }
+    {
+        &self.track
+    }
+
+    /// When the wagon is expected.
+    pub fn estimates(&self) -> &Estimates
+        ensures { result.now ≡ chain self.now.events }
+    {
+        &self.estimates
+    }
+
+    /// Goes on with the journey by an event that it admits.
+    pub(crate) fn put(&mut self, event: Prepared)
+        requires admitted { refusal self.old.events event.by event.body ≡ None }
+        requires fits { fits (self.old.events ++ event ∷ []) ≡ true }
+        requires room { length self.old.events + 1 < 2 ^ 63 }
+        ensures { self.new ≡ record self.old { events = self.old.events ++ event ∷ [] } }
+    {
+        let estimates = self.estimates.followed(&self.track, event.event());
+        self.track.put(event);
+        self.estimates = estimates;
+    }
+}

@@ -1,0 +1,3 @@
+pub mod Acceptable
+pub mod FirstPlan
+pub mod Nothing
