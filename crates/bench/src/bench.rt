@@ -10,17 +10,19 @@ pub enum Bench {
     Replies,
     Record,
     Items,
+    Copies,
     Journey,
     Hub,
     Report,
 }
 
-pub const ALL: [Bench; 8] = [
+pub const ALL: [Bench; 9] = [
     Bench::Parse,
     Bench::Read,
     Bench::Replies,
     Bench::Record,
     Bench::Items,
+    Bench::Copies,
     Bench::Journey,
     Bench::Hub,
     Bench::Report,
@@ -36,6 +38,7 @@ impl Bench {
             Bench::Replies => "replies",
             Bench::Record => "record",
             Bench::Items => "items",
+            Bench::Copies => "copies",
             Bench::Journey => "journey",
             Bench::Hub => "hub",
             Bench::Report => "report",
@@ -58,6 +61,7 @@ impl Bench {
             Bench::Replies => "accepted replies",
             Bench::Record => "replies with a record of sixty events",
             Bench::Items => "replies of fifty items",
+            Bench::Copies => "copies of a plan of sixty wagons, shared and made again",
             Bench::Journey => "events on tracks of several lengths",
             Bench::Hub => "calls of whole trips, to hubs of several lengths",
             Bench::Report => "lines of the report, by one thread and by all",
@@ -70,7 +74,7 @@ impl Bench {
             Bench::Parse | Bench::Read => 200_000,
             Bench::Replies => 1_000_000,
             Bench::Record | Bench::Items => 10_000,
-            Bench::Journey | Bench::Report => 100_000,
+            Bench::Copies | Bench::Journey | Bench::Report => 100_000,
             Bench::Hub => 900_000,
         }
     }

@@ -10,6 +10,7 @@
 //! | `replies` | an accepted reply, written into a buffer that is used again | 1,000,000 |
 //! | `record` | a reply that shows a record of sixty events | 10,000 |
 //! | `items` | a reply of fifty items | 10,000 |
+//! | `copies` | a copy of a plan of sixty wagons that shares what it holds, and the plan made again (`copies made again`) | 100,000 |
 //! | `journey` | one exception more on a track of up to 10, 100, 1,000 and 10,000 exceptions, with its checks and estimates | 100,000 |
 //! | `hub` | a call of a trip, given to hubs that take an eighteenth of the calls, a quarter, and all | 900,000 |
 //! | `report` | a line of the report, made by one thread (`report plain`) and by all (`report`) | 100,000 |
@@ -20,6 +21,7 @@
 
 mod bench;
 mod codec;
+mod copies;
 mod journeys;
 mod measured;
 mod perform;

@@ -1,6 +1,6 @@
 use crate::bench::{ALL, Bench};
 use crate::words::Asked;
-use crate::{codec, journeys, report, trips};
+use crate::{codec, copies, journeys, report, trips};
 use anyhow::Result;
 use std::alloc::Global;
 use std::io::Write;
@@ -41,11 +41,25 @@ fn measure<W: Write>(
         Bench::Replies => codec::replies(rt, alloc, count)?,
         Bench::Record => codec::shown(rt, alloc, count)?,
         Bench::Items => codec::items(rt, alloc, count)?,
+        Bench::Copies => return measure_copies(rt, alloc, output, count),
         Bench::Journey => return measure_journeys(rt, alloc, output, count),
         Bench::Hub => return measure_hubs(rt, alloc, output, count),
         Bench::Report => return measure_report(rt, alloc, output, count),
     };
     output.write_fmt(format_args!("{}: {measured}\n", bench.name()))?;
+    Ok(())
+}
+
+fn measure_copies<W: Write>(
+    clock: &impl Clock,
+    alloc: Global,
+    output: &mut W,
+    count: u64,
+) -> Result<()> {
+    let shared = copies::shared(clock, alloc, count)?;
+    output.write_fmt(format_args!("copies: {shared}\n"))?;
+    let made = copies::made(clock, alloc, count)?;
+    output.write_fmt(format_args!("copies made again: {made}\n"))?;
     Ok(())
 }
 

@@ -12,6 +12,7 @@ fn each_benchmark_runs(rt: HostRuntime) -> Result<(), Fail> {
         ("replies", 1),
         ("record", 1),
         ("items", 1),
+        ("copies", 2),
         ("journey", 4),
         ("hub", 3),
         ("report", 2),

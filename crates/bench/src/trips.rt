@@ -13,7 +13,7 @@ use wagon_number::WagonNumber;
 const CALLS_OF_A_TRIP: u64 = 15;
 
 // The number of the wagon of a trip.
-fn wagon(alloc: Global, trip: u64) -> Result<String> {
+pub(crate) fn wagon(alloc: Global, trip: u64) -> Result<String> {
     let first = trip.saturating_add(21_812_000_000);
     for check in 0..10u8 {
         let text = format!(in alloc; "{first}{check}")?;

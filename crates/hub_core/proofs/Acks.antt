@@ -63,13 +63,13 @@ module _ (count : LastCounts) (acks : Acknowledges) (history : List Entry) (by :
       let answered = ack_answer (Ok stands) when is ahead in
       subst (λ (r : Reply). AreKept (history ++ record { call = Ack by n; reply = r } ∷ []) looked_up position (kept_for new)) (sym answered)
       (kept_more history (Ack by n) looked_up position (kept_for old) kept room tt (acked s by stands) looked_up position (kept_for new)
-       (ap (after_call s (Ack by n)) (sym answered))
-       kept.tables
-       (λ also k. leads_on history (record { call = Ack by n; reply = answer history (Ack by n) }) (position also k) (s.first_send also k) (kept.firsts also k))
-       (λ r. keeps_acked acks (bytes_eq by r) (kept_for old r) (kept_for new r) (s.outbox r) (s.acknowledged r) stands n (boxes r) (kept.boxes r)
-         (λ e. let same = texts.equal by r e in
-           (subst (λ (q : Railway). n ≤ length (s.outbox q)) same within, is ∙ ap (λ (a : ℕ). max a n) (kept.boxes by).number ∙ ap (λ (q : Railway). max (s.acknowledged q) n) same)))
-       kept.offers)
+      (ap (after_call s (Ack by n)) (sym answered))
+      kept.tables
+      (λ also k. leads_on history (record { call = Ack by n; reply = answer history (Ack by n) }) (position also k) (s.first_send also k) (kept.firsts also k))
+      (λ r. keeps_acked acks (bytes_eq by r) (kept_for old r) (kept_for new r) (s.outbox r) (s.acknowledged r) stands n (boxes r) (kept.boxes r)
+      (λ e. let same = texts.equal by r e in
+      (subst (λ (q : Railway). n ≤ length (s.outbox q)) same within, is ∙ ap (λ (a : ℕ). max a n) (kept.boxes by).number ∙ ap (λ (q : Railway). max (s.acknowledged q) n) same)))
+      kept.offers)
   kept_ack (Err x) when is ahead boxes err =
       subst (λ (bs : List (Railway × Kept)). AreKept (history ++ record { call = Ack by n; reply = told_of_ack (Err x) } ∷ []) looked_up position (kept_for bs)) (sym err)
       (kept_entered history (Ack by n) (told_of_ack (Err x)) looked_up position (kept_for old) kept room tt (ack_answer (Err x) when is ahead) refl)

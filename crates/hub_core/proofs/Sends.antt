@@ -94,10 +94,10 @@ module _ (history : List Entry) (m : Message) (looked_up : Standing) (position :
       let answered = new_answer (Some f) e in
       subst (λ (r : Reply). AreKept (history ++ record { call = Send m; reply = r } ∷ []) looked_up position' box) (sym answered)
       (kept_more history (Send m) looked_up position box kept room dated (noted s m reply) looked_up position' box (after_it reply answered) kept.tables
-       (subst (λ (r : Reply). (by : Railway) (n : ℕ) → LeadsTo (history ++ record { call = Send m; reply = r } ∷ []) (position' by n) (cond (same_name m.by m.no by n) (Some (record { message = m; reply = reply })) (s.first_send by n))) answered
-        (firsts_noted reply position' finds))
-       kept.boxes
-       (λ by n h. sent_before (record { message = m; reply = reply }) (s.offer by n) None (s.first_send by n) (same_name m.by m.no by n) (λ b. refl) (kept.offers by n) h))
+      (subst (λ (r : Reply). (by : Railway) (n : ℕ) → LeadsTo (history ++ record { call = Send m; reply = r } ∷ []) (position' by n) (cond (same_name m.by m.no by n) (Some (record { message = m; reply = reply })) (s.first_send by n))) answered
+      (firsts_noted reply position' finds))
+      kept.boxes
+      (λ by n h. sent_before (record { message = m; reply = reply }) (s.offer by n) None (s.first_send by n) (same_name m.by m.no by n) (λ b. refl) (kept.offers by n) h))
 
   pub kept_accepted : (push : PushesLast) (looked_up' : Standing) (position' : Railway → ℕ → Option ℕ) (box' : Railway → Kept) → fault looked_up m ≡ None →
       looked_up' ≡ tabled (accepted looked_up m) →
@@ -109,9 +109,9 @@ module _ (history : List Entry) (m : Message) (looked_up : Standing) (position :
       let answered = new_answer None e in
       subst (λ (r : Reply). AreKept (history ++ record { call = Send m; reply = r } ∷ []) looked_up' position' box') (sym answered)
       (kept_more history (Send m) looked_up position box kept room dated (noted (accepted s m) m reply) looked_up' position' box' (after_it reply answered)
-       (tables ∙ ap (λ (t : Standing). tabled (accepted t m)) kept.tables)
-       (subst (λ (r : Reply). (by : Railway) (n : ℕ) → LeadsTo (history ++ record { call = Send m; reply = r } ∷ []) (position' by n) (cond (same_name m.by m.no by n) (Some (record { message = m; reply = reply })) (s.first_send by n))) answered
-        (firsts_noted reply position' finds))
-       (λ r. subst (λ (k : Kept). Keeps k (s.outbox r ++ items_to r (items_of s m)) (s.acknowledged r)) (sym (boxes r ∙ ap (λ (t : Standing). pushed (box r) (items_to r (items_of t m))) kept.tables))
-        (push (box r) (s.outbox r) (items_to r (items_of s m)) (s.acknowledged r) (kept.boxes r)))
-       (λ by n h. sent_before (record { message = m; reply = reply }) (s.offer by n) (offer_given m m.body by n) (s.first_send by n) (same_name m.by m.no by n) (given_elsewhere m m.body by n) (kept.offers by n) h))
+      (tables ∙ ap (λ (t : Standing). tabled (accepted t m)) kept.tables)
+      (subst (λ (r : Reply). (by : Railway) (n : ℕ) → LeadsTo (history ++ record { call = Send m; reply = r } ∷ []) (position' by n) (cond (same_name m.by m.no by n) (Some (record { message = m; reply = reply })) (s.first_send by n))) answered
+      (firsts_noted reply position' finds))
+      (λ r. subst (λ (k : Kept). Keeps k (s.outbox r ++ items_to r (items_of s m)) (s.acknowledged r)) (sym (boxes r ∙ ap (λ (t : Standing). pushed (box r) (items_to r (items_of t m))) kept.tables))
+      (push (box r) (s.outbox r) (items_to r (items_of s m)) (s.acknowledged r) (kept.boxes r)))
+      (λ by n h. sent_before (record { message = m; reply = reply }) (s.offer by n) (offer_given m m.body by n) (s.first_send by n) (same_name m.by m.no by n) (given_elsewhere m m.body by n) (kept.offers by n) h))

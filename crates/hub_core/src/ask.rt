@@ -12,7 +12,12 @@ use taf_messages::{FetchLimit, Reply};
 use wagon_number::WagonNumber;
 
 /// The reply to one who asks for a wagon.
-pub fn ask_reply(alloc: Global, books: &Books, by: Railway, wagon: WagonNumber) -> Result<Reply, Memory>
+pub fn ask_reply(
+    alloc: Global,
+    books: &Books,
+    by: Railway,
+    wagon: WagonNumber,
+) -> Result<Reply, Memory>
     requires { IsKept books.now }
     ensures { IfOk result (λ r. r ≡ answer books.now.history.entries (call.Ask by wagon)) }
 {
@@ -20,7 +25,12 @@ pub fn ask_reply(alloc: Global, books: &Books, by: Railway, wagon: WagonNumber) 
 }
 
 /// The reply to one who asks for an intermodal unit.
-pub fn unit_reply(alloc: Global, books: &Books, by: Railway, unit: UnitCode) -> Result<Reply, Memory>
+pub fn unit_reply(
+    alloc: Global,
+    books: &Books,
+    by: Railway,
+    unit: UnitCode,
+) -> Result<Reply, Memory>
     requires { IsKept books.now }
     ensures { IfOk result (λ r. r ≡ answer books.now.history.entries (call.AskUnit by unit)) }
 {
@@ -28,7 +38,12 @@ pub fn unit_reply(alloc: Global, books: &Books, by: Railway, unit: UnitCode) -> 
 }
 
 /// The reply to one who asks for the deviations of a consignment.
-pub fn deviation_reply(alloc: Global, books: &Books, by: Railway, consignment: ConsignmentId) -> Result<Reply, Memory>
+pub fn deviation_reply(
+    alloc: Global,
+    books: &Books,
+    by: Railway,
+    consignment: ConsignmentId,
+) -> Result<Reply, Memory>
     requires { IsKept books.now }
     ensures { IfOk result (λ r. r ≡ answer books.now.history.entries (call.Deviation by consignment)) }
 {

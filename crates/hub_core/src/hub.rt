@@ -1,5 +1,4 @@
 ghost use Rattle.std.specs.Prelude.{◌≡◌, ◌↔◌, ◌<◌, ◌≤◌, [], ◌∷◌, ◌++◌, List, length, slice_get, option_copied, IfOk, IfErr, OnErr, IsTrue, Err};
-
 ghost use Rattle.hub_model.specs.Answers.{answer, standing_of, view};
 ghost use Rattle.hub_core.specs.Apart.{are_apart};
 ghost use Rattle.hub_core.specs.Faults.{IsFault};

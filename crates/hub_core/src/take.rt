@@ -9,8 +9,7 @@ use crate::books::{Books, enter};
 use crate::send::take_send;
 use std::alloc::Global;
 use taf_codes::Memory;
-use taf_messages::Call;
-use taf_messages::Reply;
+use taf_messages::{Call, Reply};
 
 /// Takes a call, and gives the reply to be told. Where memory is refused, nothing that is looked up changes.
 pub fn take(alloc: Global, books: &mut Books, call: Call) -> Result<Reply, Memory>

@@ -59,7 +59,12 @@ impl Legs {
     pub fn copy(&self) -> Legs
         ensures { result ≡ self.now }
     {
-        Legs::of(self.as_slice())
+        let mut items = [self.items[0]; MOST];
+        items.copy_from_slice(&self.items);
+        Legs {
+            items,
+            count: self.count,
+        }
     }
 
     /// The legs, of which this one, if there is such a leg, takes these minutes.
@@ -84,12 +89,10 @@ impl Legs {
         ensures { result ≡ take (current + 1) self.now ++ route.now }
     {
         let behind = current + 1;
-        let mut items = items_of(&self.as_slice()[..behind]);
-        put_behind(&mut items, behind, route);
-        Legs {
-            items,
-            count: behind + route.len(),
-        }
+        let mut legs = self.copy();
+        put_behind(&mut legs.items, behind, route);
+        legs.count = behind + route.len();
+        legs
     }
 }
 

@@ -3,6 +3,7 @@ use hub_core::Hub;
 use hub_replay::run;
 use std::alloc::Global;
 use std::io::{BufWriter, Read, Write};
+use std::mem::forget;
 use std::thread::Threads;
 use taf_codes::Std;
 use wimo_report::lines;
@@ -33,6 +34,8 @@ pub fn perform<R: Read + Drop, W: Write + Drop>(
     };
     let mut printed = writer.into_inner();
     print(&mut printed, &report)?;
+    // The program ends here. To give back the memory of each call would take as long as many calls.
+    forget(hub);
     Ok(0)
 }
 

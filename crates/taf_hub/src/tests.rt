@@ -37,19 +37,21 @@ fn commands_end_with_their_status(rt: HostRuntime) -> Result<(), Fail> {
         ),
         (&["number", "000000000000"], 0, "00 00 0000 000-0\n", ""),
         (&["number", ""], 1, "", "fault 1: not twelve digits\n"),
-        (
-            &["replay"],
-            0,
-            "{\"fault\":\"bad_json\"}\nwagons 0\n",
-            "",
-        ),
+        (&["replay"], 0, "{\"fault\":\"bad_json\"}\nwagons 0\n", ""),
     ];
     for (line, status, told, fault) in cases {
         let mut output = Vec::new(rt.alloc());
         let mut errors = Vec::new(rt.alloc());
         let words = words(&rt, line)?;
         let input = b"{\n\n";
-        let ended = perform(&rt, rt.alloc(), &words, &input[..], &mut output, &mut errors);
+        let ended = perform(
+            &rt,
+            rt.alloc(),
+            &words,
+            &input[..],
+            &mut output,
+            &mut errors,
+        );
         assert_eq!(rt; ended, status);
         assert_eq!(rt; output.as_slice(), told.as_bytes());
         assert_eq!(rt; errors.as_slice(), fault.as_bytes());

@@ -4,6 +4,7 @@ pub mod SameReplies
 pub mod EachLemmas
 pub mod TextLemmas
 pub mod ReadLemmas
+pub mod NumberLemmas
 pub mod ShapeLemmas
 pub mod FieldLemmas
 pub mod MessageLemmas

@@ -19,7 +19,7 @@ use Rattle.serde_json.proofs.Numbers.{number_of-decimal}
 use Rattle.serde_json.proofs.Texts.{print-outline}
 use Rattle.taf_messages.specs.Laws.{HasSmallNumbers, ItemsHaveSmallNumbers, MembersHaveSmallNumbers}
 
--- ---- trees whose keys rise, and that nest no deeper than a number
+-- ---- trees of whole numbers whose keys rise, and that nest no deeper than a number
 
 abbrev pub is_below_all : List ℕ → Members → Bool
 is_below_all k no_members = true
@@ -29,7 +29,9 @@ abbrev mutual
   pub is_ordered : Data → ℕ → Bool
   is_ordered null n = true
   is_ordered (boolean b) n = true
-  is_ordered (number x) n = true
+  is_ordered (number (unsigned x)) n = true
+  is_ordered (number (negative z)) n = false
+  is_ordered (number (float x)) n = false
   is_ordered (string s) n = true
   is_ordered (array ds) zero = false
   is_ordered (array ds) (suc n) = items_are_ordered ds n

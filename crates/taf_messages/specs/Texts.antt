@@ -1,5 +1,5 @@
 -- JSON by its fields, and what a step of a writer adds.
-use Rattle.std.specs.Prelude.{◌≡◌, ℕ, List, [], ◌∷◌, ◌++◌, Option, Some, None, map}
+use Rattle.std.specs.Prelude.{◌≡◌, ℕ, ◌<◌, ◌^◌, List, [], ◌∷◌, ◌++◌, All, Option, Some, None, decimal, map, ⊤}
 use Rattle.json.specs.Token.{Token}
 use Rattle.json.specs.Written.{Written}
 use Rattle.json.specs.Tree.{json_tokens}
@@ -79,3 +79,13 @@ AddsFieldIf shape old new name value = AddsFields old new (field_if shape name v
 abbrev pub item_tokens : List Data → List Token
 item_tokens [] = []
 item_tokens (d ∷ ds) = json_tokens (outline d) ++ item_tokens ds
+
+-- ---- numbers of a text
+
+-- if the token is a number, it is a whole one of 64 bits
+abbrev pub IsSmallToken : Token → Type 0
+IsSmallToken (Token.number s) = (n : ℕ) × (n < 2 ^ 64) × (s ≡ decimal n)
+IsSmallToken _ = ⊤
+
+abbrev pub AreSmall : List Token → Type 0
+AreSmall ts = All IsSmallToken ts

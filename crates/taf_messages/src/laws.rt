@@ -1,7 +1,9 @@
 //! Laws of what is written and read. The functions do nothing: what they promise is proved.
 ghost use Rattle.taf_messages.specs.Laws.{RepliesAreReadAsWritten, ItemsAreReadAsWritten, RecordsAreReadAsWritten, FaultsAreReadAsWritten, MessagesAreTheirRecords, MessagesAreReadBack, WhatIsReadIsKept, NoticesAreReadBack};
 
-/// Each text that is written is read by `serde_json` as the tree that it was written for.
+/// The text of a reply, an item, a record or a fault is read by `serde_json` as its tree, where each
+/// number is a whole one of 64 bits. In what [`write_reply`](crate::write_reply) and the others write
+/// each is one, so they promise it of every text.
 pub fn texts_are_read_as_written()
     ensures reply { RepliesAreReadAsWritten }
     ensures item { ItemsAreReadAsWritten }

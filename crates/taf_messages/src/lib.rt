@@ -11,7 +11,8 @@
 //! - [`write_reply`], [`write_item`], [`write_record`] and [`write_fault`] give texts: compact JSON,
 //!   keys in byte order, no newline. [`append_reply`] and [`append_fault`] write behind what a
 //!   buffer holds. The trees that they write are those of `specs/Shapes.antt`,
-//!   `specs/RecordShapes.antt` and `specs/ReplyShapes.antt`.
+//!   `specs/RecordShapes.antt` and `specs/ReplyShapes.antt`, and `serde_json` reads each text as its
+//!   tree.
 //! - [`Message`] with its [`Body`], [`Call`], [`Item`], [`Reply`] and [`Record`] are plain values.
 //!   Numbers keep their limits by type ([`Within`]), as do lists of wagons ([`Wagons`],
 //!   [`OfferedWagons`]). [`Listed`] is a list that contracts see as its elements.
@@ -47,6 +48,7 @@ mod tests;
 mod value;
 mod wagons;
 mod write;
+mod writer;
 
 pub use call::Call;
 pub use copies::{copy, copy_call, copy_item, copy_reply};

@@ -7,7 +7,7 @@ ghost use Rattle.taf_messages.specs.Shapes.{at_text, load_text, leg_fields, leg_
 use crate::listed::Listed;
 use crate::number::Within;
 use crate::wagons::{OfferedWagons, Wagons};
-use json::Writer;
+use crate::writer::Writer;
 use std::alloc::AllocError;
 use taf_codes::{ConsignmentId, Place, Railway, TrainId, UnitCode};
 use taf_moment::Moment;

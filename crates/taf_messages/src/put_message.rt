@@ -9,7 +9,7 @@ use crate::message::{Body, Message, TrainAnswer, TrainOffer};
 use crate::movement::{Movement, MovementKind};
 use crate::number::{Delay, LegIndex, LegMinutes, MessageNumber};
 use crate::put::{Json, Object, put_field, put_field_if, put_list_if, put_object};
-use json::Writer;
+use crate::writer::Writer;
 use std::alloc::AllocError;
 use taf_codes::{Place, Railway};
 use trip_plan::Plan;

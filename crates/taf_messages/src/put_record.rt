@@ -8,7 +8,7 @@ use crate::kind::BodyName;
 use crate::number::{Delay, LegIndex, LegMinutes};
 use crate::put::{Json, Object, put_field, put_field_if, put_list_if, put_object};
 use crate::record::{EstimateAt, Record, Stage, Status};
-use json::Writer;
+use crate::writer::Writer;
 use std::alloc::AllocError;
 use taf_codes::Place;
 

@@ -8,7 +8,7 @@ use crate::item::{Item, ItemBody, SubNotice};
 use crate::number::LegIndex;
 use crate::put::{Json, Object, put_field, put_field_if, put_object};
 use crate::reply::{Reply, Why};
-use json::Writer;
+use crate::writer::Writer;
 use std::alloc::AllocError;
 use taf_moment::Moment;
 use wagon_number::WagonNumber;

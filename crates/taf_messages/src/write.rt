@@ -1,6 +1,9 @@
 //! Texts out: compact JSON with keys in byte order, without a newline.
 ghost use Rattle.std.specs.Prelude.{◌≡◌, ◌≢◌, ◌++◌, [], OnOk, OnErr, IfOk};
-ghost use Rattle.serde_json.specs.Written.{compact_text};
+ghost use Rattle.json.specs.Tree.{json_tokens};
+ghost use Rattle.serde_json.specs.Read.{read};
+ghost use Rattle.serde_json.specs.Written.{compact_text, outline};
+ghost use Rattle.taf_messages.specs.Texts.{AreSmall};
 ghost use Rattle.taf_messages.specs.ReplyShapes.{reply_data, item_data, fault_data};
 ghost use Rattle.taf_messages.specs.RecordShapes.{record_data};
 ghost use Rattle.taf_messages.specs.declared.fault.RecordFault.TheVariants.{Memory as NoMemory};
@@ -10,28 +13,31 @@ use crate::item::Item;
 use crate::put::Json;
 use crate::record::Record;
 use crate::reply::Reply;
-use json::Writer;
+use crate::writer::Writer;
 use std::alloc::Global;
 use std::mem;
 use taf_codes::Memory;
 
 /// The text of a reply.
 pub fn write_reply(alloc: Global, reply: &Reply) -> Result<Vec<u8>, Memory>
-    ensures { IfOk result (λ text. text.items ≡ compact_text (reply_data reply.now)) }
+    ensures text { IfOk result (λ text. text.items ≡ compact_text (reply_data reply.now)) }
+    ensures read_back { IfOk result (λ text. read text.items ≡ Some (reply_data reply.now)) }
 {
     text_of(alloc, reply)
 }
 
 /// The text of an item.
 pub fn write_item(alloc: Global, item: &Item) -> Result<Vec<u8>, Memory>
-    ensures { IfOk result (λ text. text.items ≡ compact_text (item_data item.now)) }
+    ensures text { IfOk result (λ text. text.items ≡ compact_text (item_data item.now)) }
+    ensures read_back { IfOk result (λ text. read text.items ≡ Some (item_data item.now)) }
 {
     text_of(alloc, item)
 }
 
 /// The text of a wagon's record (4.2.11).
 pub fn write_record(alloc: Global, shown: &Record) -> Result<Vec<u8>, Memory>
-    ensures { IfOk result (λ text. text.items ≡ compact_text (record_data shown.now)) }
+    ensures text { IfOk result (λ text. text.items ≡ compact_text (record_data shown.now)) }
+    ensures read_back { IfOk result (λ text. read text.items ≡ Some (record_data shown.now)) }
 {
     text_of(alloc, shown)
 }
@@ -39,7 +45,8 @@ pub fn write_record(alloc: Global, shown: &Record) -> Result<Vec<u8>, Memory>
 /// The text of a record's fault.
 pub fn write_fault(alloc: Global, fault: &RecordFault) -> Result<Vec<u8>, Memory>
     requires { fault.now ≢ NoMemory }
-    ensures { IfOk result (λ text. text.items ≡ compact_text (fault_data fault.now)) }
+    ensures text { IfOk result (λ text. text.items ≡ compact_text (fault_data fault.now)) }
+    ensures read_back { IfOk result (λ text. read text.items ≡ Some (fault_data fault.now)) }
 {
     text_of(alloc, fault)
 }
@@ -47,6 +54,7 @@ pub fn write_fault(alloc: Global, fault: &RecordFault) -> Result<Vec<u8>, Memory
 /// Appends the text of a reply. Where memory is refused, nothing is appended.
 pub fn append_reply(alloc: Global, out: &mut Vec<u8>, reply: &Reply) -> Result<(), Memory>
     ensures ok { OnOk result (out.new.items ≡ out.old.items ++ compact_text (reply_data reply.now)) }
+    ensures read_back { OnOk result (read (compact_text (reply_data reply.now)) ≡ Some (reply_data reply.now)) }
     ensures err { OnErr result (out.new.items ≡ out.old.items) }
 {
     append(alloc, out, reply)
@@ -56,13 +64,15 @@ pub fn append_reply(alloc: Global, out: &mut Vec<u8>, reply: &Reply) -> Result<(
 pub fn append_fault(alloc: Global, out: &mut Vec<u8>, fault: &RecordFault) -> Result<(), Memory>
     requires { fault.now ≢ NoMemory }
     ensures ok { OnOk result (out.new.items ≡ out.old.items ++ compact_text (fault_data fault.now)) }
+    ensures read_back { OnOk result (read (compact_text (fault_data fault.now)) ≡ Some (fault_data fault.now)) }
     ensures err { OnErr result (out.new.items ≡ out.old.items) }
 {
     append(alloc, out, fault)
 }
 
 fn text_of<T: Json>(alloc: Global, value: &T) -> Result<Vec<u8>, Memory>
-    ensures { IfOk result (λ text. text.items ≡ compact_text (T.shape value.now)) }
+    ensures text { IfOk result (λ text. text.items ≡ compact_text (T.shape value.now)) }
+    ensures small { OnOk result (AreSmall (json_tokens (outline (T.shape value.now)))) }
 {
     let mut out = Writer::new(Vec::with_capacity(alloc, 256)?);
     value.put(&mut out)?;
@@ -71,6 +81,7 @@ fn text_of<T: Json>(alloc: Global, value: &T) -> Result<Vec<u8>, Memory>
 
 fn append<T: Json>(alloc: Global, out: &mut Vec<u8>, value: &T) -> Result<(), Memory>
     ensures ok { OnOk result (out.new.items ≡ out.old.items ++ compact_text (T.shape value.now)) }
+    ensures small { OnOk result (AreSmall (json_tokens (outline (T.shape value.now)))) }
     ensures err { OnErr result (out.new.items ≡ out.old.items) }
 {
     let before = out.len();

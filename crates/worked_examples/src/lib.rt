@@ -8,7 +8,7 @@
 //! |---|---|
 //! | `movement` | a wagon from its release to its arrival, repeated messages |
 //! | `estimates` | delays, reported estimates, alerts, acknowledged items, deviations |
-//! | `interchange` | offers, their answers, and what follows |
+//! | `trains` | offers, their answers, and what follows |
 //! | `changes` | other legs, and units on wagons |
 //! | `lines` | bad lines, long lines, lines that are cut |
 //! | `many` | as many wagons, delays and calls as a hub takes |
@@ -23,8 +23,6 @@ mod changes;
 #[cfg(test)]
 mod estimates;
 #[cfg(test)]
-mod interchange;
-#[cfg(test)]
 mod lines;
 #[cfg(test)]
 mod many;
@@ -38,3 +36,5 @@ mod play;
 mod scarcity;
 #[cfg(test)]
 mod script;
+#[cfg(test)]
+mod trains;

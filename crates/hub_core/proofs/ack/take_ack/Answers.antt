@@ -18,11 +18,11 @@ returns-clause-kept c =
     let o = c.ack-outcome.ensures in
     let entry : Reply → Entry = λ r. record { call = Ack c.args.by c.args.item; reply = r } in
     let entered : c.push_reserved.new.self.entries ≡ b.history.entries ++ entry (told_of_ack c.ack-outcome.result) ∷ [] =
-        ap (λ (p : Paged Entry). p.entries) c.push_reserved.ensures ∙ ap (λ (es : List Entry). es ++ entry c.reply_of.result ∷ []) c.in_ok-reserve.ensures.entries ∙ ap (λ (r : Reply). b.history.entries ++ entry r ∷ []) c.reply_of.ensures in
+    ap (λ (p : Paged Entry). p.entries) c.push_reserved.ensures ∙ ap (λ (es : List Entry). es ++ entry c.reply_of.result ∷ []) c.in_ok-reserve.ensures.entries ∙ ap (λ (r : Reply). b.history.entries ++ entry r ∷ []) c.reply_of.ensures in
     subst (λ (es : List Entry). AreKept es (known b.tables) (position_of b.seen) (kept_for c.ack-outcome.new.self)) (sym entered)
     (subst (λ (n : ℕ). AreKept (b.history.entries ++ record { call = Ack c.args.by n; reply = told_of_ack c.ack-outcome.result } ∷ []) (known b.tables) (position_of b.seen) (kept_for c.ack-outcome.new.self)) c.get.ensures.value
     (kept_ack laws.last laws.acknowledgement b.history.entries c.args.by c.get.result (known b.tables) (position_of b.seen) b.outboxes c.ack-outcome.new.self c.requires.kept c.requires.room
-     c.ack-outcome.result o.when o.stands o.ahead o.kept o.err))
+    c.ack-outcome.result o.when o.stands o.ahead o.kept o.err))
 
 pub returns-clause-answered : goal.returns-clause-answered
 returns-clause-answered c =

@@ -27,7 +27,7 @@ returns-in_err-make_room-clause-kept c =
     let r = c.in_err-make_room.ensures in
     subst (λ (es : List Entry). AreKept es (known n.tables) (position_of n.seen) (kept_for n.outboxes)) (sym r.entries)
     (kept_same b.history.entries (known b.tables) (known n.tables) (position_of b.seen) (position_of n.seen) (kept_for b.outboxes) (kept_for n.outboxes)
-     (ap known r.tables) (positions_by_notes b.seen n.seen r.notes) r.boxes c.requires.kept)
+    (ap known r.tables) (positions_by_notes b.seen n.seen r.notes) r.boxes c.requires.kept)
 
 pub returns-in_err-accept-clause-kept : goal.returns-in_err-accept-clause-kept
 returns-in_err-accept-clause-kept c =
@@ -36,7 +36,7 @@ returns-in_err-accept-clause-kept c =
     let r = c.in_ok-make_room.ensures in
     subst (λ (es : List Entry). AreKept es (known c.accept.new.self) (position_of n.seen) (kept_for n.outboxes)) (sym r.entries)
     (kept_same b.history.entries (known b.tables) (known c.accept.new.self) (position_of b.seen) (position_of n.seen) (kept_for b.outboxes) (kept_for n.outboxes)
-     (c.in_err-accept.ensures.err ∙ ap known r.tables) (positions_by_notes b.seen n.seen r.notes) r.boxes c.requires.kept)
+    (c.in_err-accept.ensures.err ∙ ap known r.tables) (positions_by_notes b.seen n.seen r.notes) r.boxes c.requires.kept)
 
 pub returns-clause-kept : goal.returns-clause-kept
 returns-clause-kept c =
@@ -46,21 +46,21 @@ returns-clause-kept c =
     let r = c.in_ok-make_room.ensures in
     let entry : Reply → Entry = λ reply. record { call = Send m; reply = reply } in
     let entered : c.push_reserved.new.self.entries ≡ b.history.entries ++ entry (Accepted m.no) ∷ [] =
-        ap (λ (p : Paged Entry). p.entries) c.push_reserved.ensures ∙
-        ap (λ (e : Entry). n.history.entries ++ e ∷ []) (c.entry_of.ensures ∙ ap entry c.verdict.ensures) ∙
-        ap (λ (es : List Entry). es ++ entry (Accepted m.no) ∷ []) r.entries in
+    ap (λ (p : Paged Entry). p.entries) c.push_reserved.ensures ∙
+    ap (λ (e : Entry). n.history.entries ++ e ∷ []) (c.entry_of.ensures ∙ ap entry c.verdict.ensures) ∙
+    ap (λ (es : List Entry). es ++ entry (Accepted m.no) ∷ []) r.entries in
     let len : c.len-position.result ≡ length b.history.entries = c.len-position.ensures.value ∙ ap length r.entries in
     subst (λ (es : List Entry). AreKept es (known c.accept.new.self) (position_of c.note_reserved.new.self) (kept_for c.deliver.new.outboxes)) (sym entered)
     (kept_accepted b.history.entries m (known b.tables) (position_of b.seen) (kept_for b.outboxes) c.requires.kept c.requires.room c.requires.dated c.requires.new
-     c.boxes_keep_the_lists.ensures.push (known c.accept.new.self) (position_of c.note_reserved.new.self) (kept_for c.deliver.new.outboxes) c.requires.acceptable.sound
-     (c.in_ok-accept.ensures.ok ∙ ap (λ (t : Filings). tabled (accepted (known t) m)) r.tables)
-     (λ by k. c.note_reserved.ensures.finds by k ∙
-       ap (λ (p : ℕ). cond (same_name m.by m.no by k) (Some p) (position_of n.seen by k)) len ∙
-       ap (λ (o : Option ℕ). cond (same_name m.by m.no by k) (Some (length b.history.entries)) o) (positions_by_notes b.seen n.seen r.notes by k))
-     (λ q. c.deliver.ensures q ∙
-       ap (λ (k : Kept). pushed k (bodies_to q c.in_ok-parcels.parcels.items)) (r.boxes q) ∙
-       ap (λ (ps : List Parcel). pushed (kept_for b.outboxes q) (bodies_to q ps)) c.in_ok-parcels.ensures.parcels ∙
-       ap (λ (bodies : List ItemBody). pushed (kept_for b.outboxes q) bodies) (bodies_of_items q (items_of (known b.tables) m))))
+    c.boxes_keep_the_lists.ensures.push (known c.accept.new.self) (position_of c.note_reserved.new.self) (kept_for c.deliver.new.outboxes) c.requires.acceptable.sound
+    (c.in_ok-accept.ensures.ok ∙ ap (λ (t : Filings). tabled (accepted (known t) m)) r.tables)
+    (λ by k. c.note_reserved.ensures.finds by k ∙
+    ap (λ (p : ℕ). cond (same_name m.by m.no by k) (Some p) (position_of n.seen by k)) len ∙
+    ap (λ (o : Option ℕ). cond (same_name m.by m.no by k) (Some (length b.history.entries)) o) (positions_by_notes b.seen n.seen r.notes by k))
+    (λ q. c.deliver.ensures q ∙
+    ap (λ (k : Kept). pushed k (bodies_to q c.in_ok-parcels.parcels.items)) (r.boxes q) ∙
+    ap (λ (ps : List Parcel). pushed (kept_for b.outboxes q) (bodies_to q ps)) c.in_ok-parcels.ensures.parcels ∙
+    ap (λ (bodies : List ItemBody). pushed (kept_for b.outboxes q) bodies) (bodies_of_items q (items_of (known b.tables) m))))
 
 pub returns-clause-answered : goal.returns-clause-answered
 returns-clause-answered c =

@@ -20,14 +20,14 @@ returns-clause-kept c =
     let m = c.args.message in
     let entry : Reply → Entry = λ r. record { call = Send m; reply = r } in
     let entered : c.push_reserved.new.self.entries ≡ b.history.entries ++ entry (verdict m.no (Some c.args.found)) ∷ [] =
-        ap (λ (p : Paged Entry). p.entries) c.push_reserved.ensures ∙ ap (λ (e : Entry). c.reserve-2.new.self.entries ++ e ∷ []) (c.entry_of.ensures ∙ ap entry c.verdict-reply.ensures) ∙
-        ap (λ (es : List Entry). es ++ entry (verdict m.no (Some c.args.found)) ∷ []) c.in_ok-reserve-2.ensures.entries in
+    ap (λ (p : Paged Entry). p.entries) c.push_reserved.ensures ∙ ap (λ (e : Entry). c.reserve-2.new.self.entries ++ e ∷ []) (c.entry_of.ensures ∙ ap entry c.verdict-reply.ensures) ∙
+    ap (λ (es : List Entry). es ++ entry (verdict m.no (Some c.args.found)) ∷ []) c.in_ok-reserve-2.ensures.entries in
     let len : c.len-position.result ≡ length b.history.entries = c.len-position.ensures.value ∙ ap length c.in_ok-reserve-2.ensures.entries in
     subst (λ (es : List Entry). AreKept es (known b.tables) (position_of c.note_reserved.new.self) (kept_for b.outboxes)) (sym entered)
     (kept_refused b.history.entries m (known b.tables) (position_of b.seen) (kept_for b.outboxes) c.requires.kept c.requires.room c.requires.dated c.requires.new c.args.found (position_of c.note_reserved.new.self) c.requires.fault
-     (λ by n. c.note_reserved.ensures.finds by n ∙
-       ap (λ (k : ℕ). cond (same_name m.by m.no by n) (Some k) (position_of c.reserve.new.self by n)) len ∙
-       ap (λ (ns : List ((Railway × ℕ) × ℕ)). cond (same_name m.by m.no by n) (Some (length b.history.entries)) (lookup (λ name. same_name by n name.0 name.1) ns)) c.in_ok-reserve.ensures.notes))
+    (λ by n. c.note_reserved.ensures.finds by n ∙
+    ap (λ (k : ℕ). cond (same_name m.by m.no by n) (Some k) (position_of c.reserve.new.self by n)) len ∙
+    ap (λ (ns : List ((Railway × ℕ) × ℕ)). cond (same_name m.by m.no by n) (Some (length b.history.entries)) (lookup (λ name. same_name by n name.0 name.1) ns)) c.in_ok-reserve.ensures.notes))
 
 pub returns-clause-answered : goal.returns-clause-answered
 returns-clause-answered c =

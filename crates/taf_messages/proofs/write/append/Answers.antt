@@ -1,4 +1,5 @@
-use Rattle.std.proofs.Common.{◌∙◌, refl}
+use Rattle.std.proofs.Common.{◌∙◌, refl, subst}
+use Rattle.taf_messages.specs.Texts.{AreSmall}
 use Rattle.taf_messages.proofs.TextLemmas.{text_after}
 use Rattle.taf_messages.proofs.write.append.Goals as goal
 
@@ -6,3 +7,6 @@ pub returns-in-Ok-clause-ok : goal.returns-in-Ok-clause-ok
 returns-in-Ok-clause-ok g c =
     let made = c.new-writer.ensures in
     text_after (g.T.Json.shape c.args.value.now) _ _ _ _ c.into_inner.ensures.items (c.put-put.ensures.before ∙ made.before ∙ rw c.replace.ensures.value refl) (c.in-Ok.ensures.ok ∙ rw made.tokens refl)
+
+pub returns-in-Ok-clause-small : goal.returns-in-Ok-clause-small
+returns-in-Ok-clause-small g c = subst AreSmall (c.in-Ok.ensures.ok ∙ rw c.new-writer.ensures.tokens refl) c.into_inner.ensures.small
