@@ -43,8 +43,6 @@ mod put_reply;
 mod read;
 mod record;
 mod reply;
-#[cfg(test)]
-mod tests;
 mod value;
 mod wagons;
 mod write;

@@ -1,22 +1,10 @@
-//! Tests by tables. What is expected comes from the rules of the exchange, byte for byte.
-use super::*;
+//! Parts of records, from texts.
 use std::alloc::Global;
-use std::str;
 use std::test::Fail;
 use taf_codes::{ConsignmentId, Place, Railway};
+use taf_messages::{Body, Call, Message, Within, read_call};
 use taf_moment::Moment;
 use wagon_number::WagonNumber;
-
-mod calls;
-mod copies;
-mod faults;
-mod growth;
-mod items;
-mod lists;
-mod numbers;
-mod plans;
-mod records;
-mod replies;
 
 /// Three wagons.
 pub(crate) const ONE: &str = "218124712173";
@@ -24,10 +12,6 @@ pub(crate) const ONE: &str = "218124712173";
 pub(crate) const TWO: &str = "338478961232";
 
 pub(crate) const THREE: &str = "318066552148";
-
-/// A plan of the first two wagons over two legs.
-pub(crate) const PLAN: &str =
-    r#"{"kind":"plan","from":"R100","no":1,"consignment":"C-1","load":"loaded","commit":"2025-03-01T15:30Z","wagons":["218124712173","338478961232"],"legs":[{"ru":"R101","origin":"DE00001","target":"AT00002","minutes":300},{"ru":"R102","origin":"AT00002","target":"IT00003","minutes":240}]}"#;
 
 pub(crate) fn railway(text: &str) -> Result<Railway, Fail> {
     Ok(Railway::read(text)?)
@@ -45,10 +29,8 @@ pub(crate) fn consignment(text: &str) -> Result<ConsignmentId, Fail> {
     Ok(ConsignmentId::read(text)?)
 }
 
-/// A time of the first of March 2025, as `06:00`.
-pub(crate) fn at(alloc: Global, time: &str) -> Result<Moment, Fail> {
-    let text = format!(in alloc; "2025-03-01T{time}Z")?;
-    Ok(Moment::read(&text)?)
+pub(crate) fn moment(text: &str) -> Result<Moment, Fail> {
+    Ok(Moment::read(text)?)
 }
 
 pub(crate) fn within<const LOW: u64, const HIGH: u64>(
@@ -81,9 +63,4 @@ pub(crate) fn message(alloc: Global, line: &str) -> Result<Message, Fail> {
         Call::Send(message) => Ok(message),
         _ => Err(Fail::new("no message")),
     }
-}
-
-/// The bytes as a text, for a failed test to show.
-pub(crate) fn shown(bytes: &[u8]) -> &str {
-    str::from_utf8(bytes).unwrap_or("no text")
 }

@@ -1,0 +1,336 @@
+//! A line of each kind, and the call that it is.
+use crate::checks::is_call;
+use crate::lines::PLAN;
+use crate::parts::{
+    ONE, THREE, TWO, consignment, moment, place, railway, send, wagon, wagons, within,
+};
+use std::alloc::Global;
+use std::test::Fail;
+use taf_codes::{Railway, TrainId, UnitCode};
+use taf_messages::{
+    Body, Call, Movement, MovementKind, OfferedWagons, TrainAnswer, TrainOffer, Wagons,
+};
+use trip_plan::{Leg, Load, Plan, Route, UnitLoad};
+
+// A movement of the first wagon.
+fn moved(by: &str, no: u64, time: &str, what: MovementKind) -> Result<Call, Fail> {
+    let wagon = wagon(ONE)?;
+    let at = moment(time)?;
+    send(by, no, Body::Movement(Movement { wagon, at, what }))
+}
+
+#[test]
+fn movements(rt: HostRuntime) -> Result<(), Fail> {
+    let alloc = rt.alloc();
+    is_call(
+        alloc,
+        r#"{"kind":"release","from":"R100","no":2,"wagon":"218124712173","at":"2025-03-01T05:30Z"}"#,
+        moved("R100", 2, "2025-03-01T05:30Z", MovementKind::Release),
+    )?;
+    is_call(
+        alloc,
+        r#"{"kind":"depart","from":"R101","no":1,"wagon":"218124712173","at":"2025-03-01T06:00Z"}"#,
+        moved("R101", 1, "2025-03-01T06:00Z", MovementKind::Departure),
+    )?;
+    is_call(
+        alloc,
+        r#"{"kind":"eti","from":"R101","no":3,"wagon":"218124712173","at":"2025-03-01T11:10Z"}"#,
+        moved("R101", 3, "2025-03-01T11:10Z", MovementKind::Estimate),
+    )?;
+    is_call(
+        alloc,
+        r#"{"kind":"arrival","from":"R102","no":5,"wagon":"218124712173","at":"2025-03-01T15:00Z"}"#,
+        moved("R102", 5, "2025-03-01T15:00Z", MovementKind::Arrival),
+    )?;
+    is_call(
+        alloc,
+        r#"{"kind":"delivery","from":"R102","no":6,"wagon":"218124712173","at":"2025-03-01T15:20Z"}"#,
+        moved("R102", 6, "2025-03-01T15:20Z", MovementKind::Delivery),
+    )
+}
+
+#[test]
+fn movements_that_say_more(rt: HostRuntime) -> Result<(), Fail> {
+    let alloc = rt.alloc();
+    let place = place("AT00002")?;
+    let delay = within(45)?;
+    is_call(
+        alloc,
+        r#"{"kind":"yard_in","from":"R101","no":2,"wagon":"218124712173","at":"2025-03-01T10:40Z","place":"AT00002"}"#,
+        moved(
+            "R101",
+            2,
+            "2025-03-01T10:40Z",
+            MovementKind::YardArrival { place },
+        ),
+    )?;
+    is_call(
+        alloc,
+        r#"{"kind":"yard_out","from":"R102","no":4,"wagon":"218124712173","at":"2025-03-01T11:30Z","place":"AT00002"}"#,
+        moved(
+            "R102",
+            4,
+            "2025-03-01T11:30Z",
+            MovementKind::YardDeparture { place },
+        ),
+    )?;
+    is_call(
+        alloc,
+        r#"{"kind":"exception","from":"R101","no":2,"wagon":"218124712173","at":"2025-03-01T07:00Z","delay":45}"#,
+        moved(
+            "R101",
+            2,
+            "2025-03-01T07:00Z",
+            MovementKind::Exception { delay },
+        ),
+    )
+}
+
+#[test]
+fn times_of_legs(rt: HostRuntime) -> Result<(), Fail> {
+    let alloc = rt.alloc();
+    let wagon = wagon(ONE)?;
+    let leg = within(1)?;
+    let minutes = within(200)?;
+    is_call(
+        alloc,
+        r#"{"kind":"eti_ask","from":"R100","no":3,"wagon":"218124712173"}"#,
+        send("R100", 3, Body::EtiAsk { wagon }),
+    )?;
+    is_call(
+        alloc,
+        r#"{"kind":"leg_time","from":"R102","no":1,"wagon":"218124712173","leg":1,"minutes":200}"#,
+        send(
+            "R102",
+            1,
+            Body::LegTime {
+                wagon,
+                leg,
+                minutes,
+            },
+        ),
+    )
+}
+
+fn offer(alloc: Global) -> Result<Call, Fail> {
+    let at = moment("2025-03-01T10:50Z")?;
+    let train = TrainId::read("T-77")?;
+    let place = place("AT00002")?;
+    let to = railway("R102")?;
+    let Some(wagons) = OfferedWagons::new(wagons(alloc, &[ONE, TWO])?) else {
+        return Err(Fail::new("no offer"));
+    };
+    let body = Body::Offer(TrainOffer {
+        at,
+        train,
+        place,
+        to,
+        wagons,
+    });
+    send("R101", 6, body)
+}
+
+fn withdrawal() -> Result<Call, Fail> {
+    let at = moment("2025-03-01T11:00Z")?;
+    let offer = within(6)?;
+    send("R101", 7, Body::Withdraw { at, offer })
+}
+
+fn reroute(alloc: Global) -> Result<Call, Fail> {
+    let wagon = wagon(ONE)?;
+    let leg = leg("R103", "AT00002", "CH00004", 180)?;
+    let route = Route::new(alloc, &[leg])?;
+    send("R100", 3, Body::Reroute { wagon, route })
+}
+
+#[test]
+fn offers_and_reroutings(rt: HostRuntime) -> Result<(), Fail> {
+    let alloc = rt.alloc();
+    is_call(
+        alloc,
+        r#"{"kind":"offer","from":"R101","no":6,"at":"2025-03-01T10:50Z","train":"T-77","place":"AT00002","to":"R102","wagons":["218124712173","338478961232"]}"#,
+        offer(alloc),
+    )?;
+    is_call(
+        alloc,
+        r#"{"kind":"withdraw","from":"R101","no":7,"at":"2025-03-01T11:00Z","offer":6}"#,
+        withdrawal(),
+    )?;
+    is_call(
+        alloc,
+        r#"{"kind":"reroute","from":"R100","no":3,"wagon":"218124712173","legs":[{"ru":"R103","origin":"AT00002","target":"CH00004","minutes":180}]}"#,
+        reroute(alloc),
+    )
+}
+
+fn some_wagons(alloc: Global, texts: &[&str]) -> Result<Wagons, Fail> {
+    match Wagons::new(wagons(alloc, texts)?) {
+        Some(wagons) => Ok(wagons),
+        None => Err(Fail::new("too many wagons")),
+    }
+}
+
+// The answer of R102 to the offer R101/6.
+fn answer(
+    alloc: Global,
+    no: u64,
+    received: &[&str],
+    refused: &[&str],
+    manager: Option<Railway>,
+) -> Result<Call, Fail> {
+    let at = moment("2025-03-01T11:10Z")?;
+    let offerer = railway("R101")?;
+    let offer = within(6)?;
+    let received = some_wagons(alloc, received)?;
+    let refused = some_wagons(alloc, refused)?;
+    let body = Body::Answer(TrainAnswer {
+        at,
+        offerer,
+        offer,
+        received,
+        refused,
+        manager,
+    });
+    send("R102", no, body)
+}
+
+// An answer may name no manager.
+#[test]
+fn answers(rt: HostRuntime) -> Result<(), Fail> {
+    let alloc = rt.alloc();
+    let manager = Some(railway("I300")?);
+    is_call(
+        alloc,
+        r#"{"kind":"answer","from":"R102","no":1,"at":"2025-03-01T11:10Z","offerer":"R101","offer":6,"received":["218124712173"],"refused":["338478961232"],"manager":"I300"}"#,
+        answer(alloc, 1, &[ONE], &[TWO], manager),
+    )?;
+    is_call(
+        alloc,
+        r#"{"kind":"answer","from":"R102","no":3,"at":"2025-03-01T11:10Z","offerer":"R101","offer":6,"received":["218124712173","338478961232"],"refused":[]}"#,
+        answer(alloc, 3, &[ONE, TWO], &[], None),
+    )?;
+    is_call(
+        alloc,
+        r#"{"kind":"answer","from":"R102","no":3,"at":"2025-03-01T11:10Z","offerer":"R101","offer":6,"received":["218124712173","338478961232"],"refused":[],"manager":null}"#,
+        answer(alloc, 3, &[ONE, TWO], &[], None),
+    )
+}
+
+fn leg(ru: &str, origin: &str, target: &str, minutes: u32) -> Result<Leg, Fail> {
+    Ok(Leg {
+        ru: railway(ru)?,
+        origin: place(origin)?,
+        target: place(target)?,
+        minutes,
+    })
+}
+
+// The plan of the first two wagons over two legs, with a unit on the first wagon or with none.
+fn plan(alloc: Global, unit: Option<UnitCode>) -> Result<Call, Fail> {
+    let lead = railway("R100")?;
+    let consignment = consignment("C-1")?;
+    let wagons = [wagon(ONE)?, wagon(TWO)?];
+    let commit = moment("2025-03-01T15:30Z")?;
+    let legs = [
+        leg("R101", "DE00001", "AT00002", 300)?,
+        leg("R102", "AT00002", "IT00003", 240)?,
+    ];
+    let load = Load::Loaded;
+    let plan = match unit {
+        None => Plan::new(alloc, lead, consignment, load, &wagons, &legs, commit)?,
+        Some(unit) => {
+            let wagon = wagons[0];
+            let units = [UnitLoad { unit, wagon }];
+            Plan::with_units(
+                alloc,
+                lead,
+                consignment,
+                load,
+                &wagons,
+                &legs,
+                &units,
+                commit,
+            )?
+        }
+    };
+    send("R100", 1, Body::Plan(plan))
+}
+
+// Lines of the plan without units, and then with one.
+const PLANS: &str =
+    r#"{"kind":"plan","from":"R100","no":1,"consignment":"C-1","load":"loaded","commit":"2025-03-01T15:30Z","wagons":["218124712173","338478961232"],"legs":[{"ru":"R101","origin":"DE00001","target":"AT00002","minutes":300},{"ru":"R102","origin":"AT00002","target":"IT00003","minutes":240}]}
+{"kind":"plan","from":"R100","no":1,"consignment":"C-1","load":"loaded","commit":"2025-03-01T15:30Z","wagons":["218124712173","338478961232"],"legs":[{"ru":"R101","origin":"DE00001","target":"AT00002","minutes":300},{"ru":"R102","origin":"AT00002","target":"IT00003","minutes":240}],"units":null}
+{"kind":"plan","from":"R100","no":1,"consignment":"C-1","load":"loaded","commit":"2025-03-01T15:30Z","wagons":["218124712173","338478961232"],"legs":[{"ru":"R101","origin":"DE00001","target":"AT00002","minutes":300},{"ru":"R102","origin":"AT00002","target":"IT00003","minutes":240}],"units":[]}
+{"kind":"plan","from":"R100","no":1,"consignment":"C-1","load":"loaded","commit":"2025-03-01T15:30Z","wagons":["218124712173","338478961232"],"legs":[{"ru":"R101","origin":"DE00001","target":"AT00002","minutes":300},{"ru":"R102","origin":"AT00002","target":"IT00003","minutes":240}],"units":7,"units":[]}"#;
+
+const PLANS_WITH_A_UNIT: &str =
+    r#"{"kind":"plan","from":"R100","no":1,"consignment":"C-1","load":"loaded","commit":"2025-03-01T15:30Z","wagons":["218124712173","338478961232"],"legs":[{"ru":"R101","origin":"DE00001","target":"AT00002","minutes":300},{"ru":"R102","origin":"AT00002","target":"IT00003","minutes":240}],"units":[{"unit":"CSQU3054383","wagon":"218124712173"}]}
+{"kind":"plan","from":"R100","no":1,"consignment":"C-1","load":"loaded","commit":"2025-03-01T15:30Z","wagons":["218124712173","338478961232"],"legs":[{"ru":"R101","origin":"DE00001","target":"AT00002","minutes":300},{"ru":"R102","origin":"AT00002","target":"IT00003","minutes":240}],"units":[{"wagon":"218124712173","note":null,"unit":"CSQU3054383"}]}"#;
+
+#[test]
+fn plans(rt: HostRuntime) -> Result<(), Fail> {
+    let alloc = rt.alloc();
+    is_call(alloc, PLAN, plan(alloc, None))?;
+    for line in PLANS.lines() {
+        is_call(alloc, line, plan(alloc, None))?;
+    }
+    let unit = Some(UnitCode::read("CSQU3054383")?);
+    for line in PLANS_WITH_A_UNIT.lines() {
+        is_call(alloc, line, plan(alloc, unit))?;
+    }
+    Ok(())
+}
+
+#[test]
+fn questions(rt: HostRuntime) -> Result<(), Fail> {
+    let alloc = rt.alloc();
+    let by = railway("R100")?;
+    let wagon = wagon(THREE)?;
+    let unit = UnitCode::read("CSQU3054383")?;
+    let consignment = consignment("C-1")?;
+    is_call(
+        alloc,
+        r#"{"kind":"ask","from":"R100","wagon":"318066552148"}"#,
+        Ok(Call::Ask { by, wagon }),
+    )?;
+    is_call(
+        alloc,
+        r#"{"kind":"ask_unit","from":"R100","unit":"CSQU3054383"}"#,
+        Ok(Call::AskUnit { by, unit }),
+    )?;
+    is_call(
+        alloc,
+        r#"{"kind":"deviation","from":"R100","consignment":"C-1"}"#,
+        Ok(Call::Deviation { by, consignment }),
+    )?;
+    let (limit, item) = (within(10)?, within(0)?);
+    is_call(
+        alloc,
+        r#"{"kind":"fetch","from":"R100","limit":10}"#,
+        Ok(Call::Fetch { by, limit }),
+    )?;
+    is_call(
+        alloc,
+        r#"{"kind":"ack","from":"R100","item":0}"#,
+        Ok(Call::Ack { by, item }),
+    )
+}
+
+// Key order, blanks, escapes, unknown fields and repeated keys make no other call.
+const FORMS: &str = r#"{"wagon":"318066552148","from":"R100","kind":"ask"}
+{"k\u0069nd":"\u0061sk","from":"R100","wagon":"318066552148"}
+{"kind":"ask","from":"R100","wagon":"318066552148","no":-1.5e3,"note":[null,{"kind":"ack"}]}
+{"kind":"fetch","kind":"ask","from":7,"from":"R100","wagon":"318066552148"}
+{"kind":"ask","from":"R100","wagon":"318066552148","note":"\ud83d\ude82 \u00e4"}"#;
+
+#[test]
+fn forms_of_one_line(rt: HostRuntime) -> Result<(), Fail> {
+    let alloc = rt.alloc();
+    let by = railway("R100")?;
+    let wagon = wagon(THREE)?;
+    for line in FORMS.lines() {
+        is_call(alloc, line, Ok(Call::Ask { by, wagon }))?;
+    }
+    let blanks = "\t{ \"kind\" : \"ask\" , \"from\" : \"R100\" , \"wagon\" : \"318066552148\" } \r";
+    is_call(alloc, blanks, Ok(Call::Ask { by, wagon }))
+}

@@ -1,0 +1,139 @@
+//! Texts of items: notices of each kind, and what else a railway is told.
+use crate::checks::{is_call, is_text};
+use crate::parts::{ONE, message, moment, railway, wagon, wagons, within};
+use std::alloc::Global;
+use std::test::Fail;
+use taf_messages::{Call, Item, ItemBody, SubNotice, Wagons, write_item};
+
+// Lines, and below each the message that its notice carries: the kind's own fields alone, keys in byte order.
+const NOTICES: &str =
+    r#"{"kind":"plan","from":"R100","no":1,"consignment":"C-1","load":"loaded","commit":"2025-03-01T15:30Z","wagons":["218124712173","338478961232"],"legs":[{"ru":"R101","origin":"DE00001","target":"AT00002","minutes":300},{"ru":"R102","origin":"AT00002","target":"IT00003","minutes":240}]}
+{"commit":"2025-03-01T15:30Z","consignment":"C-1","from":"R100","kind":"plan","legs":[{"minutes":300,"origin":"DE00001","ru":"R101","target":"AT00002"},{"minutes":240,"origin":"AT00002","ru":"R102","target":"IT00003"}],"load":"loaded","no":1,"wagons":["218124712173","338478961232"]}
+{"kind":"plan","from":"R100","no":1,"consignment":"C-1","load":"empty","commit":"2025-03-01T15:30Z","wagons":["218124712173"],"legs":[{"ru":"R101","origin":"DE00001","target":"AT00002","minutes":300,"note":[]}],"units":[{"unit":"CSQU3054383","wagon":"218124712173","note":1}],"note":"x"}
+{"commit":"2025-03-01T15:30Z","consignment":"C-1","from":"R100","kind":"plan","legs":[{"minutes":300,"origin":"DE00001","ru":"R101","target":"AT00002"}],"load":"empty","no":1,"units":[{"unit":"CSQU3054383","wagon":"218124712173"}],"wagons":["218124712173"]}
+{"kind":"release","from":"R100","no":2,"wagon":"218124712173","at":"2025-03-01T05:30Z"}
+{"at":"2025-03-01T05:30Z","from":"R100","kind":"release","no":2,"wagon":"218124712173"}
+{"kind":"depart","from":"R101","no":1,"wagon":"218124712173","at":"2025-03-01T06:00Z"}
+{"at":"2025-03-01T06:00Z","from":"R101","kind":"depart","no":1,"wagon":"218124712173"}
+{"kind":"yard_in","from":"R101","no":2,"wagon":"218124712173","at":"2025-03-01T10:40Z","place":"AT00002"}
+{"at":"2025-03-01T10:40Z","from":"R101","kind":"yard_in","no":2,"place":"AT00002","wagon":"218124712173"}
+{"kind":"yard_out","from":"R102","no":4,"wagon":"218124712173","at":"2025-03-01T11:30Z","place":"AT00002"}
+{"at":"2025-03-01T11:30Z","from":"R102","kind":"yard_out","no":4,"place":"AT00002","wagon":"218124712173"}
+{"kind":"exception","from":"R101","no":2,"wagon":"218124712173","at":"2025-03-01T07:00Z","delay":45}
+{"at":"2025-03-01T07:00Z","delay":45,"from":"R101","kind":"exception","no":2,"wagon":"218124712173"}
+{"kind":"eti","from":"R101","no":3,"wagon":"218124712173","at":"2025-03-01T11:10Z"}
+{"at":"2025-03-01T11:10Z","from":"R101","kind":"eti","no":3,"wagon":"218124712173"}
+{"kind":"arrival","from":"R102","no":5,"wagon":"218124712173","at":"2025-03-01T15:00Z"}
+{"at":"2025-03-01T15:00Z","from":"R102","kind":"arrival","no":5,"wagon":"218124712173"}
+{"kind":"delivery","from":"R102","no":6,"wagon":"218124712173","at":"2025-03-01T15:20Z"}
+{"at":"2025-03-01T15:20Z","from":"R102","kind":"delivery","no":6,"wagon":"218124712173"}
+{"kind":"eti_ask","from":"R100","no":3,"wagon":"218124712173"}
+{"from":"R100","kind":"eti_ask","no":3,"wagon":"218124712173"}
+{"kind":"leg_time","from":"R102","no":1,"wagon":"218124712173","leg":1,"minutes":200}
+{"from":"R102","kind":"leg_time","leg":1,"minutes":200,"no":1,"wagon":"218124712173"}
+{"kind":"offer","from":"R101","no":6,"at":"2025-03-01T10:50Z","train":"T-77","place":"AT00002","to":"R102","wagons":["218124712173","338478961232"]}
+{"at":"2025-03-01T10:50Z","from":"R101","kind":"offer","no":6,"place":"AT00002","to":"R102","train":"T-77","wagons":["218124712173","338478961232"]}
+{"kind":"answer","from":"R102","no":1,"at":"2025-03-01T11:10Z","offerer":"R101","offer":6,"received":["218124712173"],"refused":["338478961232"],"manager":"I300"}
+{"at":"2025-03-01T11:10Z","from":"R102","kind":"answer","manager":"I300","no":1,"offer":6,"offerer":"R101","received":["218124712173"],"refused":["338478961232"]}
+{"kind":"answer","from":"R102","no":3,"at":"2025-03-01T11:10Z","offerer":"R101","offer":6,"received":[],"refused":[],"manager":null}
+{"at":"2025-03-01T11:10Z","from":"R102","kind":"answer","no":3,"offer":6,"offerer":"R101","received":[],"refused":[]}
+{"kind":"withdraw","from":"R101","no":7,"at":"2025-03-01T11:00Z","offer":6}
+{"at":"2025-03-01T11:00Z","from":"R101","kind":"withdraw","no":7,"offer":6}
+{"kind":"reroute","from":"R100","no":3,"wagon":"218124712173","legs":[{"ru":"R103","origin":"AT00002","target":"CH00004","minutes":180}]}
+{"from":"R100","kind":"reroute","legs":[{"minutes":180,"origin":"AT00002","ru":"R103","target":"CH00004"}],"no":3,"wagon":"218124712173"}"#;
+
+// A notice carries its message, and that text is read as the call that sent it.
+fn notice(alloc: Global, line: &str, text: &str) -> Result<(), Fail> {
+    let body = ItemBody::Notice(message(alloc, line)?);
+    let whole = format!(in alloc; "{{\"item\":7,\"message\":{text},\"type\":\"notice\"}}")?;
+    is_text(write_item(alloc, &Item { number: 7, body }), &whole)?;
+    is_call(alloc, text, Ok(Call::Send(message(alloc, line)?)))
+}
+
+#[test]
+fn notices(rt: HostRuntime) -> Result<(), Fail> {
+    let mut line = None;
+    for next in NOTICES.lines() {
+        line = match line {
+            None => Some(next),
+            Some(line) => {
+                notice(rt.alloc(), line, next)?;
+                None
+            }
+        };
+    }
+    Ok(())
+}
+
+fn sub(alloc: Global) -> Result<ItemBody, Fail> {
+    let at = moment("2025-03-01T11:10Z")?;
+    let from = railway("R102")?;
+    let offer = within(6)?;
+    let offerer = railway("R101")?;
+    let Some(wagons) = Wagons::new(wagons(alloc, &[ONE])?) else {
+        return Err(Fail::new("no wagons"));
+    };
+    Ok(ItemBody::Sub(SubNotice {
+        at,
+        from,
+        offer,
+        offerer,
+        wagons,
+    }))
+}
+
+// Fails unless the item of this number has the text.
+fn is_item(alloc: Global, number: u64, body: ItemBody, text: &str) -> Result<(), Fail> {
+    is_text(write_item(alloc, &Item { number, body }), text)
+}
+
+#[test]
+fn sub_notices_and_estimates(rt: HostRuntime) -> Result<(), Fail> {
+    let alloc = rt.alloc();
+    let wagon = wagon(ONE)?;
+    let (leg, at) = (within(0)?, moment("2025-03-01T10:30Z")?);
+    is_item(
+        alloc,
+        1,
+        sub(alloc)?,
+        r#"{"at":"2025-03-01T11:10Z","from":"R102","item":1,"offer":6,"offerer":"R101","type":"sub","wagons":["218124712173"]}"#,
+    )?;
+    is_item(
+        alloc,
+        2,
+        ItemBody::Eti { wagon, leg, at },
+        r#"{"at":"2025-03-01T10:30Z","item":2,"leg":0,"type":"eti","wagon":"218124712173"}"#,
+    )?;
+    is_item(
+        alloc,
+        4,
+        ItemBody::Eta { wagon, at },
+        r#"{"at":"2025-03-01T10:30Z","item":4,"type":"eta","wagon":"218124712173"}"#,
+    )
+}
+
+#[test]
+fn alerts(rt: HostRuntime) -> Result<(), Fail> {
+    let alloc = rt.alloc();
+    let wagon = wagon(ONE)?;
+    let late_by = 15;
+    is_item(
+        alloc,
+        5,
+        ItemBody::AlertBegins { wagon, late_by },
+        r#"{"item":5,"late_by":15,"type":"alert_begins","wagon":"218124712173"}"#,
+    )?;
+    let late_by = u32::MAX;
+    is_item(
+        alloc,
+        u64::MAX,
+        ItemBody::AlertBegins { wagon, late_by },
+        r#"{"item":18446744073709551615,"late_by":4294967295,"type":"alert_begins","wagon":"218124712173"}"#,
+    )?;
+    is_item(
+        alloc,
+        7,
+        ItemBody::AlertEnds { wagon },
+        r#"{"item":7,"type":"alert_ends","wagon":"218124712173"}"#,
+    )
+}
