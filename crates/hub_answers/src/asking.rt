@@ -5,7 +5,6 @@ ghost use Rattle.hub_model.specs.Answers as of;
 ghost use Rattle.hub_model.specs.Units.{unit_wagon};
 ghost use Rattle.hub_tables.specs.Tabled.{known};
 
-use crate::units::unit_wagon;
 use hub_tables::{Tables, Wagon};
 use std::alloc::Global;
 use taf_codes::{Memory, Railway, UnitCode};
@@ -31,7 +30,7 @@ pub fn ask_unit(
     ensures { let s = known tables.now in
         IfOk result (λ r. r ≡ of.unit_reply s by (unit_wagon s unit)) }
 {
-    match unit_wagon(tables, unit) {
+    match tables.unit_wagon(unit) {
         Some(wagon) => record_reply(alloc, tables, by, wagon, Why::UnknownUnit, None),
         None => Ok(refused(Why::UnknownUnit, None)),
     }

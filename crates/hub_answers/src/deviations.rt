@@ -7,7 +7,6 @@ ghost use Rattle.hub_model.specs.Units.{is_on_plan};
 ghost use Rattle.hub_tables.specs.Tabled.{known};
 
 use crate::asking::refused;
-use crate::units::is_on_plan;
 use hub_tables::Tables;
 use std::alloc::Global;
 use taf_codes::{ConsignmentId, Memory, Railway};
@@ -64,7 +63,7 @@ fn deviating_record(
         IfOk result (λ r. r ≡ (if deviates then record_of wagon events else None)) }
 {
     match tables.wagon(wagon) {
-        Some(found) if found.estimates().late() && is_on_plan(found, plan) => {
+        Some(found) if found.estimates().late() && found.is_on(plan) => {
             let shown = wimo::record_of(alloc, found.track(), found.estimates())?;
             Ok(Some(shown))
         }

@@ -1,7 +1,7 @@
 //! What the hub answers from its tables, which stay as they are.
 //!
 //! - [`ask`] and [`ask_unit`] give a railway the record of a wagon, found by its number or by an
-//!   intermodal unit on it (4.2.11). [`unit_wagon`] is the wagon of a unit.
+//!   intermodal unit on it (4.2.11).
 //! - [`deviation`] gives the lead railway of a consignment the records of those wagons that are
 //!   expected after what was promised to the customer (4.2.6).
 //! - [`view`] gives the records of all wagons.
@@ -18,7 +18,7 @@
 //!
 //! Promised: for all tables each call gives exactly what `hub_model` defines by the same name, at
 //! what is `known` from the tables (`hub_tables`). [`Memory`](taf_codes::Memory) may come in place
-//! of a reply or of a view, and no other error. [`apart`] and [`unit_wagon`] take no memory. That
+//! of a reply or of a view, and no other error. [`apart`] takes no memory. That
 //! messages which are apart get the same replies in either order is a law of `hub_model`.
 #![tactic(auto)]
 
@@ -27,10 +27,8 @@ mod counted;
 mod deviations;
 mod fleet;
 mod overtaking;
-mod units;
 
 pub use asking::{ask, ask_unit};
 pub use deviations::deviation;
 pub use fleet::view;
 pub use overtaking::apart;
-pub use units::unit_wagon;

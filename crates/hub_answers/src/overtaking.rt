@@ -3,13 +3,11 @@ ghost use Rattle.std.specs.Prelude.{◌≡◌};
 ghost use Rattle.std.specs.List.{list_any};
 ghost use Rattle.trip_plan.specs.Rules.{loads};
 ghost use Rattle.replay_numbers.specs.Names.{same_name};
-ghost use Rattle.hub_model.specs.Units as in_units;
 ghost use Rattle.hub_model.specs.Overtaking as of;
 ghost use Rattle.hub_tables.specs.Tabled.{known};
 
 use crate::counted::Counted;
-use crate::units::unit_wagon;
-use hub_tables::Tables;
+use hub_tables::{Tables, units_in};
 use taf_codes::{ConsignmentId, Railway, UnitCode};
 use taf_messages::{Body, Message, MessageNumber};
 use trip_plan::UnitLoad;
@@ -51,19 +49,9 @@ fn counts_unit(tables: &Tables, message: &Message, unit: UnitCode) -> bool
     if loads(units_in(&message.body), unit) {
         return true;
     }
-    match unit_wagon(tables, unit) {
+    match tables.unit_wagon(unit) {
         Some(wagon) => Counted::of(tables, message).has(wagon),
         None => false,
-    }
-}
-
-/// The units that a message loads.
-fn units_in(body: &Body) -> &[UnitLoad]
-    ensures { result.now ≡ in_units.units_in body.now }
-{
-    match body {
-        Body::Plan(plan) => plan.units(),
-        _ => &[],
     }
 }
 

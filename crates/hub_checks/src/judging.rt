@@ -5,11 +5,11 @@ ghost use Rattle.hub_model.specs.Faults as of;
 ghost use Rattle.hub_model.specs.Laws.{OpenIsOffered};
 ghost use Rattle.hub_tables.specs.Tabled.{known};
 
-use crate::units::{unit_fault, units_in};
+use crate::units::unit_fault;
 use crate::wagon::wagon_fault;
 use crate::whole::whole_fault;
 use hub_model::Fault;
-use hub_tables::Tables;
+use hub_tables::{Tables, units_in};
 use std::alloc::Global;
 use taf_codes::Memory;
 use taf_messages::Message;

@@ -15,7 +15,6 @@
 #![tactic(auto)]
 
 mod judging;
-mod matching;
 mod units;
 mod wagon;
 mod whole;

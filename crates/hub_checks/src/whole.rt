@@ -5,7 +5,6 @@ ghost use Rattle.taf_messages.specs.declared.message.Body.TheVariants as body;
 ghost use Rattle.hub_model.specs.Faults.{whole_fault};
 ghost use Rattle.hub_tables.specs.Tabled.{known};
 
-use crate::matching::is_answered_by;
 use hub_tables::Tables;
 use taf_codes::Railway;
 use taf_messages::{Body, MessageNumber, TrainAnswer, Why};
@@ -49,7 +48,7 @@ fn answer_fault(tables: &Tables, by: Railway, answer: &TrainAnswer) -> Option<Wh
         Some(Why::NotYours)
     } else if !tables.is_open(answer.offerer, answer.offer) {
         Some(Why::OfferClosed)
-    } else if !is_answered_by(offer.wagons.as_slice(), answer) {
+    } else if !offer.matches(&answer.received, &answer.refused) {
         Some(Why::ListsDiffer)
     } else {
         None

@@ -1,5 +1,5 @@
 -- A new message without a fault may be accepted.
-use Rattle.std.proofs.Common.{◌≡◌, ℕ, ◌<◌, ◌≤◌, Bool, true, false, cond, length, List, [], ◌∷◌, ◌++◌, Option, Some, None, refl, ap, ◌∙◌, sym, subst}
+use Rattle.std.proofs.Common.{◌≡◌, ℕ, ◌<◌, Bool, true, false, cond, length, List, [], ◌∷◌, ◌++◌, Option, Some, None, refl, ap, ◌∙◌, sym, subst}
 use Rattle.taf_codes.specs.declared.code.Railway.{Railway}
 use Rattle.trip_plan.specs.Rules.{has}
 use Rattle.taf_messages.specs.declared.call.Call.TheVariants.{Send}
@@ -19,14 +19,14 @@ use Rattle.interchange.specs.Offers.{wagons_of, place_of}
 use Rattle.eti_chain.specs.Estimates.{fits}
 use Rattle.outbox.specs.Kept.{Kept}
 use Rattle.hub_model.specs.declared.entry.Entry.{Entry}
-use Rattle.hub_model.specs.Standing.{Standing, named, said_of, moment_in, journey_after}
-use Rattle.hub_model.specs.Faults.{fault, whole_fault, is_unknown}
-use Rattle.hub_model.specs.Answers.{answer, after, accepted, noted, standing_of}
+use Rattle.hub_model.specs.Standing.{Standing, named, said_of, moment_in}
+use Rattle.hub_model.specs.Faults.{fault, is_unknown}
+use Rattle.hub_model.specs.Answers.{answer, accepted, noted, standing_of}
 use Rattle.hub_model.specs.Laws.{IsMoment, EstimatesFit, AlwaysInOrder, OpenIsOffered}
 use Rattle.hub_model.proofs.Histories.{one_more_entry}
 use Rattle.hub_model.proofs.Steps.{standing_of-push}
 use Rattle.hub_model.proofs.NoFault.{GoesOn, no_known_fault, no_whole_fault, known_allowed, answer_fits, withdraw_fits, listed}
-use Rattle.hub_tables.specs.Tabled.{tabled, goes_on, IsAcceptable}
+use Rattle.hub_tables.specs.Tabled.{goes_on, IsAcceptable}
 use Rattle.hub_core.specs.Books.{AreKept}
 use Rattle.hub_core.proofs.Keeping.{dated_more}
 use Rattle.hub_core.proofs.Sends.{new_answer, new_name, after_it}

@@ -1,10 +1,9 @@
 -- What an acknowledgement changes.
-use Rattle.std.proofs.Common.{◌≡◌, ℕ, ◌+◌, ◌<◌, ◌≤◌, Bool, true, false, cond, length, List, [], ◌∷◌, ◌++◌, Option, Some, None, refl, ap, ◌∙◌, sym, subst, ltb, leb, inl, inr}
+use Rattle.std.proofs.Common.{◌≡◌, ℕ, ◌<◌, ◌≤◌, Bool, true, false, cond, length, List, [], ◌∷◌, ◌++◌, Option, Some, None, refl, ap, ◌∙◌, sym, subst, leb, inl, inr}
 use Rattle.std.specs.Prelude.{Result, Ok, Err, IsOk, IfOk, IfErr, OnOk, OnErr, ◌↔◌, max, bytes_eq}
 use Rattle.std.proofs.lemmas.Bool.{le-ltb, lt-ltb, leb-true, leb-false, cases_Bool}
 use Rattle.taf_codes.specs.declared.code.Railway.{Railway}
 use Rattle.taf_codes.specs.Equality.{texts}
-use Rattle.taf_messages.specs.declared.call.Call.{Call}
 use Rattle.taf_messages.specs.declared.call.Call.TheVariants.{Ack}
 use Rattle.taf_messages.specs.declared.reply.Reply.{Reply}
 use Rattle.taf_messages.specs.declared.reply.Reply.TheVariants.{Acknowledged, Refused}
@@ -15,7 +14,7 @@ use Rattle.outbox.specs.Kept.{Kept, kept_for, last_of, acknowledged_to}
 use Rattle.outbox.specs.Keeping.{Keeps, LastCounts, Acknowledges}
 use Rattle.hub_model.specs.declared.entry.Entry.{Entry}
 use Rattle.hub_model.specs.Standing.{Standing}
-use Rattle.hub_model.specs.Answers.{answer, ack_reply, after_call, acked, standing_of}
+use Rattle.hub_model.specs.Answers.{answer, after_call, acked, standing_of}
 use Rattle.hub_core.specs.Books.{AreKept, told_of_ack}
 use Rattle.hub_core.proofs.Keeping.{kept_more, kept_entered, leads_on}
 

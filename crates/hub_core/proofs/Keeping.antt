@@ -1,16 +1,13 @@
 -- What keeps the books, where a history has one more entry.
-use Rattle.std.proofs.Common.{◌≡◌, ℕ, ◌+◌, ◌<◌, ◌≤◌, Bool, true, false, cond, length, List, [], ◌∷◌, ◌++◌, Option, Some, None, refl, ap, ◌∙◌, sym, subst, arith, inl, inr}
-use Rattle.std.specs.Prelude.{slice_get, is_some, max, bytes_eq}
+use Rattle.std.proofs.Common.{◌≡◌, ℕ, ◌<◌, ◌≤◌, Bool, true, false, cond, length, List, [], ◌∷◌, ◌++◌, Option, Some, None, refl, ap, ◌∙◌, sym, subst, arith}
 use Rattle.std.proofs.lemmas.Option.{slice_get_within}
-use Rattle.std.proofs.lemmas.Bool.{cases_Bool}
 use Rattle.std.proofs.lemmas.List.{length-append}
-use Rattle.history_pages.proofs.EntryLemmas.{slice_get-left, slice_get-right}
+use Rattle.history_pages.proofs.EntryLemmas.{slice_get-left}
 use Rattle.taf_codes.specs.declared.code.Railway.{Railway}
 use Rattle.taf_messages.specs.declared.call.Call.{Call}
-use Rattle.taf_messages.specs.declared.call.Call.TheVariants.{Send, Fetch}
+use Rattle.taf_messages.specs.declared.call.Call.TheVariants.{Fetch}
 use Rattle.taf_messages.specs.declared.reply.Reply.{Reply}
 use Rattle.taf_messages.specs.declared.reply.Reply.TheVariants.{Items}
-use Rattle.taf_messages.specs.declared.message.Message.{Message}
 use Rattle.outbox.specs.Kept.{Kept, first_items}
 use Rattle.outbox.proofs.NumberLemmas.{first_items-kept}
 use Rattle.outbox.specs.Keeping.{Keeps}
@@ -19,7 +16,7 @@ use Rattle.replay_numbers.specs.Names.{same_name}
 use Rattle.replay_numbers.specs.Notes.{Noted, position_of}
 use Rattle.hub_model.specs.declared.entry.Entry.{Entry}
 use Rattle.hub_model.specs.Standing.{Standing, Told, moment_in}
-use Rattle.hub_model.specs.Answers.{answer, after, noted, standing_of}
+use Rattle.hub_model.specs.Answers.{answer, after, standing_of}
 use Rattle.hub_model.specs.Laws.{AreDated, IsSend, IsMoment}
 use Rattle.hub_model.proofs.Histories.{one_more_entry}
 use Rattle.hub_model.proofs.Steps.{standing_of-push}

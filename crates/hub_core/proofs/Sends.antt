@@ -6,7 +6,6 @@ use Rattle.taf_codes.specs.declared.code.Railway.{Railway}
 use Rattle.taf_messages.specs.declared.call.Call.TheVariants.{Send}
 use Rattle.taf_messages.specs.declared.reply.Reply.{Reply}
 use Rattle.taf_messages.specs.declared.reply.Reply.TheVariants.{Accepted}
-use Rattle.taf_messages.specs.declared.item.ItemBody.{ItemBody}
 use Rattle.taf_messages.specs.declared.message.Message.{Message}
 use Rattle.taf_messages.specs.declared.message.Body.{Body}
 use Rattle.taf_messages.specs.declared.message.Body.TheVariants as body
@@ -22,7 +21,7 @@ use Rattle.hub_model.specs.Items.{items_of, items_to}
 use Rattle.hub_model.specs.Answers.{answer, verdict, send_reply, after, after_call, after_new, accepted, noted, offer_given, standing_of}
 use Rattle.hub_model.specs.Laws.{IsMoment}
 use Rattle.hub_tables.specs.Tabled.{tabled}
-use Rattle.hub_core.specs.Books.{AreKept, LeadsTo, OffersWereSent, entry_of}
+use Rattle.hub_core.specs.Books.{AreKept, LeadsTo}
 use Rattle.hub_core.proofs.Keeping.{kept_more, leads_noted}
 
 -- without a position there is no first send

@@ -27,7 +27,7 @@ two_cases false true w f g h c e = e
 two_cases false false w f g h c e = c ∙ ap (λ rest. w ∷ rest) e
 
 -- two sieves are one
-two_sieves : (p q : ℕ → Bool) (ws : List ℕ) → filter (λ v. not (p v)) (filter (λ v. not (q v)) ws) ≡ filter (λ v. not (p v || q v)) ws
+pub two_sieves : (p q : ℕ → Bool) (ws : List ℕ) → filter (λ v. not (p v)) (filter (λ v. not (q v)) ws) ≡ filter (λ v. not (p v || q v)) ws
 two_sieves p q [] = refl
 two_sieves p q (w ∷ ws) =
     two_cases (p w) (q w) w (filter (λ v. not (p v))) (filter (λ v. not (q v)) ws) (filter (λ v. not (p v || q v)) ws) refl (two_sieves p q ws)

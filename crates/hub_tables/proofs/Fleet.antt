@@ -8,6 +8,7 @@ use Rattle.taf_codes.specs.Equality.{numbers, is_equivalence}
 use Rattle.trip_plan.specs.Rules.{has}
 use Rattle.indexmap.specs.IndexMap.{insert_entry, insert_all}
 use Rattle.hub_model.specs.Answers.{each_wagon, fleet_after}
+use Rattle.hub_model.proofs.Fleets.{two_sieves}
 
 -- a key that is new goes last
 abbrev pub with_key : List ℕ → ℕ → List ℕ
@@ -33,19 +34,6 @@ module _ {V : Type 0} where
   keys_all : (j : ℕ → V) (ws : List ℕ) (es : List (ℕ × V)) → keys_of (insert_all nat_eq es (map (λ w. (w, j w)) ws)) ≡ fold with_key (keys_of es) ws
   keys_all j [] es = refl
   keys_all j (w ∷ ws) es = keys_all j ws (insert_entry nat_eq es w (j w)) ∙ ap (λ (ks : List ℕ). fold with_key ks ws) (keys_entered es w (j w))
-
--- two sieves are one
-sieve_first : (p q : Bool) (w : ℕ) (f : List ℕ → List ℕ) (kept both : List ℕ) → f (w ∷ kept) ≡ cond (not p) (w ∷ f kept) (f kept) → f kept ≡ both →
-    f (cond (not q) (w ∷ kept) kept) ≡ cond (not (p || q)) (w ∷ both) both
-sieve_first true true w f kept both c e = e
-sieve_first true false w f kept both c e = c ∙ e
-sieve_first false true w f kept both c e = e
-sieve_first false false w f kept both c e = c ∙ ap (λ (rest : List ℕ). w ∷ rest) e
-
-two_sieves : (p q : ℕ → Bool) (ws : List ℕ) → filter (λ v. not (p v)) (filter (λ v. not (q v)) ws) ≡ filter (λ v. not (p v || q v)) ws
-two_sieves p q [] = refl
-two_sieves p q (w ∷ ws) =
-    sieve_first (p w) (q w) w (filter (λ v. not (p v))) (filter (λ v. not (q v)) ws) (filter (λ v. not (p v || q v)) ws) refl (two_sieves p q ws)
 
 or_false : (b : Bool) → (b || false) ≡ b
 or_false true = refl

@@ -14,7 +14,9 @@ mod accept;
 mod enter;
 mod shares;
 mod tables;
+mod units;
 mod wagon;
 
 pub use tables::Tables;
+pub use units::units_in;
 pub use wagon::Wagon;

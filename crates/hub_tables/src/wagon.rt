@@ -3,10 +3,12 @@ ghost use Rattle.journey.specs.Stages.{is_plan};
 ghost use Rattle.journey.specs.Checks.{refusal};
 ghost use Rattle.eti_chain.specs.Estimates.{fits};
 ghost use Rattle.eti_chain.specs.Chains.{chain};
+ghost use Rattle.hub_model.specs.Units.{is_on_plan};
 
 use eti_chain::Estimates;
 use journey::{Prepared, Track};
 use std::marker::Model;
+use trip_plan::Plan;
 use wagon_number::WagonNumber;
 
 /// A wagon with its journey and its estimates.
@@ -54,6 +56,13 @@ impl Wagon {
         ensures { result.now ≡ chain self.now.events }
     {
         &self.estimates
+    }
+
+    /// Whether the journey begins with this plan; a consignment has one accepted plan.
+    pub fn is_on(&self, plan: &Plan) -> bool
+        ensures { result ≡ is_on_plan self.now.events plan.now }
+    {
+        self.track.plan().consignment() == plan.consignment()
     }
 
     /// Goes on with the journey by an event that it admits.

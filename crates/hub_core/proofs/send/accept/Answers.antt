@@ -1,5 +1,4 @@
 use Rattle.std.proofs.Common.{◌≡◌, ℕ, List, [], ◌∷◌, ◌++◌, Option, Some, None, cond, length, ap, ◌∙◌, sym, subst}
-use Rattle.taf_codes.specs.declared.code.Railway.{Railway}
 use Rattle.taf_messages.specs.declared.call.Call.TheVariants.{Send}
 use Rattle.taf_messages.specs.declared.reply.Reply.{Reply}
 use Rattle.taf_messages.specs.declared.reply.Reply.TheVariants.{Accepted}
@@ -9,7 +8,7 @@ use Rattle.replay_numbers.specs.Names.{same_name}
 use Rattle.replay_numbers.specs.Notes.{position_of}
 use Rattle.outbox.specs.Kept.{Kept, kept_for, pushed}
 use Rattle.hub_model.specs.declared.entry.Entry.{Entry}
-use Rattle.hub_model.specs.Items.{items_of, items_to}
+use Rattle.hub_model.specs.Items.{items_of}
 use Rattle.hub_model.specs.Answers.{accepted}
 use Rattle.hub_tables.specs.Tabled.{Filings, known, tabled}
 use Rattle.hub_core.specs.declared.parcels.Parcel.{Parcel}

@@ -1,4 +1,4 @@
-use Rattle.std.proofs.Common.{◌≡◌, ℕ, List, [], ◌∷◌, ◌++◌, Option, Some, cond, length, ap, ◌∙◌, sym, subst}
+use Rattle.std.proofs.Common.{◌≡◌, ℕ, List, [], ◌∷◌, ◌++◌, Some, cond, length, ap, ◌∙◌, sym, subst}
 use Rattle.std.specs.Map.{lookup}
 use Rattle.taf_codes.specs.declared.code.Railway.{Railway}
 use Rattle.taf_messages.specs.declared.call.Call.TheVariants.{Send}

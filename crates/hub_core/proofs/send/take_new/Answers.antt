@@ -1,4 +1,4 @@
-use Rattle.std.proofs.Common.{◌≡◌, Option, None, ◌∙◌, sym}
+use Rattle.std.proofs.Common.{◌∙◌, sym}
 use Rattle.replay_numbers.specs.Notes.{position_of}
 use Rattle.outbox.specs.Kept.{kept_for}
 use Rattle.hub_tables.specs.Tabled.{known}
