@@ -5,6 +5,7 @@ ghost use Rattle.eti_chain.specs.Estimates.{is_late};
 ghost use Rattle.hub_model.specs.Standing.{named, journey_after};
 ghost use Rattle.hub_model.specs.Items as of;
 ghost use Rattle.hub_tables.specs.Tabled.{IsAcceptable, known};
+ghost use Rattle.hub_items.specs.Onward.{after};
 
 use crate::alerts::put_alerts;
 use crate::estimates::put_estimates;
@@ -22,10 +23,18 @@ pub fn items(alloc: Global, tables: &Tables, message: &Message) -> Result<Vec<Ad
     requires { IsAcceptable (known tables.now) message.now }
     ensures { IfOk result (λ v. v.items ≡ of.items_of (known tables.now) message.now) }
 {
-    let mut items = notices(alloc, tables, message)?;
     let wagons = tables.named(alloc, message)?;
-    put_all_estimates(alloc, &mut items, tables, message, wagons.as_slice())?;
-    put_all_alerts(alloc, &mut items, tables, message, wagons.as_slice())?;
+    let mut items = notices(alloc, tables, message)?;
+    let mut alerts = Vec::new(alloc);
+    put_of_wagons(
+        alloc,
+        &mut items,
+        &mut alerts,
+        tables,
+        message,
+        wagons.as_slice(),
+    )?;
+    items.append(&mut alerts)?;
     keep_others(&mut items, message.by);
     Ok(items)
 }
@@ -37,76 +46,61 @@ fn keep_others(items: &mut Vec<Addressed>, sender: Railway)
     items.retain(|item| item.to != sender);
 }
 
-// Adds the estimates that are news, of the wagons that the message names.
-fn put_all_estimates(
+// Adds the estimates that are news and the alerts, of the wagons that the message names.
+fn put_of_wagons(
     alloc: Global,
     items: &mut Vec<Addressed>,
+    alerts: &mut Vec<Addressed>,
     tables: &Tables,
     message: &Message,
     wagons: &[WagonNumber],
 ) -> Result<(), Memory>
     requires acceptable { IsAcceptable (known tables.now) message.now }
     requires are_named { wagons.now ≡ named (known tables.now).offer message.now }
-    ensures { OnOk result (items.new.items ≡ items.old.items ++ flat_map (λ w. of.estimate_items ((known tables.now).journey w) (journey_after (known tables.now) message.now w) w) wagons.now) }
+    ensures estimates { OnOk result (items.new.items ≡ items.old.items ++ flat_map (λ w. of.estimate_items ((known tables.now).journey w) (journey_after (known tables.now) message.now w) w) wagons.now) }
+    ensures alerts { OnOk result (alerts.new.items ≡ alerts.old.items ++ flat_map (λ w. of.alert_items ((known tables.now).journey w) (journey_after (known tables.now) message.now w) w) wagons.now) }
 {
     for wagon in wagons {
-        put_wagon_estimates(alloc, items, tables, message, *wagon)?;
+        put_of_wagon(alloc, items, alerts, tables, message, *wagon)?;
     }
     Ok(())
 }
 
-// The same of one wagon. A plan gives no estimate.
-fn put_wagon_estimates(
+// The same of one wagon. A plan gives no estimate, and ends the alert of the journey before.
+fn put_of_wagon(
     alloc: Global,
     items: &mut Vec<Addressed>,
+    alerts: &mut Vec<Addressed>,
     tables: &Tables,
     message: &Message,
     wagon: WagonNumber,
 ) -> Result<(), Memory>
     requires acceptable { IsAcceptable (known tables.now) message.now }
     requires is_named { has (named (known tables.now).offer message.now) wagon ≡ true }
-    ensures { OnOk result (items.new.items ≡ items.old.items ++ of.estimate_items ((known tables.now).journey wagon) (journey_after (known tables.now) message.now wagon) wagon) }
+    ensures estimates { OnOk result (items.new.items ≡ items.old.items ++ of.estimate_items ((known tables.now).journey wagon) (journey_after (known tables.now) message.now wagon) wagon) }
+    ensures alerts { OnOk result (alerts.new.items ≡ alerts.old.items ++ of.alert_items ((known tables.now).journey wagon) (journey_after (known tables.now) message.now wagon) wagon) }
 {
     match &message.body {
-        Body::Plan(_) => Ok(()),
-        _ => put_estimates(alloc, items, &Progress::of(tables, message, wagon)?),
+        Body::Plan(plan) => put_alert_end(alerts, tables, plan.lead(), wagon),
+        _ => {
+            let progress = Progress::of(tables, message, wagon)?;
+            put_of_progress(alloc, items, alerts, &progress)
+        }
     }
 }
 
-// Adds the alerts of the wagons that the message names.
-fn put_all_alerts(
+// The same of a wagon with an event.
+fn put_of_progress(
     alloc: Global,
     items: &mut Vec<Addressed>,
-    tables: &Tables,
-    message: &Message,
-    wagons: &[WagonNumber],
+    alerts: &mut Vec<Addressed>,
+    progress: &Progress<'_>,
 ) -> Result<(), Memory>
-    requires acceptable { IsAcceptable (known tables.now) message.now }
-    requires are_named { wagons.now ≡ named (known tables.now).offer message.now }
-    ensures { OnOk result (items.new.items ≡ items.old.items ++ flat_map (λ w. of.alert_items ((known tables.now).journey w) (journey_after (known tables.now) message.now w) w) wagons.now) }
+    ensures estimates { OnOk result (items.new.items ≡ items.old.items ++ of.estimate_items progress.now.before (after progress.now) progress.now.wagon) }
+    ensures alerts { OnOk result (alerts.new.items ≡ alerts.old.items ++ of.alert_items progress.now.before (after progress.now) progress.now.wagon) }
 {
-    for wagon in wagons {
-        put_wagon_alerts(alloc, items, tables, message, *wagon)?;
-    }
-    Ok(())
-}
-
-// The same of one wagon. A plan ends the alert of the journey before.
-fn put_wagon_alerts(
-    alloc: Global,
-    items: &mut Vec<Addressed>,
-    tables: &Tables,
-    message: &Message,
-    wagon: WagonNumber,
-) -> Result<(), Memory>
-    requires acceptable { IsAcceptable (known tables.now) message.now }
-    requires is_named { has (named (known tables.now).offer message.now) wagon ≡ true }
-    ensures { OnOk result (items.new.items ≡ items.old.items ++ of.alert_items ((known tables.now).journey wagon) (journey_after (known tables.now) message.now wagon) wagon) }
-{
-    match &message.body {
-        Body::Plan(plan) => put_alert_end(items, tables, plan.lead(), wagon),
-        _ => put_alerts(alloc, items, &Progress::of(tables, message, wagon)?),
-    }
+    put_estimates(alloc, items, progress)?;
+    put_alerts(alloc, alerts, progress)
 }
 
 // Adds the end of the wagon's alert for the lead of a plan, where the wagon is late.

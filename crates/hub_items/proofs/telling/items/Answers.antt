@@ -5,5 +5,5 @@ use Rattle.hub_items.proofs.telling.items.Goals as goal
 
 pub returns : goal.returns
 returns c =
-    told (known c.args.tables.now) c.args.message.now _ _ _ _ _ _ c.in_ok-items.ensures (c.as_slice.ensures.value ∙ c.in_ok-wagons.ensures) (c.as_slice-2.ensures.value ∙ c.in_ok-wagons.ensures)
-    c.in_ok-put_all_estimates.ensures c.in_ok-put_all_alerts.ensures c.keep_others.ensures
+    told (known c.args.tables.now) c.args.message.now _ _ _ _ _ _ _ c.in_ok-items.ensures (c.as_slice.ensures.value ∙ c.in_ok-wagons.ensures)
+    c.in_ok-put_of_wagons.ensures.estimates c.new-alerts.ensures.items c.in_ok-put_of_wagons.ensures.alerts c.in_ok-append.ensures.items c.keep_others.ensures

@@ -1,7 +1,0 @@
-use Rattle.hub_items.proofs.SoFar.{so_far, flat_map_grows}
-use Rattle.hub_items.proofs.telling.put_all_estimates.Goals as goal
-
-pub loop-wagon-preserved : goal.loop-wagon-preserved
-loop-wagon-preserved c =
-    so_far _ _ (flat_map_grows _) c.args.wagons.now c.loop-wagon.wagon-index c.wagon-item.result _ _ _ c.loop-wagon-test.true c.wagon-item.is c.loop-wagon.invariant
-    c.in_ok-put_wagon_estimates.ensures

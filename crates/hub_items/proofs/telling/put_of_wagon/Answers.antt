@@ -1,0 +1,23 @@
+use Rattle.std.proofs.Common.{◌≡◌, List, ◌∙◌, ap, sym, ◌++◌, append-nil, subst}
+use Rattle.std.specs.Prelude.{OnOk}
+use Rattle.std.proofs.lemmas.Result.{on_ok_weaker}
+use Rattle.hub_tables.specs.Tabled.{known}
+use Rattle.hub_model.specs.declared.addressed.Addressed.{Addressed}
+use Rattle.hub_model.specs.Items.{alert_items, estimate_items}
+use Rattle.hub_items.proofs.Planned.{planned_estimates}
+use Rattle.hub_items.proofs.telling.put_of_wagon.Goals as goal
+
+pub returns-in-Plan-clause-estimates : goal.returns-in-Plan-clause-estimates
+returns-in-Plan-clause-estimates c =
+    let before = c.args.items.now.items in
+    let none = planned_estimates (known c.args.tables.now) c.args.message.now c.in-Plan.plan c.args.wagon c.in-Plan.is c.requires.is_named in
+    on_ok_weaker c.put_alert_end.result (λ told. sym (ap (λ more. before ++ more) none ∙ append-nil before)) c.put_alert_end.ensures
+
+pub returns-in_ok-progress-in_default : goal.returns-in_ok-progress-in_default
+returns-in_ok-progress-in_default c =
+    let e = c.in_ok-progress-in_default.ensures in
+    let put = c.put_of_progress in
+    record {
+      estimates = subst (λ (more : List Addressed). OnOk put.result (put.new.items.items ≡ c.args.items.now.items ++ more)) (λ i. estimate_items (e.before i) (e.after i) (e.wagon i)) put.ensures.estimates;
+      alerts = subst (λ (more : List Addressed). OnOk put.result (put.new.alerts.items ≡ c.args.alerts.now.items ++ more)) (λ i. alert_items (e.before i) (e.after i) (e.wagon i)) put.ensures.alerts;
+    }
