@@ -24,7 +24,7 @@ const BAD_LIMIT: &str = r#"{"fault":"bad_field","field":"limit"}"#;
 const LINES: &[(&str, &str)] = &[
     (ASK, UNKNOWN),
     ("", ""),
-    (r#"{"kind":"ask","from":"R1"#, BAD_JSON),
+    (r#"{"kind":"ask","from":"DE"#, BAD_JSON),
     (" \t \r", ""),
     ("[]", BAD_JSON),
     ("{}", r#"{"fault":"bad_kind"}"#),

@@ -12,13 +12,13 @@ fn railways(rt: HostRuntime) -> Result<(), Fail> {
     }
     for text in [
         "",
-        "R10",
-        "R1011",
+        "ABC",
+        "ABCDE",
         "r101",
         "R-10",
-        "R10 ",
-        "ÄR1",
-        "R1\u{661}",
+        "ABC ",
+        "ÄBC",
+        "AB\u{661}",
     ] {
         assert_eq!(rt; Railway::read(text), Err(BadCode), "at {text}");
     }
@@ -104,9 +104,9 @@ fn codes_and_errors_are_printed(rt: HostRuntime) -> Result<(), Fail> {
     let place = Place::read("IT00003")?;
     let unit = UnitCode::read("CSQU3054383")?;
     let consignment = ConsignmentId::read("CIM-17")?;
-    let train = TrainId::read("T1")?;
+    let train = TrainId::read("T-77")?;
     let codes = format!(in rt.alloc(); "{railway} {place} {unit} {consignment:>8} {train}")?;
-    assert_eq!(rt; codes.as_str(), "R101 IT00003 CSQU3054383   CIM-17 T1");
+    assert_eq!(rt; codes.as_str(), "R101 IT00003 CSQU3054383   CIM-17 T-77");
     let form = UnitFault::NotAUnitCode;
     let digit = UnitFault::BadUnitDigit;
     let errors = format!(in rt.alloc(); "{BadCode}\n{form}\n{digit}\n{Memory}\n{Failed}")?;

@@ -107,7 +107,7 @@ fn fields_in_their_order(rt: HostRuntime) -> Result<(), Fail> {
 }
 
 const NO_RECORDS: &str = r#"={"fault":"bad_json"}
-{"kind":"ask","from":"R1
+{"kind":"ask","from":"DE
 []
 null
 "ask"
