@@ -1,8 +1,9 @@
 //! Worked examples: tests of the hub from bytes to bytes. There is nothing else here.
 //!
-//! An example is a table of calls, each with its answer. Its calls go as lines through `hub_replay::run` to a new hub, and
-//! all that is written is compared with the answers, byte by byte. Where an example is about a record or about what a
-//! railway was sent, an `ask` or a `fetch` shows it. `script` says how calls and answers are written in the tables.
+//! An example is a text: the lines of calls as railways send them, and behind each the line of its answer, with `> ` before
+//! it. Its calls go through `hub_replay::run` to a new hub, and all that is written is compared with the answers, byte by
+//! byte. Where an example is about a record or about what a railway was sent, an `ask` or a `fetch` shows it. The answers
+//! come from the rules of the exchange.
 //!
 //! | part | examples of |
 //! |---|---|
@@ -11,11 +12,12 @@
 //! | `trains` | offers, their answers, and what follows |
 //! | `changes` | other legs, and units on wagons |
 //! | `lines` | bad lines, long lines, lines that are cut |
-//! | `many` | as many wagons, delays and calls as a hub takes |
+//! | `many` | as many wagons, items, delays and calls as a hub takes or gives |
 //! | `scarcity` | each growth refused in turn |
 //! | `others` | the report, and messages that may overtake each other |
 //!
-//! The tests stand apart from the crates that they test, since a crate with tests is proved twice.
+//! The tests stand apart from the crates that they test, since a crate with tests is proved twice. Examples are texts, since
+//! a table of values is proved value by value.
 #![tactic(auto)]
 
 #[cfg(test)]
@@ -34,7 +36,5 @@ mod others;
 mod play;
 #[cfg(test)]
 mod scarcity;
-#[cfg(test)]
-mod script;
 #[cfg(test)]
 mod trains;
