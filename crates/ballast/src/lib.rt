@@ -1,6 +1,6 @@
 //! Takes up memory, so that a test can have a growth refused. Nothing but tests uses it.
 //!
-//! [`Ballast::new`] takes all the address space that can be had in large blocks, which are never touched;
+//! [`Ballast::new`] takes the address space that can be had in large blocks, which are never touched, but for some room;
 //! [`Ballast::leave`] then takes the small blocks too, but for a budget of so many bytes. A growth that goes past the
 //! budget is refused by the allocator itself, so the code under test runs as it always does. [`Ballast::ease`] gives the
 //! small blocks back.

@@ -23,7 +23,7 @@ impl Model for Ballast {
 /// How many blocks of each kind are held at most.
 const MOST: usize = 200_000;
 
-/// The large blocks are of 2^36 bytes, of half as many, and so on down to the double of the greatest small block.
+/// The large blocks are of 2^36 bytes, of half as many, and so on down to the greatest small block.
 const GREATEST: usize = 1 << 36;
 
 /// The small blocks are of 2^22 bytes, of half as many, and so on down to a few.
@@ -32,14 +32,19 @@ const GREATEST_SMALL: usize = 1 << 22;
 /// What is set aside to be split, while the small blocks are taken.
 const PLUG: usize = 4096;
 
+/// What is set aside for the budgets, while the large blocks are taken.
+const ROOM: usize = 1 << 22;
+
 impl Ballast {
-    /// Takes all large blocks.
+    /// Takes all large blocks, but for room for a budget of up to 2^21 bytes.
     pub fn new(alloc: Global) -> Result<Ballast, AllocError>
         ensures { IfOk result (λ ballast. ballast.small ≡ 0) }
     {
         let mut large = Vec::with_capacity(alloc, MOST)?;
         let small = Vec::with_capacity(alloc, MOST)?;
+        let room: Vec<u8> = Vec::with_capacity(alloc, ROOM)?;
         take_halves(alloc, &mut large, GREATEST, 15);
+        drop(room);
         Ok(Ballast {
             large,
             small,
@@ -47,7 +52,7 @@ impl Ballast {
         })
     }
 
-    /// Leaves about so many bytes, and no more.
+    /// Leaves about so many bytes, and no more. Up to 2^21 of them there is room for.
     pub fn leave(&mut self, bytes: usize) -> Result<(), AllocError>
         ensures large { self.new.large ≡ self.old.large }
         ensures none_given_back { self.old.small ≤ self.new.small }

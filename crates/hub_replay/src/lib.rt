@@ -16,8 +16,6 @@ mod heard;
 mod newline;
 mod pieces;
 mod replay;
-#[cfg(test)]
-mod tests;
 mod turn;
 
 pub use counts::Counts;

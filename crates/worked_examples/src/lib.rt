@@ -13,6 +13,7 @@
 //! | `changes` | other legs, and units on wagons |
 //! | `lines` | bad lines, long lines, lines that are cut |
 //! | `many` | as many wagons, items, delays and calls as a hub takes or gives |
+//! | `streams` | readers and writers that go by few bytes, and that fail at each step |
 //! | `scarcity` | each growth refused in turn |
 //! | `others` | the report, and messages that may overtake each other |
 //!
@@ -36,5 +37,7 @@ mod others;
 mod play;
 #[cfg(test)]
 mod scarcity;
+#[cfg(test)]
+mod streams;
 #[cfg(test)]
 mod trains;

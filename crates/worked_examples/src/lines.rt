@@ -6,7 +6,7 @@ use std::alloc::Global;
 use std::test::Fail;
 
 // A session's first line is no call, and without sessions anyone may ask.
-const BAD_LINES: &str = r#"{"kind":"ask","from":"DE
+pub(crate) const BAD_LINES: &str = r#"{"kind":"ask","from":"DE
 > {"fault":"bad_json"}
 []
 > {"fault":"bad_json"}
@@ -112,14 +112,41 @@ fn a_line_that_nests_deep(rt: HostRuntime) -> Result<(), Fail> {
     no_difference(filled_otherwise(rt.alloc(), "", b'[', 30_000, BAD_JSON)?)
 }
 
+// Where a line that is too long and the line behind it are answered otherwise.
+fn followed_otherwise(
+    alloc: Global,
+    line: &str,
+    fill: u8,
+    size: usize,
+) -> Result<Option<String>, Fail> {
+    let mut input = filled(alloc, line, fill, size)?;
+    add_line(&mut input, "\n\n[]")?;
+    let mut wanted = line_of(alloc, TOO_LONG)?;
+    add_line(&mut wanted, BAD_JSON)?;
+    written_otherwise(alloc, &input, &wanted)
+}
+
+#[test]
+fn a_line_behind_one_that_is_too_long(rt: HostRuntime) -> Result<(), Fail> {
+    no_difference(followed_otherwise(rt.alloc(), ASK, b' ', 65_537)?)?;
+    no_difference(followed_otherwise(rt.alloc(), "", b'[', 300_000)?)
+}
+
+#[test]
+fn long_blank_lines(rt: HostRuntime) -> Result<(), Fail> {
+    let input = filled(rt.alloc(), "", b' ', 65_536)?;
+    no_difference(written_otherwise(rt.alloc(), &input, b"")?)?;
+    no_difference(filled_otherwise(rt.alloc(), "", b' ', 65_537, TOO_LONG)?)
+}
+
 #[test]
 fn lines_that_are_no_text(rt: HostRuntime) -> Result<(), Fail> {
     no_difference(filled_otherwise(rt.alloc(), "", 0xFF, 1, BAD_JSON)?)?;
     no_difference(filled_otherwise(rt.alloc(), "\"", 0xC3, 2, BAD_JSON)?)
 }
 
-// How many newlines there are.
-fn count_lines(bytes: &[u8]) -> usize {
+/// How many newlines there are.
+pub(crate) fn count_lines(bytes: &[u8]) -> usize {
     let mut lines: usize = 0;
     for byte in bytes {
         if *byte == b'\n' {
@@ -129,8 +156,8 @@ fn count_lines(bytes: &[u8]) -> usize {
     lines
 }
 
-// The first lines, so many of them.
-fn first_lines(lines: &[u8], many: usize) -> &[u8] {
+/// The first lines, so many of them.
+pub(crate) fn first_lines(lines: &[u8], many: usize) -> &[u8] {
     let mut left = many;
     for (i, byte) in lines.iter().enumerate() {
         if left == 0 {

@@ -1,8 +1,8 @@
 use crate::play::{DEPARTED, plays};
 use std::test::Fail;
 
-// The records of both wagons, and what each railway was sent.
-const AFTER_DEPARTURE: &str = r#"{"from":"R102","kind":"ask","wagon":"218124712173"}
+/// The records of both wagons, and what each railway was sent.
+pub(crate) const AFTER_DEPARTURE: &str = r#"{"from":"R102","kind":"ask","wagon":"218124712173"}
 > {"record":{"commit":"2025-03-01T15:30Z","consignment":"C-1","estimates":[{"at":"2025-03-01T11:00Z","leg":0},{"at":"2025-03-01T15:00Z","leg":1}],"eta":"2025-03-01T15:00Z","events":[{"by":"R100","kind":"plan","no":1},{"at":"2025-03-01T05:30Z","by":"R100","kind":"release","no":2},{"at":"2025-03-01T06:00Z","by":"R101","kind":"depart","no":1}],"late":false,"lead":"R100","leg":0,"load":"loaded","place":null,"responsible":"R101","stage":"running","status":"loaded_on_journey","wagon":"218124712173"},"reply":"record"}
 {"from":"R100","kind":"ask","wagon":"218124712173"}
 > {"record":{"commit":"2025-03-01T15:30Z","consignment":"C-1","estimates":[{"at":"2025-03-01T11:00Z","leg":0},{"at":"2025-03-01T15:00Z","leg":1}],"eta":"2025-03-01T15:00Z","events":[{"by":"R100","kind":"plan","no":1},{"at":"2025-03-01T05:30Z","by":"R100","kind":"release","no":2},{"at":"2025-03-01T06:00Z","by":"R101","kind":"depart","no":1}],"late":false,"lead":"R100","leg":0,"load":"loaded","place":null,"responsible":"R101","stage":"running","status":"loaded_on_journey","wagon":"218124712173"},"reply":"record"}

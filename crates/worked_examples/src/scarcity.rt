@@ -25,11 +25,8 @@ struct Scarcity {
 }
 
 impl Scarcity {
-    // Room is left beside the large blocks, for the greatest budget.
     fn new(alloc: Global) -> Result<Scarcity, Fail> {
-        let room: Vec<u8> = Vec::with_capacity(alloc, 1 << 21)?;
         let ballast = Ballast::new(alloc)?;
-        drop(room);
         Ok(Scarcity {
             ballast,
             left: 0,
