@@ -1,15 +1,17 @@
 -- A message goes on with the journey of a wagon that it names and that admits it.
-use Rattle.std.proofs.Common.{◌≡◌, ℕ, Bool, true, cond, not, List, [], ◌∷◌, ◌++◌, Some, None, refl, ap, ◌∙◌}
+use Rattle.std.proofs.Common.{◌≡◌, ℕ, Bool, true, false, cond, not, List, [], ◌∷◌, ◌++◌, Option, Some, None, refl, ap, ◌∙◌}
 use Rattle.std.specs.Prelude.{◌&&◌}
+use Rattle.std.specs.Option.{option_or}
 use Rattle.trip_plan.specs.Rules.{has}
 use Rattle.taf_messages.specs.declared.message.Message.{Message}
 use Rattle.taf_messages.specs.declared.message.TrainAnswer.{TrainAnswer}
 use Rattle.taf_messages.specs.declared.message.Body.TheVariants as body
-use Rattle.taf_messages.specs.declared.reply.Why.TheVariants.{BeyondCalendar}
+use Rattle.taf_messages.specs.declared.reply.Why.TheVariants.{UnknownWagon, BeyondCalendar}
 use Rattle.journey.specs.declared.event.Event.{Event}
+use Rattle.journey.specs.Checks.{refusal}
 use Rattle.eti_chain.specs.Estimates.{fits, is_reckoned}
 use Rattle.hub_model.specs.Standing.{Standing, named, share, said_of, journey_after}
-use Rattle.hub_model.specs.Faults.{whole_fault, known_fault, calendar_fault}
+use Rattle.hub_model.specs.Faults.{is_unknown, whole_fault, known_fault, calendar_fault}
 use Rattle.hub_model.specs.Laws.{OpenIsOffered}
 use Rattle.hub_model.proofs.NoFault.{goes_on, listed, answer_fits}
 use Rattle.hub_model.proofs.Sound.{answered_known}
@@ -36,3 +38,19 @@ calendar_by s m w events e beyond h k j is b =
     let last : Bool → Bool = λ r. r && not (fits (events ++ e ∷ [])) in
     ap (λ c. cond c (Some BeyondCalendar) None)
     (ap (λ es. is_reckoned (said_of s.offer m.by m.body w) && not (fits es)) after ∙ ap (λ (x : Event). last (is_reckoned x.body)) is ∙ b)
+
+-- what is asked where the first check is passed
+asked_after : {A : Type 0} (first : Option A) (a b : Option A) → (first ≡ None → a ≡ b) → option_or first a ≡ option_or first b
+asked_after None a b h = h refl
+asked_after (Some x) a b h = refl
+
+-- both checks of a wagon that is known, by its events and its share of the message
+pub either_by : (s : Standing) (m : Message) (w : ℕ) (events : List Event) (e : Event) → has (named s.offer m) w ≡ true → is_unknown (s.journey w) ≡ false →
+    s.journey w ≡ events → share s.offer m w ≡ e →
+    option_or (known_fault s m w) (calendar_fault s m w) ≡ option_or (refusal events e.by e.body) (cond (is_reckoned e.body && not (fits (events ++ e ∷ []))) (Some BeyondCalendar) None)
+either_by s m w events e h u j is =
+    let known : known_fault s m w ≡ refusal events e.by e.body =
+    ap (λ b. cond b (Some UnknownWagon) (refusal (s.journey w) m.by (said_of s.offer m.by m.body w))) u ∙
+    ap (λ es. refusal es m.by (said_of s.offer m.by m.body w)) j ∙ ap (λ (x : Event). refusal events x.by x.body) is in
+    ap (λ o. option_or o (calendar_fault s m w)) known ∙
+    asked_after (refusal events e.by e.body) _ _ (λ r. calendar_by s m w events e _ h (known ∙ r) j is refl)

@@ -11,7 +11,7 @@
 //! | withdrawal | the offer is known and open | |
 //! | any other | | it is known, its journey admits the event, no estimate passes the calendar |
 //!
-//! Nothing is changed, and the tables stay as they are. Memory is taken only for the list of the wagons.
+//! Nothing is changed, and the tables stay as they are. Memory is taken only for the list of the wagons of an answer.
 #![tactic(auto)]
 
 mod judging;

@@ -77,24 +77,23 @@ fn either_fault(
     requires is_named { has (named (known tables.now).offer message.now) wagon ≡ true }
     ensures { IfOk result (λ why. why ≡ option_or (of.known_fault (known tables.now) message.now wagon) (of.calendar_fault (known tables.now) message.now wagon)) }
 {
-    match known_fault(tables, message, wagon)? {
-        Some(why) => Ok(Some(why)),
-        None => calendar_fault(tables, message, wagon),
+    match tables.wagon(wagon) {
+        Some(found) => {
+            let event = tables.share(message, wagon)?;
+            Ok(share_fault(found, &event))
+        }
+        None => Ok(Some(Why::UnknownWagon)),
     }
 }
 
-// The checks of the wagon by its own events.
-fn known_fault(
-    tables: &Tables,
-    message: &Message,
-    wagon: WagonNumber,
-) -> Result<Option<Why>, Memory>
-    requires { of.whole_fault (known tables.now) message.now.by message.now.body ≡ None }
-    ensures { IfOk result (λ why. why ≡ of.known_fault (known tables.now) message.now wagon) }
+// The same of a wagon that is known, by its share of the message.
+fn share_fault(wagon: &Wagon, event: &Event) -> Option<Why>
+    ensures { result ≡ option_or (refusal wagon.now.events event.now.by event.now.body) (if estimates.is_reckoned event.now.body && not (estimates.fits (wagon.now.events ++ event.now ∷ [])) then Some Why.BeyondCalendar else None) }
 {
-    match tables.wagon(wagon) {
-        Some(found) => Ok(found.track().admits(&tables.share(message, wagon)?)),
-        None => Ok(Some(Why::UnknownWagon)),
+    match wagon.track().admits(event) {
+        Some(why) => Some(why),
+        None if is_beyond(wagon, event) => Some(Why::BeyondCalendar),
+        None => None,
     }
 }
 

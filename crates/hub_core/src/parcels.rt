@@ -21,7 +21,7 @@ pub struct Parcel {
 pub fn prepared(alloc: Global, items: Vec<Addressed>) -> Result<Vec<Parcel>, Memory>
     ensures { IfOk result (λ parcels. parcels.items ≡ are_of items.items) }
 {
-    let mut parcels = Vec::new(alloc);
+    let mut parcels = Vec::with_capacity(alloc, items.len())?;
     for item in items {
         let to = item.to;
         let item = Prepared::new(alloc, item.body)?;

@@ -92,3 +92,20 @@ pub counted : {B : Type 0} (f : ℕ → Option B) (n : ℕ) (before now : List B
     now ≡ filter_map f (range_with_len 0 (n + 1))
 counted f n before now b s =
     s ∙ ap (λ ys. ys ++ option_to_list (f n)) b ∙ sym (grows_at f n) ∙ ap (filter_map f) (sym (range_more 0 n n (omega arith)) ∙ ap (range_with_len 0) (let e : suc n ≡ n + 1 = omega arith in e))
+
+-- what a function gives of those that pass, of the numbers up to n
+pub passed_counted : {A B : Type 0} (g : A → List B) (p : A → Bool) (f : ℕ → Option A) (n : ℕ) (start before now : List B) →
+    before ≡ start ++ flat_map g (filter p (filter_map f (range_with_len 0 n))) → now ≡ before ++ flat_map g (filter p (option_to_list (f n))) →
+    now ≡ start ++ flat_map g (filter p (filter_map f (range_with_len 0 (n + 1))))
+passed_counted {A} g p f n start before now b s =
+    let done = filter_map f (range_with_len 0 n) in
+    let last = option_to_list (f n) in
+    let both : flat_map g (filter p (done ++ last)) ≡ flat_map g (filter p done) ++ flat_map g (filter p last) =
+    ap (flat_map g) (filter-append p done last) ∙ flat_map-append g (filter p done) (filter p last) in
+    s ∙ ap (λ ys. ys ++ flat_map g (filter p last)) b ∙ append_assoc start (flat_map g (filter p done)) (flat_map g (filter p last)) ∙
+    ap (λ ys. start ++ ys) (sym both ∙ ap (λ xs. flat_map g (filter p xs)) (counted f n done (done ++ last) refl refl))
+
+-- the same of one alone
+pub passed_one : {A B : Type 0} (g : A → List B) (p : A → Bool) (x : A) (found : Option A) → found ≡ Some x →
+    flat_map g (filter p (option_to_list found)) ≡ cond (p x) (g x) []
+passed_one g p x found e = ap (λ o. flat_map g (filter p (option_to_list o))) e ∙ one_passed g x (p x)

@@ -1,28 +1,63 @@
--- The items are the notices, the estimates and the alerts, without those for the sender.
-use Rattle.std.proofs.Common.{◌≡◌, ℕ, List, [], ◌++◌, not, ap, ◌∙◌}
-use Rattle.std.specs.Prelude.{filter, flat_map, bytes_eq}
+-- What is told are the notices, the estimates that are news and the alerts.
+use Rattle.std.proofs.Common.{◌≡◌, ℕ, List, [], ◌∷◌, ◌++◌, Option, Some, None, refl, sym, ap, ◌∙◌, append-nil}
+use Rattle.std.specs.Prelude.{map, flat_map, option_to_list}
+use Rattle.taf_codes.specs.declared.code.Railway.{Railway}
 use Rattle.taf_messages.specs.declared.message.Message.{Message}
+use Rattle.taf_messages.specs.declared.item.ItemBody.TheVariants as item
+use Rattle.journey.specs.declared.event.Event.{Event}
 use Rattle.hub_model.specs.declared.addressed.Addressed.{Addressed}
 use Rattle.hub_model.specs.Standing.{Standing, named, journey_after}
-use Rattle.hub_model.specs.Items.{notices, estimate_items, alert_items, items_of}
+use Rattle.hub_model.specs.Items.{each_once, notified, sub_items, notices, estimate_items, alert_items}
+use Rattle.hub_items.specs.Onward.{Onward, after}
+use Rattle.hub_items.specs.Telling.{told_by}
 
--- of each wagon
-abbrev estimates_of : Standing → Message → List ℕ → List Addressed
-estimates_of s m wagons = flat_map (λ w. estimate_items (s.journey w) (journey_after s m w) w) wagons
+-- of a wagon
+abbrev estimates_at : Standing → Message → ℕ → List Addressed
+estimates_at s m w = estimate_items (s.journey w) (journey_after s m w) w
 
-abbrev alerts_of : Standing → Message → List ℕ → List Addressed
-alerts_of s m wagons = flat_map (λ w. alert_items (s.journey w) (journey_after s m w) w) wagons
-
--- the items for others than the sender
-abbrev to_others : Message → List Addressed → List Addressed
-to_others m items = filter (λ i. not (bytes_eq i.to m.by)) items
+abbrev alerts_at : Standing → Message → ℕ → List Addressed
+alerts_at s m w = alert_items (s.journey w) (journey_after s m w) w
 
 -- they are put one after another
-pub told : (s : Standing) (m : Message) (first second none alerts third last : List Addressed) (wagons : List ℕ) → first ≡ notices s m → wagons ≡ named s.offer m →
+pub told_of_many : (s : Standing) (m : Message) (first second none alerts last : List Addressed) (wagons : List ℕ) → first ≡ notices s m → wagons ≡ named s.offer m →
     second ≡ first ++ flat_map (λ w. estimate_items (s.journey w) (journey_after s m w) w) wagons →
     none ≡ [] → alerts ≡ none ++ flat_map (λ w. alert_items (s.journey w) (journey_after s m w) w) wagons →
-    third ≡ second ++ alerts → last ≡ filter (λ i. not (bytes_eq i.to m.by)) third → last ≡ items_of s m
-told s m first second none alerts third last wagons f ws a e b t l =
-    l ∙ ap (to_others m)
-    (t ∙ ap (λ ys. ys ++ alerts) (a ∙ ap (λ ys. ys ++ estimates_of s m wagons) f) ∙
-    ap (λ ys. (notices s m ++ estimates_of s m wagons) ++ ys) (b ∙ ap (λ ys. ys ++ alerts_of s m wagons) e) ∙ ap (λ us. (notices s m ++ estimates_of s m us) ++ alerts_of s m us) ws)
+    last ≡ second ++ alerts → last ≡ told_by s m
+told_of_many s m first second none alerts last wagons f ws a e b t =
+    t ∙ ap (λ ys. ys ++ alerts) (a ∙ ap (λ ys. ys ++ flat_map (estimates_at s m) wagons) f) ∙
+    ap (λ ys. (notices s m ++ flat_map (estimates_at s m) wagons) ++ ys) (b ∙ ap (λ ys. ys ++ flat_map (alerts_at s m) wagons) e) ∙
+    ap (λ us. (notices s m ++ flat_map (estimates_at s m) us) ++ flat_map (alerts_at s m) us) ws
+
+once_one : (found : Option Railway) → each_once (option_to_list found) ≡ option_to_list found
+once_one None = refl
+once_one (Some r) = refl
+
+-- the notice of a message for each of the railways
+abbrev to_each : List Railway → Message → List Addressed
+to_each railways m = map (λ r. record { to = r; body = item.Notice m }) railways
+
+one_noticed : (s : Standing) (m : Message) (told : Option Railway) → notified s (journey_after s m) m.by m.body ≡ option_to_list told → sub_items m.by m.body ≡ [] →
+    to_each (option_to_list told) m ≡ notices s m
+one_noticed s m told is none =
+    sym (
+    ap (λ subs. to_each (each_once (notified s (journey_after s m) m.by m.body)) m ++ subs) none ∙
+    append-nil (to_each (each_once (notified s (journey_after s m) m.by m.body)) m) ∙
+    ap (λ rs. to_each (each_once rs) m) is ∙ ap (λ rs. to_each rs m) (once_one told))
+
+-- a wagon's items by its progress are those of the message, if it names no other wagon
+of_one : (s : Standing) (m : Message) (w : ℕ) (p : Onward) (f : List Event → List Event → ℕ → List Addressed) → named s.offer m ≡ w ∷ [] →
+    p.wagon ≡ w → p.before ≡ s.journey w → after p ≡ journey_after s m w →
+    f p.before (after p) p.wagon ≡ flat_map (λ v. f (s.journey v) (journey_after s m v) v) (named s.offer m)
+of_one s m w p f n wagon before behind =
+    ap (λ es. f es (after p) p.wagon) before ∙ ap (λ es. f (s.journey w) es p.wagon) behind ∙ ap (λ v. f (s.journey w) (journey_after s m w) v) wagon ∙
+    sym (append-nil (f (s.journey w) (journey_after s m w) w)) ∙ ap (λ ws. flat_map (λ v. f (s.journey v) (journey_after s m v) v) ws) (sym n)
+
+-- a message on one wagon has its notice, if it has one, told to one railway
+pub told_of_one : (s : Standing) (m : Message) (w : ℕ) (told : Option Railway) (p : Onward) → named s.offer m ≡ w ∷ [] →
+    notified s (journey_after s m) m.by m.body ≡ option_to_list told → sub_items m.by m.body ≡ [] →
+    p.wagon ≡ w → p.before ≡ s.journey w → after p ≡ journey_after s m w →
+    map (λ r. record { to = r; body = item.Notice m }) (option_to_list told) ++ estimate_items p.before (after p) p.wagon ++ alert_items p.before (after p) p.wagon ≡ told_by s m
+told_of_one s m w told p n is none wagon before behind =
+    ap (λ xs. xs ++ estimate_items p.before (after p) p.wagon ++ alert_items p.before (after p) p.wagon) (one_noticed s m told is none) ∙
+    ap (λ xs. notices s m ++ xs ++ alert_items p.before (after p) p.wagon) (of_one s m w p estimate_items n wagon before behind) ∙
+    ap (λ xs. notices s m ++ flat_map (estimates_at s m) (named s.offer m) ++ xs) (of_one s m w p alert_items n wagon before behind)

@@ -1,53 +1,33 @@
 //! The estimates that are news (4.2.6).
-ghost use Rattle.std.specs.Prelude.{◌≡◌, ◌++◌, ◌<◌, [], if◌then◌else◌, IfOk, OnOk, option_map, option_to_list};
-ghost use Rattle.taf_messages.specs.declared.record.EstimateAt.{EstimateAt};
-ghost use Rattle.eti_chain.specs.Estimates as reckoned;
+ghost use Rattle.std.specs.Prelude.{◌≡◌, ◌++◌, ◌<◌, [], if◌then◌else◌, OnOk, option_to_list};
 ghost use Rattle.hub_model.specs.Items as of;
-ghost use Rattle.hub_items.specs.Onward.{after};
+ghost use Rattle.hub_items.specs.Onward.{after, estimate_of, news_of};
 
 use crate::progress::Progress;
 use hub_model::Addressed;
-use std::alloc::Global;
 use taf_codes::Memory;
 use taf_messages::{EstimateAt, ItemBody, LegIndex};
 
 /// Adds the items of the estimates that are news.
 pub(crate) fn put_estimates(
-    alloc: Global,
     items: &mut Vec<Addressed>,
     progress: &Progress<'_>,
 ) -> Result<(), Memory>
     ensures { OnOk result (items.new.items ≡ items.old.items ++ of.estimate_items progress.now.before (after progress.now) progress.now.wagon) }
 {
-    let estimates = estimates(alloc, progress)?;
-    for estimate in estimates.as_slice() {
-        put_news(items, progress, estimate)?;
+    for leg in 0..progress.leg_count() {
+        put_of_leg(items, progress, leg)?;
     }
     Ok(())
 }
 
-// All estimates with the event, by their legs.
-fn estimates(alloc: Global, progress: &Progress<'_>) -> Result<Vec<EstimateAt>, Memory>
-    ensures { IfOk result (λ v. v.items ≡ reckoned.estimates (after progress.now)) }
-{
-    let mut found = Vec::new(alloc);
-    for leg in 0..progress.leg_count() {
-        put_estimate(&mut found, progress, leg)?;
-    }
-    Ok(found)
-}
-
-// Adds the estimate of a leg with the event, if there is one.
-fn put_estimate(
-    found: &mut Vec<EstimateAt>,
-    progress: &Progress<'_>,
-    leg: usize,
-) -> Result<(), Memory>
+// Adds the item of a leg's estimate, if there is one and it is news.
+fn put_of_leg(items: &mut Vec<Addressed>, progress: &Progress<'_>, leg: usize) -> Result<(), Memory>
     requires { leg < 8 }
-    ensures { OnOk result (found.new.items ≡ found.old.items ++ option_to_list (option_map (λ at. record { leg = leg; at = at }) (reckoned.estimate (after progress.now) leg))) }
+    ensures { OnOk result (items.new.items ≡ items.old.items ++ news_of progress.now leg) }
 {
     if let Some(estimate) = estimate_of(progress, leg) {
-        found.push(estimate)?;
+        put_news(items, progress, &estimate)?;
     }
     Ok(())
 }
@@ -55,7 +35,7 @@ fn put_estimate(
 // The estimate of a leg with the event.
 fn estimate_of(progress: &Progress<'_>, leg: usize) -> Option<EstimateAt>
     requires { leg < 8 }
-    ensures { result ≡ option_map (λ at. record { leg = leg; at = at }) (reckoned.estimate (after progress.now) leg) }
+    ensures { result ≡ estimate_of progress.now leg }
 {
     let at = progress.estimate_after(leg)?;
     let leg = LegIndex::new(leg as u64)?;

@@ -1,7 +1,8 @@
 //! The notices of a message, and the sub notice (4.2.8).
-ghost use Rattle.std.specs.Prelude.{◌≡◌, ◌++◌, IfOk, OnOk, option_to_list};
+ghost use Rattle.std.specs.Prelude.{◌≡◌, ◌++◌, false, IfOk, OnOk, option_to_list};
 ghost use Rattle.hub_model.specs.Items as of;
 ghost use Rattle.hub_tables.specs.Tabled.{IsAcceptable, known};
+ghost use Rattle.hub_items.specs.Telling.{tells_one};
 
 use crate::each::put_each;
 use crate::notified::notified;
@@ -18,7 +19,8 @@ pub(crate) fn notices(
     tables: &Tables,
     message: &Message,
 ) -> Result<Vec<Addressed>, Memory>
-    requires { IsAcceptable (known tables.now) message.now }
+    requires acceptable { IsAcceptable (known tables.now) message.now }
+    requires many { tells_one message.now.body ≡ false }
     ensures { IfOk result (λ v. v.items ≡ of.notices (known tables.now) message.now) }
 {
     let concerned = notified(alloc, tables, message)?;

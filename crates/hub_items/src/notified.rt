@@ -1,10 +1,11 @@
 //! Who gets the notice of a message.
-ghost use Rattle.std.specs.Prelude.{◌≡◌, ◌++◌, true, IfOk, OnOk, filter_map, option_to_list};
+ghost use Rattle.std.specs.Prelude.{◌≡◌, ◌++◌, true, false, IfOk, OnOk, filter_map, option_to_list};
 ghost use Rattle.journey.specs.Legs as legs_of;
 ghost use Rattle.hub_model.specs.Standing.{named, journey_after};
 ghost use Rattle.hub_model.specs.Items as of;
 ghost use Rattle.hub_tables.specs.Tabled.{IsAcceptable, known, goes_on};
 ghost use Rattle.hub_items.specs.Onward.{after};
+ghost use Rattle.hub_items.specs.Telling.{tells_one};
 ghost use Rattle.taf_messages.specs.declared.message.Body.TheVariants as body;
 
 use crate::progress::Progress;
@@ -16,25 +17,20 @@ use taf_messages::{Body, Message, MovementKind, TrainAnswer};
 use trip_plan::Leg;
 use wagon_number::WagonNumber;
 
-/// Who gets the notice of a message, as often as one is concerned.
+/// Who gets the notice of a message, as often as one is concerned. It is no movement and no question for an estimate,
+/// which tell one railway at most.
 pub(crate) fn notified(
     alloc: Global,
     tables: &Tables,
     message: &Message,
 ) -> Result<Vec<Railway>, Memory>
-    requires { IsAcceptable (known tables.now) message.now }
+    requires acceptable { IsAcceptable (known tables.now) message.now }
+    requires many { tells_one message.now.body ≡ false }
     ensures { IfOk result (λ v. v.items ≡ of.notified (known tables.now) (journey_after (known tables.now) message.now) message.now.by message.now.body) }
 {
     match &message.body {
         Body::Plan(plan) => Ok(runners(alloc, plan.legs())?),
-        Body::Movement(movement) => {
-            let progress = Progress::of(tables, message, movement.wagon)?;
-            Ok(listed(alloc, told_of_movement(&progress, movement.what))?)
-        }
-        Body::EtiAsk { wagon } => {
-            let progress = Progress::of(tables, message, *wagon)?;
-            Ok(listed(alloc, progress.responsible())?)
-        }
+        Body::Movement(_) | Body::EtiAsk { .. } => unreachable!(),
         Body::LegTime { .. } => Ok(Vec::new(alloc)),
         Body::Offer(offer) => Ok(listed(alloc, Some(offer.to))?),
         Body::Answer(answer) => told_of_answer(alloc, tables, message, answer),
@@ -66,8 +62,8 @@ fn runners(alloc: Global, legs: &[Leg]) -> Result<Vec<Railway>, AllocError>
     legs.iter().map(|leg| leg.ru).collect(alloc)
 }
 
-// Who is told of a movement.
-fn told_of_movement(progress: &Progress<'_>, what: MovementKind) -> Option<Railway>
+/// Who is told of a movement.
+pub(crate) fn told_of_movement(progress: &Progress<'_>, what: MovementKind) -> Option<Railway>
     ensures { option_to_list result ≡ of.told_of_movement (after progress.now) what }
 {
     match what {

@@ -1,27 +1,99 @@
 //! The items of an accepted message.
-ghost use Rattle.std.specs.Prelude.{◌≡◌, ◌++◌, ◌∷◌, [], IfOk, OnOk, true, not, filter, flat_map, if◌then◌else◌, bytes_eq};
+ghost use Rattle.std.specs.Prelude.{◌≡◌, ◌++◌, ◌∷◌, [], IfOk, OnOk, true, false, not, filter, map, flat_map, option_to_list, if◌then◌else◌, bytes_eq};
 ghost use Rattle.trip_plan.specs.Rules.{has};
 ghost use Rattle.eti_chain.specs.Estimates.{is_late};
 ghost use Rattle.hub_model.specs.Standing.{named, journey_after};
 ghost use Rattle.hub_model.specs.Items as of;
 ghost use Rattle.hub_tables.specs.Tabled.{IsAcceptable, known};
 ghost use Rattle.hub_items.specs.Onward.{after};
+ghost use Rattle.hub_items.specs.Telling.{tells_one, told_by};
 
 use crate::alerts::put_alerts;
 use crate::estimates::put_estimates;
 use crate::notices::notices;
+use crate::notified::told_of_movement;
 use crate::progress::Progress;
 use hub_model::Addressed;
 use hub_tables::Tables;
 use std::alloc::Global;
 use taf_codes::{Memory, Railway};
-use taf_messages::{Body, ItemBody, Message};
+use taf_messages::{Body, ItemBody, Message, copy};
 use wagon_number::WagonNumber;
 
 /// What an acceptable message has the railways told, in order; nothing goes to its own sender.
 pub fn items(alloc: Global, tables: &Tables, message: &Message) -> Result<Vec<Addressed>, Memory>
     requires { IsAcceptable (known tables.now) message.now }
     ensures { IfOk result (λ v. v.items ≡ of.items_of (known tables.now) message.now) }
+{
+    let mut items = all_items(alloc, tables, message)?;
+    keep_others(&mut items, message.by);
+    Ok(items)
+}
+
+// The items of an acceptable message, with those for its own sender.
+fn all_items(alloc: Global, tables: &Tables, message: &Message) -> Result<Vec<Addressed>, Memory>
+    requires { IsAcceptable (known tables.now) message.now }
+    ensures { IfOk result (λ v. v.items ≡ told_by (known tables.now) message.now) }
+{
+    match &message.body {
+        Body::Movement(movement) => {
+            let progress = Progress::of(tables, message, movement.wagon)?;
+            let told = told_of_movement(&progress, movement.what);
+            items_of_one(alloc, message, told, &progress)
+        }
+        Body::EtiAsk { wagon } => {
+            let progress = Progress::of(tables, message, *wagon)?;
+            items_of_one(alloc, message, progress.responsible(), &progress)
+        }
+        Body::Plan(_)
+        | Body::LegTime { .. }
+        | Body::Offer(_)
+        | Body::Answer(_)
+        | Body::Withdraw { .. }
+        | Body::Reroute { .. } => items_of_many(alloc, tables, message),
+    }
+}
+
+// The items of a message on one wagon, of which at most one railway gets the notice.
+fn items_of_one(
+    alloc: Global,
+    message: &Message,
+    told: Option<Railway>,
+    progress: &Progress<'_>,
+) -> Result<Vec<Addressed>, Memory>
+    ensures { IfOk result (λ v. v.items ≡ map (λ r. record { to = r; body = ItemBody.Notice message.now }) (option_to_list told) ++ of.estimate_items progress.now.before (after progress.now) progress.now.wagon ++ of.alert_items progress.now.before (after progress.now) progress.now.wagon) }
+{
+    let mut items = Vec::new(alloc);
+    put_notice(&mut items, message, told)?;
+    put_estimates(&mut items, progress)?;
+    put_alerts(alloc, &mut items, progress)?;
+    Ok(items)
+}
+
+// Adds the notice of the message for the railway, if there is one.
+fn put_notice(
+    items: &mut Vec<Addressed>,
+    message: &Message,
+    told: Option<Railway>,
+) -> Result<(), Memory>
+    ensures { OnOk result (items.new.items ≡ items.old.items ++ map (λ r. record { to = r; body = ItemBody.Notice message.now }) (option_to_list told)) }
+{
+    if let Some(to) = told {
+        let body = ItemBody::Notice(copy(message)?);
+        items.push(Addressed { to, body })?;
+    }
+    Ok(())
+}
+
+// The items of a message on several wagons, or on one of which several railways get the notice.
+fn items_of_many(
+    alloc: Global,
+    tables: &Tables,
+    message: &Message,
+) -> Result<Vec<Addressed>, Memory>
+    requires acceptable { IsAcceptable (known tables.now) message.now }
+    requires many { tells_one message.now.body ≡ false }
+    ensures { IfOk result (λ v. v.items ≡ told_by (known tables.now) message.now) }
 {
     let wagons = tables.named(alloc, message)?;
     let mut items = notices(alloc, tables, message)?;
@@ -35,7 +107,6 @@ pub fn items(alloc: Global, tables: &Tables, message: &Message) -> Result<Vec<Ad
         wagons.as_slice(),
     )?;
     items.append(&mut alerts)?;
-    keep_others(&mut items, message.by);
     Ok(items)
 }
 
@@ -99,7 +170,7 @@ fn put_of_progress(
     ensures estimates { OnOk result (items.new.items ≡ items.old.items ++ of.estimate_items progress.now.before (after progress.now) progress.now.wagon) }
     ensures alerts { OnOk result (alerts.new.items ≡ alerts.old.items ++ of.alert_items progress.now.before (after progress.now) progress.now.wagon) }
 {
-    put_estimates(alloc, items, progress)?;
+    put_estimates(items, progress)?;
     put_alerts(alloc, alerts, progress)
 }
 

@@ -139,7 +139,7 @@ fn unit_plans(
 ) -> Result<Vec<(UnitCode, Plan)>, Memory>
     ensures { IfOk result (λ v. v.items ≡ map (λ l. (l.unit, plan.now)) units.now) }
 {
-    let mut plans = Vec::new(alloc);
+    let mut plans = Vec::with_capacity(alloc, units.len())?;
     for loaded in units {
         plans.push((loaded.unit, plan.copy()?))?;
     }

@@ -1,5 +1,6 @@
 ghost use Rattle.std.specs.Prelude.{◌≡◌, ℕ, ◌^◌, [], ◌∷◌, ◌++◌, IfOk, None, is_none, false, true, length, map, nat_lt, fold};
 ghost use Rattle.std.specs.List.{list_all};
+ghost use Rattle.std.specs.Cow.{cow_slice_items};
 ghost use Rattle.hub_model.specs.Standing.{journey_after, named, said_of, share, moment_in};
 ghost use Rattle.hub_model.specs.Faults.{whole_fault};
 ghost use Rattle.interchange.specs.Offers.{wagons_of, place_of};
@@ -11,6 +12,8 @@ use crate::tables::Tables;
 use crate::wagon::Wagon;
 use journey::{Event, EventBody, Prepared};
 use std::alloc::{AllocError, Global};
+use std::borrow::CowSlice;
+use std::slice;
 use taf_codes::{Memory, Place, Railway};
 use taf_messages::{Body, Message, MessageNumber};
 use taf_moment::Moment;
@@ -32,13 +35,6 @@ fn moment_in(body: &Body) -> Option<Moment>
     }
 }
 
-/// One wagon.
-fn one(alloc: Global, wagon: WagonNumber) -> Result<Vec<WagonNumber>, AllocError>
-    ensures { IfOk result (λ ws. ws.items ≡ wagon ∷ []) }
-{
-    Vec::from_slice(alloc, &[wagon])
-}
-
 /// The wagons of both lists.
 fn both(
     alloc: Global,
@@ -54,37 +50,38 @@ fn both(
 
 impl Tables {
     /// The wagons that a message names, in its order: those of an answer are the received and then the refused ones, and
-    /// those of a withdrawal are the wagons of its offer. `Memory` where memory is refused.
-    pub fn named(&self, alloc: Global, message: &Message) -> Result<Vec<WagonNumber>, Memory>
-        ensures { IfOk result (λ ws. ws.items ≡ named (known self.now).offer message.now) }
+    /// those of a withdrawal are the wagons of its offer. Only those of an answer take memory, and `Memory` where it is
+    /// refused.
+    pub fn named<'a>(
+        &'a self,
+        alloc: Global,
+        message: &'a Message,
+    ) -> Result<CowSlice<'a, WagonNumber>, Memory>
+        ensures { IfOk result (λ ws. cow_slice_items ws ≡ named (known self.now).offer message.now) }
     {
         let wagons = match &message.body {
-            Body::Plan(plan) => Vec::from_slice(alloc, plan.wagons())?,
-            Body::Movement(movement) => one(alloc, movement.wagon)?,
-            Body::EtiAsk { wagon } => one(alloc, *wagon)?,
-            Body::LegTime { wagon, .. } => one(alloc, *wagon)?,
-            Body::Reroute { wagon, .. } => one(alloc, *wagon)?,
-            Body::Offer(offer) => Vec::from_slice(alloc, offer.wagons.as_slice())?,
+            Body::Plan(plan) => plan.wagons(),
+            Body::Movement(movement) => slice::from_ref(&movement.wagon),
+            Body::EtiAsk { wagon } => slice::from_ref(wagon),
+            Body::LegTime { wagon, .. } => slice::from_ref(wagon),
+            Body::Reroute { wagon, .. } => slice::from_ref(wagon),
+            Body::Offer(offer) => offer.wagons.as_slice(),
             Body::Answer(answer) => {
-                both(alloc, answer.received.as_slice(), answer.refused.as_slice())?
+                let wagons = both(alloc, answer.received.as_slice(), answer.refused.as_slice())?;
+                return Ok(CowSlice::Owned(wagons));
             }
-            Body::Withdraw { offer, .. } => self.offered(alloc, message.by, *offer)?,
+            Body::Withdraw { offer, .. } => self.offered(message.by, *offer),
         };
-        Ok(wagons)
+        Ok(CowSlice::Borrowed(wagons))
     }
 
     /// The wagons of an offer; none where there is no such offer.
-    fn offered(
-        &self,
-        alloc: Global,
-        by: Railway,
-        no: MessageNumber,
-    ) -> Result<Vec<WagonNumber>, AllocError>
-        ensures { IfOk result (λ ws. ws.items ≡ wagons_of ((known self.now).offer by no)) }
+    fn offered(&self, by: Railway, no: MessageNumber) -> &[WagonNumber]
+        ensures { result.now ≡ wagons_of ((known self.now).offer by no) }
     {
         match self.offer(by, no) {
-            Some(offer) => Vec::from_slice(alloc, offer.wagons.as_slice()),
-            None => Ok(Vec::new(alloc)),
+            Some(offer) => offer.wagons.as_slice(),
+            None => &[],
         }
     }
 
@@ -152,7 +149,7 @@ impl Tables {
         requires { whole_fault (known self.now) message.now.by message.now.body ≡ None }
         ensures { IfOk result (λ v. v.items ≡ map (λ w. (w, share (known self.now).offer message.now w)) wagons.now) }
     {
-        let mut shares = Vec::new(alloc);
+        let mut shares = Vec::with_capacity(alloc, wagons.len())?;
         for wagon in wagons {
             let share = self.share(message, *wagon)?;
             shares.push((*wagon, share.prepared(alloc)?))?;
@@ -191,7 +188,7 @@ impl Tables {
         requires begins { (w : ℕ) → has wagons.now w ≡ true → IsBeginning (share (known self.now).offer message.now w) }
         ensures { IfOk result (λ v. v.items ≡ map (λ w. (w, record { wagon = w; events = share (known self.now).offer message.now w ∷ [] })) wagons.now) }
     {
-        let mut begun = Vec::new(alloc);
+        let mut begun = Vec::with_capacity(alloc, wagons.len())?;
         for wagon in wagons {
             let share = self.share(message, *wagon)?.prepared(alloc)?;
             begun.push((*wagon, Wagon::begin(*wagon, share)))?;

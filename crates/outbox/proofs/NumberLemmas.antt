@@ -1,16 +1,11 @@
 -- Numbered items.
-use Rattle.std.proofs.Common.{◌≡◌, ℕ, ◌+◌, List, [], ◌∷◌, ◌++◌, length, take, drop, zero, suc, refl, sym, ap, ◌∙◌, arith}
+use Rattle.std.proofs.Common.{◌≡◌, ℕ, ◌+◌, ◌≤◌, List, [], ◌∷◌, ◌++◌, length, take, drop, zero, suc, refl, sym, ap, ◌∙◌, arith}
+use Rattle.std.proofs.lemmas.List.{append-nil, take_all, take-append-le}
+use Rattle.taf_messages.specs.declared.item.Item.{Item}
 use Rattle.taf_messages.specs.declared.item.ItemBody.{ItemBody}
 use Rattle.outbox.specs.Kept.{Kept, numbered_after, first_items}
 use Rattle.outbox.specs.Keeping.{Keeps}
 use Rattle.outbox.specs.Numbering.{fetched}
-
--- one item more has the number after the others
-pub numbered_more : (n : ℕ) (bodies : List ItemBody) (body : ItemBody) → numbered_after n (bodies ++ body ∷ []) ≡ numbered_after n bodies ++ record { number = n + length bodies + 1; body = body } ∷ []
-numbered_more n [] body = let e : n + 1 ≡ n + 0 + 1 = omega arith in λ i. record { number = e i; body = body } ∷ []
-numbered_more n (b ∷ bodies) body =
-    let e : n + 1 + length bodies + 1 ≡ n + length (b ∷ bodies) + 1 = omega arith in
-    ap (λ (items : List _). record { number = n + 1; body = b } ∷ items) (numbered_more (n + 1) bodies body ∙ (λ i. numbered_after (n + 1) bodies ++ record { number = e i; body = body } ∷ []))
 
 -- the first items are those of the first bodies
 take-numbered : (n k : ℕ) (bodies : List ItemBody) → take k (numbered_after n bodies) ≡ numbered_after n (take k bodies)
@@ -18,6 +13,18 @@ take-numbered n zero [] = refl
 take-numbered n (suc k) [] = refl
 take-numbered n zero (b ∷ bodies) = refl
 take-numbered n (suc k) (b ∷ bodies) = ap (λ (items : List _). record { number = n + 1; body = b } ∷ items) (take-numbered (n + 1) k bodies)
+
+-- items that others may follow, when they are as many as are wanted
+pub first_numbered : (items : List Item) (n m k : ℕ) (bodies rest : List ItemBody) → items ++ numbered_after m rest ≡ numbered_after n bodies → length items ≡ k → items ≡ numbered_after n (take k bodies)
+first_numbered items n m k bodies rest whole count =
+    let few : length items ≤ k = omega arith in
+    let many : k ≤ length items = omega arith in
+    sym (take-append-le k items (numbered_after m rest) many ∙ take_all k items few) ∙ ap (take k) whole ∙ take-numbered n k bodies
+
+-- items that none follow, when no fewer are wanted
+pub all_numbered : (items : List Item) (n m k : ℕ) (bodies rest : List ItemBody) → items ++ numbered_after m rest ≡ numbered_after n bodies → rest ≡ [] → length items ≤ k → items ≡ numbered_after n (take k bodies)
+all_numbered items n m k bodies [] whole none count = sym (take_all k items count) ∙ ap (take k) (sym (append-nil items) ∙ whole) ∙ take-numbered n k bodies
+all_numbered items n m k bodies (b ∷ rest) whole none count = cc
 
 -- the items after a number are numbered on from there
 drop-numbered : (n k : ℕ) (bodies : List ItemBody) → drop k (numbered_after n bodies) ≡ numbered_after (n + k) (drop k bodies)

@@ -74,24 +74,8 @@ impl Outbox {
     pub fn first(&self, alloc: Global, limit: u64) -> Result<ItemList, Memory>
         ensures { IfOk result (λ items. items ≡ first_items self.now limit) }
     {
-        let bodies = copies(alloc, &self.bodies, limit)?;
-        numbered(alloc, self.acknowledged, bodies)
+        numbered(alloc, self.acknowledged, &self.bodies, limit)
     }
-}
-
-// Copies of the first bodies.
-fn copies(alloc: Global, bodies: &LinkedList<ItemBody>, limit: u64) -> Result<Vec<ItemBody>, Memory>
-    ensures { IfOk result (λ copies. copies.items ≡ take limit bodies.now) }
-{
-    let mut copies = Vec::new(alloc);
-    let mut rest = bodies.iter();
-    for i in 0..limit {
-        let Some(body) = rest.next() else {
-            return Ok(copies);
-        };
-        copies.push(copy_of(body)?)?;
-    }
-    Ok(copies)
 }
 
 // The same body.
@@ -102,16 +86,26 @@ fn copy_of(body: &ItemBody) -> Result<ItemBody, Memory>
     Ok(body.clone()?)
 }
 
-// The items of these bodies, numbered on from the one before.
-#[tactic(auto, using(crate::proofs::NumberLemmas::numbered_more))]
-fn numbered(alloc: Global, before: u64, bodies: Vec<ItemBody>) -> Result<ItemList, Memory>
-    requires { before + length bodies.items ≤ 2 ^ 63 }
-    ensures { IfOk result (λ items. items ≡ numbered_after before bodies.items) }
+// Copies of the first bodies, numbered on from the one before.
+#[tactic(auto, using(crate::proofs::NumberLemmas::first_numbered, crate::proofs::NumberLemmas::all_numbered))]
+fn numbered(
+    alloc: Global,
+    before: u64,
+    bodies: &LinkedList<ItemBody>,
+    limit: u64,
+) -> Result<ItemList, Memory>
+    requires { before + length bodies.now ≤ 2 ^ 63 }
+    ensures { IfOk result (λ items. items ≡ numbered_after before (take limit bodies.now)) }
 {
-    let mut items = Vec::new(alloc);
+    let mut items = Vec::with_capacity(alloc, bodies.len().min(limit as usize))?;
+    let mut rest = bodies.iter();
     let mut number = before;
-    for body in bodies {
+    for i in 0..limit {
+        let Some(body) = rest.next() else {
+            return Ok(ItemList::from_vec(items));
+        };
         number = number.saturating_add(1);
+        let body = copy_of(body)?;
         items.push(Item { number, body })?;
     }
     Ok(ItemList::from_vec(items))

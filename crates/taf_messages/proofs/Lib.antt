@@ -12,3 +12,4 @@ pub mod Utf8Lemmas
 pub mod SpeltLemmas
 pub mod KeptLemmas
 pub mod SentLemmas
+pub mod FlatLemmas

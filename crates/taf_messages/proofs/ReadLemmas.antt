@@ -173,7 +173,7 @@ mutual
       let q = and_parts (is_ordered d n) (members_are_ordered ms n) p.1 in
       omega (arith, depth-outline d n q.0, members-depth-outline ms n q.1)
 
-abbrev whole_of : Option (json.Json × List Token) → Option Data
+abbrev pub whole_of : Option (json.Json × List Token) → Option Data
 whole_of o = option_and_then of_json (option_and_then (λ p. json.if_last p.0 p.1) o)
 
 -- the text of an ordered tree is read as that tree

@@ -10,3 +10,5 @@ pub mod RecordShapes
 pub mod ReplyShapes
 pub mod Kept
 pub mod Laws
+pub mod Flat
+pub mod FoundIn

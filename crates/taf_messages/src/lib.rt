@@ -7,7 +7,8 @@
 //! - [`read_call`] reads a line, a JSON object, as the [`Call`] that it is, or gives its first
 //!   [`RecordFault`]: no JSON, no kind, the first field in the kind's order that is missing or not
 //!   good, then the first rule that a plan or a route breaks. What it reads is said in
-//!   `specs/Reading.antt`, by kinds and fields.
+//!   `specs/Reading.antt`, by kinds and fields. A record without lists is read token by token, any other
+//!   line as the tree of its JSON; the answer is the same.
 //! - [`write_reply`], [`write_item`], [`write_record`] and [`write_fault`] give texts: compact JSON,
 //!   keys in byte order, no newline. [`append_reply`] and [`append_fault`] write behind what a
 //!   buffer holds. The trees that they write are those of `specs/Shapes.antt`,
@@ -29,6 +30,8 @@ mod equality;
 mod event;
 mod fault;
 mod field;
+mod flat;
+mod found;
 mod item;
 mod kind;
 mod laws;

@@ -1,19 +1,22 @@
 //! Records in: the call that a line is, or its first fault.
 ghost use Rattle.std.specs.Prelude.{◌≡◌, IsUtf8, Err};
 ghost use Rattle.serde_json.specs.Read.{read as read_text};
-ghost use Rattle.serde_json.specs.View.{view};
+ghost use Rattle.taf_messages.specs.FoundIn.{found_data};
 ghost use Rattle.taf_messages.specs.Reading as reading;
 ghost use Rattle.taf_messages.specs.Reading.{Gives};
 
 use crate::call::Call;
 use crate::fault::RecordFault;
 use crate::field::Field;
+use crate::flat::FlatRecord;
+use crate::found::Found;
 use crate::kind::{BodyName, Kind, MovementName};
 use crate::listed::Listed;
 use crate::message::{Body, Message, TrainAnswer, TrainOffer};
 use crate::movement::{Movement, MovementKind};
 use crate::value::{Good, Unread};
 use crate::wagons::UnitLoads;
+use json::Scratch;
 use serde_json::Value;
 use std::alloc::Global;
 use taf_codes::Railway;
@@ -26,28 +29,52 @@ pub fn read_call(alloc: Global, line: &[u8]) -> Result<Call, RecordFault>
     ensures text { IsUtf8 line.now → Gives result (reading.call_read (read_text line.now)) }
     ensures no_text { ¬ (IsUtf8 line.now) → Gives result (Err RecordFault.BadJson) }
 {
-    let value = match Value::from_slice(alloc, line) {
+    match str::from_utf8(line) {
+        Ok(text) => read_line(alloc, text),
+        Err(_) => Err(RecordFault::BadJson),
+    }
+}
+
+// The call that a text is. Most records have no lists, and are read without a tree.
+fn read_line(alloc: Global, text: &str) -> Result<Call, RecordFault>
+    ensures { Gives result (reading.call_read (read_text text.now)) }
+{
+    let mut scratch = Scratch::new(alloc);
+    match FlatRecord::read(alloc, text, &mut scratch)? {
+        Some(record) => read_record(Fields {
+            alloc,
+            value: Found::Flat(&record),
+        }),
+        None => read_tree(alloc, text),
+    }
+}
+
+// The call that a text is, by its tree.
+fn read_tree(alloc: Global, text: &str) -> Result<Call, RecordFault>
+    ensures { Gives result (reading.call_read (read_text text.now)) }
+{
+    let value = match Value::from_str(alloc, text) {
         Ok(value) => value,
         Err(error) if error.is_memory() => return Err(RecordFault::Memory),
         Err(_) => return Err(RecordFault::BadJson),
     };
     read_record(Fields {
         alloc,
-        value: &value,
+        value: Found::Tree(&value),
     })
 }
 
 // The fields of a record, and where the lists of its call are to lie.
 #[derive(Clone, Copy)]
-struct Fields<'a> {
+struct Fields<'r, 'a> {
     alloc: Global,
-    value: &'a Value,
+    value: Found<'r, 'a>,
 }
 
-impl Fields<'_> {
+impl Fields<'_, '_> {
     // The value of a field.
     fn read<T: Good>(self, field: Field) -> Result<T, RecordFault>
-        ensures { Gives result (reading.field_of T.good field (view self.entry.value.now)) }
+        ensures { Gives result (reading.field_of T.good field (found_data self.entry.value)) }
     {
         let value = self
             .value
@@ -62,7 +89,7 @@ impl Fields<'_> {
 
     // The value of a field that may be absent or null.
     fn read_if<T: Good>(self, field: Field) -> Result<Option<T>, RecordFault>
-        ensures { Gives result (reading.optional_field_of T.good field (view self.entry.value.now)) }
+        ensures { Gives result (reading.optional_field_of T.good field (found_data self.entry.value)) }
     {
         match self.value.get(field.name()) {
             None => Ok(None),
@@ -76,11 +103,11 @@ impl Fields<'_> {
     }
 
     fn kind(self) -> Result<Kind, RecordFault>
-        ensures { result ≡ reading.kind_of (view self.entry.value.now) }
+        ensures { result ≡ reading.kind_of (found_data self.entry.value) }
     {
         self.value
             .get("kind")
-            .and_then(Value::as_str)
+            .and_then(Found::as_str)
             .and_then(Kind::named)
             .ok_or(RecordFault::BadKind)
     }
@@ -88,7 +115,7 @@ impl Fields<'_> {
 
 #[tactic(auto, unfolding(crate::specs::Reading::call_of, crate::specs::Reading::call_of_kind))]
 fn read_record(fields: Fields) -> Result<Call, RecordFault>
-    ensures { Gives result (reading.call_of (view fields.entry.value.now)) }
+    ensures { Gives result (reading.call_of (found_data fields.entry.value)) }
 {
     if !fields.value.is_object() {
         return Err(RecordFault::BadJson);
@@ -120,7 +147,7 @@ fn read_record(fields: Fields) -> Result<Call, RecordFault>
 
 #[tactic(auto, unfolding(crate::specs::Reading::message_of))]
 fn read_message(fields: Fields, name: BodyName) -> Result<Message, RecordFault>
-    ensures { Gives result (reading.message_of name (view fields.entry.value.now)) }
+    ensures { Gives result (reading.message_of name (found_data fields.entry.value)) }
 {
     let by = fields.read(Field::From)?;
     Ok(Message {
@@ -132,7 +159,7 @@ fn read_message(fields: Fields, name: BodyName) -> Result<Message, RecordFault>
 
 #[tactic(auto, unfolding(crate::specs::Reading::body_of))]
 fn read_body(fields: Fields, by: Railway, name: BodyName) -> Result<Body, RecordFault>
-    ensures { Gives result (reading.body_of name by (view fields.entry.value.now)) }
+    ensures { Gives result (reading.body_of name by (found_data fields.entry.value)) }
 {
     match name {
         BodyName::Plan => Ok(Body::Plan(read_plan(fields, by)?)),
@@ -161,7 +188,7 @@ fn read_body(fields: Fields, by: Railway, name: BodyName) -> Result<Body, Record
 
 #[tactic(auto, unfolding(crate::specs::Reading::movement_of))]
 fn read_movement(fields: Fields, name: MovementName) -> Result<Movement, RecordFault>
-    ensures { Gives result (reading.movement_of name (view fields.entry.value.now)) }
+    ensures { Gives result (reading.movement_of name (found_data fields.entry.value)) }
 {
     Ok(Movement {
         wagon: fields.read(Field::Wagon)?,
@@ -172,7 +199,7 @@ fn read_movement(fields: Fields, name: MovementName) -> Result<Movement, RecordF
 
 #[tactic(auto, unfolding(crate::specs::Reading::movement_kind_of))]
 fn read_movement_kind(fields: Fields, name: MovementName) -> Result<MovementKind, RecordFault>
-    ensures { Gives result (reading.movement_kind_of name (view fields.entry.value.now)) }
+    ensures { Gives result (reading.movement_kind_of name (found_data fields.entry.value)) }
 {
     match name {
         MovementName::Release => Ok(MovementKind::Release),
@@ -194,7 +221,7 @@ fn read_movement_kind(fields: Fields, name: MovementName) -> Result<MovementKind
 
 #[tactic(auto, unfolding(crate::specs::Reading::offer_of))]
 fn read_offer(fields: Fields) -> Result<TrainOffer, RecordFault>
-    ensures { Gives result (reading.offer_of (view fields.entry.value.now)) }
+    ensures { Gives result (reading.offer_of (found_data fields.entry.value)) }
 {
     Ok(TrainOffer {
         at: fields.read(Field::At)?,
@@ -207,7 +234,7 @@ fn read_offer(fields: Fields) -> Result<TrainOffer, RecordFault>
 
 #[tactic(auto, unfolding(crate::specs::Reading::answer_of))]
 fn read_answer(fields: Fields) -> Result<TrainAnswer, RecordFault>
-    ensures { Gives result (reading.answer_of (view fields.entry.value.now)) }
+    ensures { Gives result (reading.answer_of (found_data fields.entry.value)) }
 {
     Ok(TrainAnswer {
         at: fields.read(Field::At)?,
@@ -221,7 +248,7 @@ fn read_answer(fields: Fields) -> Result<TrainAnswer, RecordFault>
 
 #[tactic(auto, unfolding(crate::specs::Reading::plan_of))]
 fn read_plan(fields: Fields, lead: Railway) -> Result<Plan, RecordFault>
-    ensures { Gives result (reading.plan_of lead (view fields.entry.value.now)) }
+    ensures { Gives result (reading.plan_of lead (found_data fields.entry.value)) }
 {
     let consignment = fields.read(Field::Consignment)?;
     let load = fields.read(Field::Load)?;
@@ -243,7 +270,7 @@ fn read_plan(fields: Fields, lead: Railway) -> Result<Plan, RecordFault>
 
 // The intermodal units of a plan: absent, null and empty are the same.
 fn read_units(fields: Fields) -> Result<UnitLoads, RecordFault>
-    ensures { Gives result (reading.units_of (view fields.entry.value.now)) }
+    ensures { Gives result (reading.units_of (found_data fields.entry.value)) }
 {
     match fields.read_if(Field::Units)? {
         Some(units) => Ok(units),
@@ -252,7 +279,7 @@ fn read_units(fields: Fields) -> Result<UnitLoads, RecordFault>
 }
 
 fn read_route(fields: Fields) -> Result<Route, RecordFault>
-    ensures { Gives result (reading.route_of (view fields.entry.value.now)) }
+    ensures { Gives result (reading.route_of (found_data fields.entry.value)) }
 {
     let legs: Listed<Leg> = fields.read(Field::Legs)?;
     Ok(Route::new(fields.alloc, legs.as_slice())?)

@@ -1,12 +1,14 @@
 //! What the values of fields are read as.
 ghost use Rattle.std.specs.Prelude.{◌≡◌, ◌≤◌, Option, length};
 ghost use Rattle.serde_json.specs.Data.{Data};
-ghost use Rattle.serde_json.specs.View.{view, items_view};
+ghost use Rattle.serde_json.specs.View.{items_view};
+ghost use Rattle.taf_messages.specs.FoundIn.{found_data};
 ghost use Rattle.taf_messages.specs.Good as good;
 ghost use Rattle.taf_messages.specs.Good.{Reads, ReadsList};
 ghost use Rattle.taf_messages.specs.declared.value.Unread.TheVariants.{Memory};
 
 use crate::field::Field;
+use crate::found::Found;
 use crate::listed::Listed;
 use crate::number::Within;
 use crate::wagons::{OfferedWagons, UnitLoads, Wagons};
@@ -45,14 +47,14 @@ impl<T: Drop> From<AllocFailed<T>> for Unread {
 pub(crate) trait Good: Sized {
     ghost good: { Data → Option Self };
 
-    fn of_value(alloc: Global, value: &Value) -> Result<Self, Unread>
-        ensures { Reads result (good (view value.now)) };
+    fn of_value(alloc: Global, value: Found<'_, '_>) -> Result<Self, Unread>
+        ensures { Reads result (good (found_data value.entry)) };
 }
 
 impl<const LOW: u64, const HIGH: u64> Good for Within<LOW, HIGH> {
     ghost good = { good.number LOW HIGH };
 
-    fn of_value(_alloc: Global, value: &Value) -> Result<Self, Unread> {
+    fn of_value(_alloc: Global, value: Found<'_, '_>) -> Result<Self, Unread> {
         let number = value.as_u64().ok_or(Unread::Bad)?;
         Within::new(number).ok_or(Unread::Bad)
     }
@@ -61,7 +63,7 @@ impl<const LOW: u64, const HIGH: u64> Good for Within<LOW, HIGH> {
 impl Good for u32 {
     ghost good = { good.number 0 4_294_967_295 };
 
-    fn of_value(_alloc: Global, value: &Value) -> Result<u32, Unread> {
+    fn of_value(_alloc: Global, value: Found<'_, '_>) -> Result<u32, Unread> {
         let number = value.as_u64().ok_or(Unread::Bad)?;
         u32::try_from(number).map_err(|_| Unread::Bad)
     }
@@ -70,7 +72,7 @@ impl Good for u32 {
 impl Good for Railway {
     ghost good = { good.railway };
 
-    fn of_value(_alloc: Global, value: &Value) -> Result<Railway, Unread> {
+    fn of_value(_alloc: Global, value: Found<'_, '_>) -> Result<Railway, Unread> {
         let text = value.as_str().ok_or(Unread::Bad)?;
         Railway::read(text).map_err(|_| Unread::Bad)
     }
@@ -79,7 +81,7 @@ impl Good for Railway {
 impl Good for Place {
     ghost good = { good.place };
 
-    fn of_value(_alloc: Global, value: &Value) -> Result<Place, Unread> {
+    fn of_value(_alloc: Global, value: Found<'_, '_>) -> Result<Place, Unread> {
         let text = value.as_str().ok_or(Unread::Bad)?;
         Place::read(text).map_err(|_| Unread::Bad)
     }
@@ -88,7 +90,7 @@ impl Good for Place {
 impl Good for ConsignmentId {
     ghost good = { good.consignment };
 
-    fn of_value(_alloc: Global, value: &Value) -> Result<ConsignmentId, Unread> {
+    fn of_value(_alloc: Global, value: Found<'_, '_>) -> Result<ConsignmentId, Unread> {
         let text = value.as_str().ok_or(Unread::Bad)?;
         ConsignmentId::read(text).map_err(|_| Unread::Bad)
     }
@@ -97,7 +99,7 @@ impl Good for ConsignmentId {
 impl Good for TrainId {
     ghost good = { good.train };
 
-    fn of_value(_alloc: Global, value: &Value) -> Result<TrainId, Unread> {
+    fn of_value(_alloc: Global, value: Found<'_, '_>) -> Result<TrainId, Unread> {
         let text = value.as_str().ok_or(Unread::Bad)?;
         TrainId::read(text).map_err(|_| Unread::Bad)
     }
@@ -106,7 +108,7 @@ impl Good for TrainId {
 impl Good for UnitCode {
     ghost good = { good.unit };
 
-    fn of_value(_alloc: Global, value: &Value) -> Result<UnitCode, Unread> {
+    fn of_value(_alloc: Global, value: Found<'_, '_>) -> Result<UnitCode, Unread> {
         let text = value.as_str().ok_or(Unread::Bad)?;
         UnitCode::read(text).map_err(|_| Unread::Bad)
     }
@@ -115,7 +117,7 @@ impl Good for UnitCode {
 impl Good for Moment {
     ghost good = { good.moment };
 
-    fn of_value(_alloc: Global, value: &Value) -> Result<Moment, Unread> {
+    fn of_value(_alloc: Global, value: Found<'_, '_>) -> Result<Moment, Unread> {
         let text = value.as_str().ok_or(Unread::Bad)?;
         Moment::read(text).map_err(|_| Unread::Bad)
     }
@@ -124,7 +126,7 @@ impl Good for Moment {
 impl Good for WagonNumber {
     ghost good = { good.wagon };
 
-    fn of_value(_alloc: Global, value: &Value) -> Result<WagonNumber, Unread> {
+    fn of_value(_alloc: Global, value: Found<'_, '_>) -> Result<WagonNumber, Unread> {
         let text = value.as_str().ok_or(Unread::Bad)?;
         WagonNumber::read(text).map_err(|_| Unread::Bad)
     }
@@ -133,7 +135,7 @@ impl Good for WagonNumber {
 impl Good for Load {
     ghost good = { good.load };
 
-    fn of_value(_alloc: Global, value: &Value) -> Result<Load, Unread> {
+    fn of_value(_alloc: Global, value: Found<'_, '_>) -> Result<Load, Unread> {
         let text = value.as_str().ok_or(Unread::Bad)?;
         if text == "loaded" {
             Ok(Load::Loaded)
@@ -149,7 +151,7 @@ impl Good for Leg {
     ghost good = { good.leg };
 
     #[tactic(auto, unfolding(crate::specs::Good::leg))]
-    fn of_value(alloc: Global, value: &Value) -> Result<Leg, Unread> {
+    fn of_value(alloc: Global, value: Found<'_, '_>) -> Result<Leg, Unread> {
         Ok(Leg {
             ru: member_of(alloc, value, Field::Ru)?,
             origin: member_of(alloc, value, Field::Origin)?,
@@ -163,7 +165,7 @@ impl Good for UnitLoad {
     ghost good = { good.unit_load };
 
     #[tactic(auto, unfolding(crate::specs::Good::unit_load))]
-    fn of_value(alloc: Global, value: &Value) -> Result<UnitLoad, Unread> {
+    fn of_value(alloc: Global, value: Found<'_, '_>) -> Result<UnitLoad, Unread> {
         Ok(UnitLoad {
             unit: member_of(alloc, value, Field::Unit)?,
             wagon: member_of(alloc, value, Field::Wagon)?,
@@ -174,7 +176,7 @@ impl Good for UnitLoad {
 impl<T: Good + Drop> Good for Listed<T> {
     ghost good = { good.list T.good };
 
-    fn of_value(alloc: Global, value: &Value) -> Result<Listed<T>, Unread> {
+    fn of_value(alloc: Global, value: Found<'_, '_>) -> Result<Listed<T>, Unread> {
         Ok(Listed::from_vec(items_of(alloc, value)?))
     }
 }
@@ -182,7 +184,7 @@ impl<T: Good + Drop> Good for Listed<T> {
 impl Good for Wagons {
     ghost good = { good.wagons };
 
-    fn of_value(alloc: Global, value: &Value) -> Result<Wagons, Unread> {
+    fn of_value(alloc: Global, value: Found<'_, '_>) -> Result<Wagons, Unread> {
         let items = items_of(alloc, value)?;
         Wagons::new(items).ok_or(Unread::Bad)
     }
@@ -191,7 +193,7 @@ impl Good for Wagons {
 impl Good for OfferedWagons {
     ghost good = { good.offered_wagons };
 
-    fn of_value(alloc: Global, value: &Value) -> Result<OfferedWagons, Unread> {
+    fn of_value(alloc: Global, value: Found<'_, '_>) -> Result<OfferedWagons, Unread> {
         let items = items_of(alloc, value)?;
         OfferedWagons::new(items).ok_or(Unread::Bad)
     }
@@ -200,23 +202,23 @@ impl Good for OfferedWagons {
 impl Good for UnitLoads {
     ghost good = { good.unit_loads };
 
-    fn of_value(alloc: Global, value: &Value) -> Result<UnitLoads, Unread> {
+    fn of_value(alloc: Global, value: Found<'_, '_>) -> Result<UnitLoads, Unread> {
         let items = items_of(alloc, value)?;
         UnitLoads::new(items).ok_or(Unread::Bad)
     }
 }
 
 // The value under a key of an object.
-fn member_of<T: Good>(alloc: Global, value: &Value, field: Field) -> Result<T, Unread>
-    ensures { Reads result (good.member T.good field (view value.now)) }
+fn member_of<T: Good>(alloc: Global, value: Found<'_, '_>, field: Field) -> Result<T, Unread>
+    ensures { Reads result (good.member T.good field (found_data value.entry)) }
 {
     let value = value.get(field.name()).ok_or(Unread::Bad)?;
     T::of_value(alloc, value)
 }
 
 // The items of an array, if each is good.
-fn items_of<T: Good + Drop>(alloc: Global, value: &Value) -> Result<Vec<T>, Unread>
-    ensures { ReadsList result (good.list T.good (view value.now)) }
+fn items_of<T: Good + Drop>(alloc: Global, value: Found<'_, '_>) -> Result<Vec<T>, Unread>
+    ensures { ReadsList result (good.list T.good (found_data value.entry)) }
 {
     let values = value.as_array().ok_or(Unread::Bad)?;
     each_of(alloc, values)
@@ -227,7 +229,7 @@ fn each_of<T: Good + Drop>(alloc: Global, values: &[Value]) -> Result<Vec<T>, Un
 {
     let mut items = Vec::with_capacity(alloc, values.len())?;
     for value in values {
-        let item = T::of_value(alloc, value)?;
+        let item = T::of_value(alloc, Found::Tree(value))?;
         items.push(item)?;
     }
     Ok(items)

@@ -1,7 +1,5 @@
-use Rattle.hub_items.proofs.SoFar.{so_far, passed_grows}
+use Rattle.hub_items.proofs.SoFar.{passed_counted}
 use Rattle.hub_items.proofs.estimates.put_estimates.Goals as goal
 
-pub loop-estimate-preserved : goal.loop-estimate-preserved
-loop-estimate-preserved c =
-    so_far _ _ (passed_grows _ _) c.as_slice-estimate-items.result.now c.loop-estimate.estimate-index c.estimate-item.result _ _ _ c.loop-estimate-test.true c.estimate-item.is
-    c.loop-estimate.invariant c.in_ok-put_news.ensures
+pub loop-leg-preserved : goal.loop-leg-preserved
+loop-leg-preserved c = passed_counted _ _ _ c.loop-leg.leg _ _ _ c.loop-leg.invariant c.in_ok-put_of_leg.ensures

@@ -1,11 +1,13 @@
-use Rattle.std.proofs.Common.{◌≡◌, ◌++◌, take}
-use Rattle.std.specs.Prelude.{filter, flat_map}
+use Rattle.std.proofs.Common.{◌≡◌, ◌++◌}
+use Rattle.std.specs.Prelude.{filter, filter_map, flat_map}
+use Rattle.std.specs.List.{range_with_len}
 use Rattle.hub_model.specs.Items as of
-use Rattle.hub_items.specs.Onward.{after}
+use Rattle.hub_items.specs.Onward.{after, estimate_of}
 use Rattle.hub_items.proofs.estimates.put_estimates.Given as goal
 
-abbrev pub invariant-loop-estimate : goal.invariant-loop-estimate
-invariant-loop-estimate l =
+-- the news of the legs so far
+abbrev pub invariant-loop-leg : goal.invariant-loop-leg
+invariant-loop-leg l =
     l.items.items ≡ l.initial.items.items ++
     flat_map (of.estimate_item (after l.progress) l.progress.wagon)
-    (filter (of.is_news l.progress.before (after l.progress)) (take l.estimate-index l.estimate-items))
+    (filter (of.is_news l.progress.before (after l.progress)) (filter_map (λ j. estimate_of l.progress j) (range_with_len 0 l.leg)))
