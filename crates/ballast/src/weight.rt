@@ -32,8 +32,9 @@ const GREATEST_SMALL: usize = 1 << 22;
 /// What is set aside to be split, while the small blocks are taken.
 const PLUG: usize = 4096;
 
-/// What is set aside for the budgets, while the large blocks are taken.
-const ROOM: usize = 1 << 22;
+/// What is set aside for the budgets, while the large blocks are taken: four of the greatest small blocks, so that it may
+/// come to lie in pieces.
+const ROOM: usize = 1 << 24;
 
 impl Ballast {
     /// Takes all large blocks, but for room for a budget of up to 2^21 bytes.
