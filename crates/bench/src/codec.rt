@@ -7,7 +7,7 @@ use anyhow::{Result, bail};
 use serde_json::Value;
 use std::alloc::Global;
 use std::time::{Clock, Instant};
-use taf_messages::{Call, Reply, append_reply, read_call};
+use taf_messages::{Call, Reply, Shared, append_reply, read_call};
 
 /// The lines of departures, read by `serde_json` alone.
 pub fn parse(clock: &impl Clock, alloc: Global, count: u64) -> Result<Measured> {
@@ -44,13 +44,23 @@ pub fn replies(clock: &impl Clock, alloc: Global, count: u64) -> Result<Measured
 /// Replies with a record of sixty events, written.
 pub fn shown(clock: &impl Clock, alloc: Global, count: u64) -> Result<Measured> {
     let run = Run::grown(alloc, &samples::plan(alloc)?, 60)?;
-    written(clock, alloc, &Reply::One(run.shown(alloc)?), count)
+    written(
+        clock,
+        alloc,
+        &Reply::One(Shared::new(alloc, run.shown(alloc)?)?),
+        count,
+    )
 }
 
 /// Replies of fifty items, written.
 pub fn items(clock: &impl Clock, alloc: Global, count: u64) -> Result<Measured> {
     let items = samples::estimates(alloc, 50)?;
-    written(clock, alloc, &Reply::Items(items), count)
+    written(
+        clock,
+        alloc,
+        &Reply::Items(Shared::new(alloc, items)?),
+        count,
+    )
 }
 
 // The reply, written many times into one buffer.

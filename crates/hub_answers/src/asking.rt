@@ -8,7 +8,7 @@ ghost use Rattle.hub_tables.specs.Tabled.{known};
 use hub_tables::{Tables, Wagon};
 use std::alloc::Global;
 use taf_codes::{Memory, Railway, UnitCode};
-use taf_messages::{Reply, Why};
+use taf_messages::{Reply, Shared, Why};
 use wagon_number::WagonNumber;
 
 /// The reply to a railway that asks for a wagon: its record, or why it gets none. A refusal names
@@ -55,7 +55,7 @@ fn record_reply(
     };
     if wimo::may_see(found.track(), by) {
         let shown = wimo::record_of(alloc, found.track(), found.estimates())?;
-        Ok(Reply::One(shown))
+        Ok(Reply::One(Shared::new(alloc, shown)?))
     } else {
         has_record(found);
         Ok(refused(Why::NotYours, told))

@@ -10,7 +10,7 @@ use crate::asking::refused;
 use hub_tables::Tables;
 use std::alloc::Global;
 use taf_codes::{ConsignmentId, Memory, Railway};
-use taf_messages::{Listed, Record, Reply, Why};
+use taf_messages::{Listed, Record, Reply, Shared, Why};
 use trip_plan::Plan;
 use wagon_number::WagonNumber;
 
@@ -32,7 +32,7 @@ pub fn deviation(
     };
     if plan.lead() == by {
         let late = deviating(alloc, tables, plan)?;
-        Ok(Reply::Many(Listed::from_vec(late)))
+        Ok(Reply::Many(Shared::new(alloc, Listed::from_vec(late))?))
     } else {
         Ok(refused(Why::NotYours, None))
     }

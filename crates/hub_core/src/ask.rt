@@ -8,7 +8,7 @@ use crate::books::Books;
 use hub_answers::{ask, ask_unit, deviation};
 use std::alloc::Global;
 use taf_codes::{ConsignmentId, Memory, Railway, UnitCode};
-use taf_messages::{FetchLimit, Reply};
+use taf_messages::{FetchLimit, Reply, Shared};
 use wagon_number::WagonNumber;
 
 /// The reply to one who asks for a wagon.
@@ -52,9 +52,15 @@ pub fn deviation_reply(
 
 #[tactic(auto, using(crate::proofs::Keeping::fetch_answer))]
 /// The reply to one who fetches items.
-pub fn fetch_reply(books: &Books, by: Railway, limit: FetchLimit) -> Result<Reply, Memory>
+pub fn fetch_reply(
+    alloc: Global,
+    books: &Books,
+    by: Railway,
+    limit: FetchLimit,
+) -> Result<Reply, Memory>
     requires { IsKept books.now }
     ensures { IfOk result (λ r. r ≡ answer books.now.history.entries (call.Fetch by limit)) }
 {
-    Ok(Reply::Items(books.outboxes.fetch(by, limit)?))
+    let items = books.outboxes.fetch(by, limit)?;
+    Ok(Reply::Items(Shared::new(alloc, items)?))
 }

@@ -35,7 +35,7 @@ pub fn take(alloc: Global, books: &mut Books, call: Call) -> Result<Reply, Memor
             enter(books, Call::Deviation { by, consignment }, reply)
         }
         Call::Fetch { by, limit } => {
-            let reply = fetch_reply(books, by, limit)?;
+            let reply = fetch_reply(alloc, books, by, limit)?;
             enter(books, Call::Fetch { by, limit }, reply)
         }
         Call::Ack { by, item } => take_ack(books, by, item),

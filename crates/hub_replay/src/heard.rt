@@ -3,9 +3,8 @@ ghost use Rattle.std.specs.Prelude.{◌≡◌, ◌<◌, length, IfOk};
 ghost use Rattle.taf_messages.specs.Reading.{Gives};
 ghost use Rattle.hub_replay.specs.Lines.{call_in, heard, is_blank, CanBeTold};
 
-use std::alloc::Global;
 use taf_codes::Memory;
-use taf_messages::{Call, RecordFault, read_call};
+use taf_messages::{Call, CallReader, RecordFault};
 
 /// How long a line may be, in bytes without its newline.
 pub(crate) const LONGEST: usize = 65_536;
@@ -24,7 +23,7 @@ pub enum Heard {
 
 /// What the line says.
 #[tactic(auto, unfolding(crate::specs::Lines::heard))]
-pub(crate) fn hear(alloc: Global, line: &[u8]) -> Result<Heard, Memory>
+pub(crate) fn hear(reader: &mut CallReader, line: &[u8]) -> Result<Heard, Memory>
     ensures value { IfOk result (λ h. h ≡ heard line.now) }
     ensures told { IfOk result CanBeTold }
 {
@@ -34,7 +33,7 @@ pub(crate) fn hear(alloc: Global, line: &[u8]) -> Result<Heard, Memory>
     if are_blanks(line) {
         return Ok(Heard::Blank);
     }
-    match call_of(alloc, line) {
+    match call_of(reader, line) {
         Ok(call) => Ok(Heard::Called(call)),
         Err(RecordFault::Memory) => Err(Memory),
         Err(fault) => Ok(Heard::Fault(fault)),
@@ -42,10 +41,10 @@ pub(crate) fn hear(alloc: Global, line: &[u8]) -> Result<Heard, Memory>
 }
 
 // The call of a line, whether it is text or not.
-fn call_of(alloc: Global, line: &[u8]) -> Result<Call, RecordFault>
+fn call_of(reader: &mut CallReader, line: &[u8]) -> Result<Call, RecordFault>
     ensures { Gives result (call_in line.now) }
 {
-    read_call(alloc, line)
+    reader.read(line)
 }
 
 fn are_blanks(line: &[u8]) -> bool

@@ -58,7 +58,7 @@ pub(crate) fn take_lines<W: Sink>(
     let mut from = start;
     let mut place = seen;
     'lines: while let Some(end) = next_newline(piece, place) {
-        let Ok(heard) = hear(desk.alloc, &piece[from..end]) else {
+        let Ok(heard) = hear(&mut desk.reader, &piece[from..end]) else {
             return Err(RunFault::Memory);
         };
         turn(writer, hub, desk, heard)?;
@@ -147,7 +147,7 @@ fn last_line<W: Sink>(
     if line.is_empty() {
         return Ok(());
     }
-    let Ok(heard) = hear(desk.alloc, line) else {
+    let Ok(heard) = hear(&mut desk.reader, line) else {
         return Err(RunFault::Memory);
     };
     turn(writer, hub, desk, heard)

@@ -1,5 +1,5 @@
 -- The shares by which journeys go on.
-use Rattle.std.proofs.Common.{◌≡◌, ℕ, ◌+◌, ◌<◌, ◌≤◌, ◌^◌, ◌==◌, ◌||◌, Bool, true, false, cond, List, [], ◌∷◌, ◌++◌, length, map, get_or, refl, sym, ap, subst, ◌∙◌, arith, true≢false, if◌then◌else◌, inl, inr}
+use Rattle.std.proofs.Common.{◌≡◌, ℕ, ◌+◌, ◌<◌, ◌≤◌, ◌^◌, ◌==◌, ◌||◌, ◌&&◌, Bool, true, false, cond, List, [], ◌∷◌, ◌++◌, length, map, get_or, refl, sym, ap, subst, ◌∙◌, arith, true≢false, if◌then◌else◌, inl, inr}
 use Rattle.std.specs.Prelude.{nat_lt, fold}
 use Rattle.std.specs.List.{list_all}
 use Rattle.std.proofs.lemmas.Bool.{and_parts, or_cases, eqb-true, cases_Bool}
@@ -164,3 +164,19 @@ module _ (s : Standing) (m : Message) (ok : IsAcceptable s m) (on : goes_on m.bo
 
       pub next_admitted : AreAdmitted s.journey (map (λ v. (v, share s.offer m v)) (named s.offer m))
       next_admitted = admit_each (share s.offer m) s.journey (named s.offer m) (differ _ apart) admitted
+
+pub one_differs : (w : ℕ) → all_differ (w ∷ []) ≡ true
+one_differs w = rw (numbers.itself w) refl
+
+-- the same of a message that names one wagon
+module _ (s : Standing) (m : Message) (w : ℕ) (ok : IsAcceptable s m) (on : goes_on m.body ≡ true) (alone : named s.offer m ≡ w ∷ []) where
+  apart : all_differ (named s.offer m) ≡ true
+  apart = ap all_differ alone ∙ one_differs w
+
+  pub one_admitted : nat_lt (length (s.journey w)) (2 ^ 62) ≡ true → IsAdmitted (s.journey w) (share s.offer m w)
+  one_admitted h =
+      let room : list_all (λ v. nat_lt (length (s.journey v)) (2 ^ 62)) (named s.offer m) ≡ true = ap (list_all (λ v. nat_lt (length (s.journey v)) (2 ^ 62))) alone ∙ ap (λ (b : Bool). b && true) h in
+      (subst (λ (ws : List ℕ). AreAdmitted s.journey (map (λ v. (v, share s.offer m v)) ws)) alone (next_admitted s m ok on apart room)).0
+
+  pub one_after : (v : ℕ) → put_on s.journey (w, share s.offer m w) v ≡ journey_after s m v
+  one_after v = ap (λ (ws : List ℕ). fold put_on s.journey (map (λ u. (u, share s.offer m u)) ws) v) (sym alone) ∙ next_after s m ok on apart v

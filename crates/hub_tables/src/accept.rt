@@ -1,9 +1,10 @@
 //! How the tables take a message: first all that may be refused memory, then steps that cannot fail.
-ghost use Rattle.std.specs.Prelude.{◌≡◌, ℕ, IfOk, OnErr, OnOk, false, true, if◌then◌else◌, map};
+ghost use Rattle.std.specs.Prelude.{◌≡◌, ℕ, [], ◌∷◌, Option, IfSome, IfOk, OnErr, OnOk, false, true, if◌then◌else◌, map};
 ghost use Rattle.taf_codes.specs.declared.code.Railway.{Railway};
 ghost use Rattle.trip_plan.specs.Rules.{all_differ};
 ghost use Rattle.taf_messages.specs.declared.message.Body.TheVariants as says;
 ghost use Rattle.replay_numbers.specs.Names.{same_name};
+ghost use Rattle.interchange.specs.declared.offer.Offer.{Offer};
 ghost use Rattle.interchange.specs.Made.{offer_of, stands};
 ghost use Rattle.interchange.specs.Offers.{wagons_of};
 ghost use Rattle.hub_model.specs.Standing.{named};
@@ -11,13 +12,14 @@ ghost use Rattle.hub_model.specs.Answers.{accepted};
 ghost use Rattle.hub_tables.specs.Tabled.{IsAcceptable, goes_on, known, tabled};
 ghost use Rattle.hub_tables.specs.Taking.{GoesOn, Takes};
 
-use crate::enter::{enter, put_all};
+use crate::enter::{enter, put, put_all};
 use crate::tables::Tables;
 use interchange::Offer;
 use std::alloc::Global;
 use taf_codes::{Memory, Railway, UnitCode};
 use taf_messages::{Body, Message, MessageNumber, OfferedWagons, TrainOffer};
 use trip_plan::{Plan, UnitLoad};
+use wagon_number::WagonNumber;
 
 impl Tables {
     /// Takes a message that may be accepted: what is known then is what is known once the message is accepted. `Memory`
@@ -109,8 +111,32 @@ impl Tables {
         ensures offers { self.new.offers ≡ self.old.offers }
         ensures err { OnErr result (self.new ≡ self.old) }
     {
-        let shares = self.next_shares(alloc, message)?;
-        put_all(&mut self.wagons, shares);
+        match alone(message) {
+            Some(wagon) => self.take_event(alloc, message, wagon),
+            None => {
+                let shares = self.next_shares(alloc, message)?;
+                put_all(&mut self.wagons, shares);
+                Ok(())
+            }
+        }
+    }
+
+    /// The journey of the one wagon that the message names goes on.
+    fn take_event(
+        &mut self,
+        alloc: Global,
+        message: &Message,
+        wagon: WagonNumber,
+    ) -> Result<(), Memory>
+        requires acceptable { IsAcceptable (known self.old) message.now }
+        requires goes_on { goes_on message.now.body ≡ true }
+        requires alone { named (known self.old).offer message.now ≡ wagon ∷ [] }
+        ensures ok { OnOk result (GoesOn self.old self.new message.now) }
+        ensures offers { self.new.offers ≡ self.old.offers }
+        ensures err { OnErr result (self.new ≡ self.old) }
+    {
+        let share = self.next_share(alloc, message, wagon)?;
+        put(&mut self.wagons, wagon, share);
         Ok(())
     }
 
@@ -121,6 +147,19 @@ impl Tables {
         if let Some(offer) = self.offer(by, offer) {
             differ(&offer.wagons);
         }
+    }
+}
+
+/// The wagon of a message that names one.
+fn alone(message: &Message) -> Option<WagonNumber>
+    ensures { IfSome result (λ w. (offer : Railway → ℕ → Option Offer) → named offer message.now ≡ w ∷ []) }
+{
+    match &message.body {
+        Body::Movement(movement) => Some(movement.wagon),
+        Body::EtiAsk { wagon } => Some(*wagon),
+        Body::LegTime { wagon, .. } => Some(*wagon),
+        Body::Reroute { wagon, .. } => Some(*wagon),
+        Body::Plan(_) | Body::Offer(_) | Body::Answer(_) | Body::Withdraw { .. } => None,
     }
 }
 

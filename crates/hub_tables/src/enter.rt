@@ -38,7 +38,8 @@ pub(crate) fn put_all(
     }
 }
 
-fn put(wagons: &mut IndexMap<WagonNumber, Wagon>, wagon: WagonNumber, share: Prepared)
+/// Puts a share at the end of its wagon's journey.
+pub(crate) fn put(wagons: &mut IndexMap<WagonNumber, Wagon>, wagon: WagonNumber, share: Prepared)
     requires filed { AreFiled wagons.old.entries }
     requires admitted { IsAdmitted (events_in wagons.old.entries wagon) share }
     ensures events { (w : ℕ) → events_in wagons.new.entries w ≡ put_on (events_in wagons.old.entries) (wagon, share) w }

@@ -6,7 +6,7 @@ ghost use Rattle.hub_model.specs.Faults.{whole_fault};
 ghost use Rattle.interchange.specs.Offers.{wagons_of, place_of};
 ghost use Rattle.trip_plan.specs.Rules.{all_differ, has};
 ghost use Rattle.hub_tables.specs.Tabled.{IsAcceptable, events_in, goes_on, known};
-ghost use Rattle.hub_tables.specs.Taking.{AreAdmitted, IsBeginning, put_on};
+ghost use Rattle.hub_tables.specs.Taking.{AreAdmitted, IsAdmitted, IsBeginning, put_on};
 
 use crate::tables::Tables;
 use crate::wagon::Wagon;
@@ -175,6 +175,26 @@ impl Tables {
         }
         let shares = self.prepared(alloc, message, wagons.as_slice())?;
         Ok(shares)
+    }
+
+    /// The share by which the journey of the one wagon that the message names goes on.
+    pub(crate) fn next_share(
+        &self,
+        alloc: Global,
+        message: &Message,
+        wagon: WagonNumber,
+    ) -> Result<Prepared, Memory>
+        requires acceptable { IsAcceptable (known self.now) message.now }
+        requires goes_on { goes_on message.now.body ≡ true }
+        requires alone { named (known self.now).offer message.now ≡ wagon ∷ [] }
+        ensures admitted { IfOk result (λ e. IsAdmitted (events_in self.now.wagons wagon) e) }
+        ensures after { IfOk result (λ e. (w : ℕ) → put_on (events_in self.now.wagons) (wagon, e) w ≡ journey_after (known self.now) message.now w) }
+    {
+        if !has_room(self, wagon) {
+            return Err(Memory);
+        }
+        let share = self.share(message, wagon)?;
+        Ok(share.prepared(alloc)?)
     }
 
     /// Each of the wagons with a journey that begins with its share of the message.

@@ -5,7 +5,7 @@
 //! 4.2.6; records are what the operational database shows of a wagon (4.2.11).
 //!
 //! - [`read_call`] reads a line, a JSON object, as the [`Call`] that it is, or gives its first
-//!   [`RecordFault`]: no JSON, no kind, the first field in the kind's order that is missing or not
+//!   [`RecordFault`], and a [`CallReader`] so reads many lines: no JSON, no kind, the first field in the kind's order that is missing or not
 //!   good, then the first rule that a plan or a route breaks. What it reads is said in
 //!   `specs/Reading.antt`, by kinds and fields. A record without lists is read token by token, any other
 //!   line as the tree of its JSON; the answer is the same.
@@ -16,7 +16,8 @@
 //!   tree.
 //! - [`Message`] with its [`Body`], [`Call`], [`Item`], [`Reply`] and [`Record`] are plain values.
 //!   Numbers keep their limits by type ([`Within`]), as do lists of wagons ([`Wagons`],
-//!   [`OfferedWagons`]). [`Listed`] is a list that contracts see as its elements.
+//!   [`OfferedWagons`]). [`Listed`] is a list that contracts see as its elements, [`Shared`] a value
+//!   that copies share and that contracts see as itself.
 //! - [`same`] is equality of sender, number and content. `==` of calls, items and replies is
 //!   equality, and copies equal their source; they share what a plan or a route says.
 //!
@@ -46,6 +47,7 @@ mod put_reply;
 mod read;
 mod record;
 mod reply;
+mod shared;
 mod value;
 mod wagons;
 mod write;
@@ -63,8 +65,9 @@ pub use listed::{EstimateList, ItemList, Listed, RecordEvents, Records, Units};
 pub use message::{Body, Message, TrainAnswer, TrainOffer};
 pub use movement::{Movement, MovementKind};
 pub use number::{Delay, FetchLimit, ItemNumber, LegIndex, LegMinutes, MessageNumber, Within};
-pub use read::read_call;
+pub use read::{CallReader, read_call};
 pub use record::{EstimateAt, Record, Stage, Status};
 pub use reply::{Reply, Why};
+pub use shared::Shared;
 pub use wagons::{OfferedWagons, Wagons};
 pub use write::{append_fault, append_reply, write_fault, write_item, write_record, write_reply};

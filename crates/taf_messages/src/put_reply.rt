@@ -158,17 +158,17 @@ impl Object for Reply {
                 Ok(())
             }
             Reply::One(shown) => {
-                put_field(out, "record", shown)?;
+                put_field(out, "record", shown.get())?;
                 put_field(out, "reply", &"record")?;
                 Ok(())
             }
             Reply::Many(shown) => {
-                put_field(out, "records", shown)?;
+                put_field(out, "records", shown.get())?;
                 put_field(out, "reply", &"records")?;
                 Ok(())
             }
             Reply::Items(items) => {
-                put_field(out, "items", items)?;
+                put_field(out, "items", items.get())?;
                 put_field(out, "reply", &"items")?;
                 Ok(())
             }

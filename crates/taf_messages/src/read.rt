@@ -29,18 +29,44 @@ pub fn read_call(alloc: Global, line: &[u8]) -> Result<Call, RecordFault>
     ensures text { IsUtf8 line.now → Gives result (reading.call_read (read_text line.now)) }
     ensures no_text { ¬ (IsUtf8 line.now) → Gives result (Err RecordFault.BadJson) }
 {
-    match str::from_utf8(line) {
-        Ok(text) => read_line(alloc, text),
-        Err(_) => Err(RecordFault::BadJson),
+    CallReader::new(alloc).read(line)
+}
+
+/// Reads the calls of many lines, and keeps the memory that reading takes from line to line.
+#[derive(Drop)]
+pub struct CallReader {
+    alloc: Global,
+    scratch: Scratch,
+}
+
+impl CallReader {
+    /// A reader that has read no line. Takes no memory.
+    pub fn new(alloc: Global) -> CallReader {
+        CallReader {
+            alloc,
+            scratch: Scratch::new(alloc),
+        }
+    }
+
+    /// The call that the line is, or the first fault of it, whatever was read before. Memory may be
+    /// refused in place of any answer.
+    pub fn read(&mut self, line: &[u8]) -> Result<Call, RecordFault>
+        // A line that is text is what its JSON says.
+        ensures text { IsUtf8 line.now → Gives result (reading.call_read (read_text line.now)) }
+        ensures no_text { ¬ (IsUtf8 line.now) → Gives result (Err RecordFault.BadJson) }
+    {
+        match str::from_utf8(line) {
+            Ok(text) => read_line(self.alloc, text, &mut self.scratch),
+            Err(_) => Err(RecordFault::BadJson),
+        }
     }
 }
 
 // The call that a text is. Most records have no lists, and are read without a tree.
-fn read_line(alloc: Global, text: &str) -> Result<Call, RecordFault>
+fn read_line(alloc: Global, text: &str, scratch: &mut Scratch) -> Result<Call, RecordFault>
     ensures { Gives result (reading.call_read (read_text text.now)) }
 {
-    let mut scratch = Scratch::new(alloc);
-    match FlatRecord::read(alloc, text, &mut scratch)? {
+    match FlatRecord::read(alloc, text, scratch)? {
         Some(record) => read_record(Fields {
             alloc,
             value: Found::Flat(&record),

@@ -3,6 +3,7 @@ ghost use Rattle.std.specs.Prelude.{◌≡◌};
 use crate::listed::{ItemList, Records};
 use crate::number::MessageNumber;
 use crate::record::Record;
+use crate::shared::Shared;
 use std::alloc::AllocError;
 use wagon_number::WagonNumber;
 
@@ -31,7 +32,7 @@ pub enum Why {
     AckAhead,
 }
 
-/// What the hub answers to a call.
+/// What the hub answers to a call. Copies share the records and the items.
 #[derive(Debug, PartialEq, Eq, Drop)]
 pub enum Reply {
     Accepted {
@@ -43,9 +44,9 @@ pub enum Reply {
         wagon: Option<WagonNumber>,
         last: Option<u64>,
     },
-    One(Record),
-    Many(Records),
-    Items(ItemList),
+    One(Shared<Record>),
+    Many(Shared<Records>),
+    Items(Shared<ItemList>),
     Acknowledged(u64),
 }
 

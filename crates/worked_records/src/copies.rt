@@ -5,7 +5,7 @@ use crate::records::{planned, running};
 use std::alloc::Global;
 use std::test::Fail;
 use taf_messages::{
-    Call, Item, ItemBody, Listed, MessageNumber, Reply, Why, copy, copy_call, copy_item,
+    Call, Item, ItemBody, Listed, MessageNumber, Reply, Shared, Why, copy, copy_call, copy_item,
     copy_reply, read_call, same, same_call, same_item, same_reply,
 };
 
@@ -117,18 +117,18 @@ fn add_refusals(replies: &mut Vec<Reply>, no: MessageNumber) -> Result<(), Fail>
 }
 
 fn add_records(alloc: Global, replies: &mut Vec<Reply>) -> Result<(), Fail> {
-    replies.push(Reply::One(running(alloc, false)?))?;
-    replies.push(Reply::One(running(alloc, true)?))?;
-    Ok(replies.push(Reply::One(planned(alloc)?))?)
+    replies.push(Reply::One(Shared::new(alloc, running(alloc, false)?)?))?;
+    replies.push(Reply::One(Shared::new(alloc, running(alloc, true)?)?))?;
+    Ok(replies.push(Reply::One(Shared::new(alloc, planned(alloc)?)?))?)
 }
 
 fn add_lists(alloc: Global, replies: &mut Vec<Reply>) -> Result<(), Fail> {
-    replies.push(Reply::Many(Listed::from_vec(Vec::new(alloc))))?;
-    replies.push(Reply::Items(Listed::from_vec(Vec::new(alloc))))?;
-    replies.push(Reply::Items(Listed::from_vec(items(alloc)?)))?;
+    replies.push(Reply::Many(Shared::new(alloc, Listed::from_vec(Vec::new(alloc)))?))?;
+    replies.push(Reply::Items(Shared::new(alloc, Listed::from_vec(Vec::new(alloc)))?))?;
+    replies.push(Reply::Items(Shared::new(alloc, Listed::from_vec(items(alloc)?))?))?;
     let mut known = Vec::new(alloc);
     known.push(running(alloc, false)?)?;
-    Ok(replies.push(Reply::Many(Listed::from_vec(known)))?)
+    Ok(replies.push(Reply::Many(Shared::new(alloc, Listed::from_vec(known))?))?)
 }
 
 /// Replies of which no two say the same.

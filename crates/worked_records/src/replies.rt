@@ -4,7 +4,7 @@ use crate::parts::{ONE, THREE, message, moment, wagon, within};
 use crate::records::{LATE, RUNNING, running};
 use std::alloc::Global;
 use std::test::Fail;
-use taf_messages::{Item, ItemBody, Listed, MessageNumber, Reply, Why};
+use taf_messages::{Item, ItemBody, Listed, MessageNumber, Reply, Shared, Why};
 use wagon_number::WagonNumber;
 
 #[test]
@@ -122,7 +122,7 @@ fn reasons(rt: HostRuntime) -> Result<(), Fail> {
 #[test]
 fn a_reply_with_a_record(rt: HostRuntime) -> Result<(), Fail> {
     let alloc = rt.alloc();
-    let reply = Reply::One(running(alloc, false)?);
+    let reply = Reply::One(Shared::new(alloc, running(alloc, false)?)?);
     let text = format!(in alloc; "{{\"record\":{RUNNING},\"reply\":\"record\"}}")?;
     is_written(alloc, &reply, &text)
 }
@@ -131,7 +131,7 @@ fn two_records(alloc: Global) -> Result<Reply, Fail> {
     let mut records = Vec::new(alloc);
     records.push(running(alloc, true)?)?;
     records.push(running(alloc, false)?)?;
-    Ok(Reply::Many(Listed::from_vec(records)))
+    Ok(Reply::Many(Shared::new(alloc, Listed::from_vec(records))?))
 }
 
 #[test]
@@ -153,7 +153,7 @@ fn two_items(alloc: Global) -> Result<Reply, Fail> {
     items.push(Item { number: 1, body })?;
     let body = ItemBody::Eta { wagon, at };
     items.push(Item { number: 2, body })?;
-    Ok(Reply::Items(Listed::from_vec(items)))
+    Ok(Reply::Items(Shared::new(alloc, Listed::from_vec(items))?))
 }
 
 const TWO_ITEMS: &str =
@@ -168,8 +168,8 @@ fn a_reply_with_two_items(rt: HostRuntime) -> Result<(), Fail> {
 #[test]
 fn replies_with_nothing(rt: HostRuntime) -> Result<(), Fail> {
     let alloc = rt.alloc();
-    let none = Reply::Many(Listed::from_vec(Vec::new(alloc)));
+    let none = Reply::Many(Shared::new(alloc, Listed::from_vec(Vec::new(alloc)))?);
     is_written(alloc, &none, r#"{"records":[],"reply":"records"}"#)?;
-    let none = Reply::Items(Listed::from_vec(Vec::new(alloc)));
+    let none = Reply::Items(Shared::new(alloc, Listed::from_vec(Vec::new(alloc)))?);
     is_written(alloc, &none, r#"{"items":[],"reply":"items"}"#)
 }

@@ -9,4 +9,4 @@ use Rattle.hub_core.proofs.ask.fetch_reply.Goals as goal
 pub returns : goal.returns
 returns c =
     let b = c.args.books.now in
-    ap Items c.in_ok-fetch.ensures ∙ fetch_answer b.history.entries (known b.tables) (position_of b.seen) (kept_for b.outboxes) c.args.by c.args.limit c.requires
+    ap Items (c.in_ok-new.ensures ∙ c.in_ok-items.ensures) ∙ fetch_answer b.history.entries (known b.tables) (position_of b.seen) (kept_for b.outboxes) c.args.by c.args.limit c.requires

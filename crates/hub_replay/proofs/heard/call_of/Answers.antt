@@ -13,7 +13,7 @@ false_true e = cc
 pub returns : goal.returns
 unfolding call_in
 returns c =
-    elim (is_utf8 c.args.line.now) as (λ t. is_utf8 c.args.line.now ≡ t → Gives c.read_call.result (cond t (call_read (read_json c.args.line.now)) (Err BadJson))) [
-      | true ↦ λ e. c.read_call.ensures.text (IsUtf8-from_is_utf8 c.args.line.now e)
-      | false ↦ λ e. c.read_call.ensures.no_text (λ u. false_true (sym e ∙ is_utf8-from_IsUtf8 c.args.line.now u))
+    elim (is_utf8 c.args.line.now) as (λ t. is_utf8 c.args.line.now ≡ t → Gives c.read.result (cond t (call_read (read_json c.args.line.now)) (Err BadJson))) [
+      | true ↦ λ e. c.read.ensures.text (IsUtf8-from_is_utf8 c.args.line.now e)
+      | false ↦ λ e. c.read.ensures.no_text (λ u. false_true (sym e ∙ is_utf8-from_IsUtf8 c.args.line.now u))
     ] refl
