@@ -7,7 +7,7 @@ use anyhow::{Result, bail};
 use serde_json::Value;
 use std::alloc::Global;
 use std::time::{Clock, Instant};
-use taf_messages::{Call, Reply, Shared, append_reply, read_call};
+use taf_messages::{Call, CallReader, Reply, Shared, append_reply};
 
 /// The lines of departures, read by `serde_json` alone.
 pub fn parse(clock: &impl Clock, alloc: Global, count: u64) -> Result<Measured> {
@@ -25,9 +25,10 @@ pub fn parse(clock: &impl Clock, alloc: Global, count: u64) -> Result<Measured> 
 /// The same lines, read as calls.
 pub fn read(clock: &impl Clock, alloc: Global, count: u64) -> Result<Measured> {
     let lines = samples::departures(alloc, count)?;
+    let mut reader = CallReader::new(alloc);
     let start = Instant::now(clock)?;
     for line in &lines {
-        let call = read_call(alloc, line.as_bytes())?;
+        let call = reader.read(line.as_bytes())?;
         if !matches!(&call, Call::Send(_)) {
             bail!("the sample is no message");
         }

@@ -4,9 +4,10 @@
 //! is not blank: the hub's reply, or a fault line where the line is no call or the hub's history is full. What lines
 //! lead to is defined in `specs/Outcomes.antt`, and what a line says in `specs/Lines.antt`.
 //!
-//! Of the input no more than 131,072 bytes are held at once, beside the reader's room for the texts of a line, and of the output the lines of one call and of the
-//! faults before it. Each reply is handed to the writer before the next call goes to the hub, and the writer is
-//! flushed before more input is read, so that one who waits for a reply before he writes his next line gets it.
+//! Of the input no more than 131,072 bytes are held at once, beside the room for the texts of one line, and of the
+//! output the lines of one call and of the faults before it. Each reply is handed to the writer before the next call
+//! goes to the hub, and the writer is flushed before more input is read, so that one who waits for a reply before he
+//! writes his next line gets it.
 #![tactic(auto)]
 
 mod counts;
