@@ -10,7 +10,7 @@ use Rattle.taf_messages.specs.declared.reply.Reply.TheVariants.{Acknowledged, Re
 use Rattle.taf_messages.specs.declared.reply.Why.TheVariants.{AckAhead as Ahead}
 use Rattle.taf_messages.specs.declared.item.ItemBody.{ItemBody}
 use Rattle.outbox.specs.declared.fault.AckAhead.{AckAhead}
-use Rattle.outbox.specs.Kept.{Kept, kept_for, last_of, acknowledged_to}
+use Rattle.outbox.specs.Kept.{BoxState, Kept, kept_for, last_of, acknowledged_to}
 use Rattle.outbox.specs.Keeping.{Keeps, LastCounts, Acknowledges}
 use Rattle.hub_model.specs.declared.entry.Entry.{Entry}
 use Rattle.hub_model.specs.Standing.{Standing}
@@ -35,7 +35,7 @@ is_past n last h = elim (cases_Bool (leb n last)) [
   | inr e ↦ leb-false n last e
 ]
 
-module _ (count : LastCounts) (acks : Acknowledges) (history : List Entry) (by : Railway) (n : ℕ) (looked_up : Standing) (position : Railway → ℕ → Option ℕ) (old new : List (Railway × Kept))
+module _ (count : LastCounts) (acks : Acknowledges) (history : List Entry) (by : Railway) (n : ℕ) (looked_up : Standing) (position : Railway → ℕ → Option ℕ) (old new : List (Railway × BoxState))
     (kept : AreKept history looked_up position (kept_for old)) (room : length history < 1000000) where
   abbrev s : Standing
   s = standing_of history
@@ -70,5 +70,5 @@ module _ (count : LastCounts) (acks : Acknowledges) (history : List Entry) (by :
       (subst (λ (q : Railway). n ≤ length (s.outbox q)) same within, is ∙ ap (λ (a : ℕ). max a n) (kept.boxes by).number ∙ ap (λ (q : Railway). max (s.acknowledged q) n) same)))
       kept.offers)
   kept_ack (Err x) when is ahead boxes err =
-      subst (λ (bs : List (Railway × Kept)). AreKept (history ++ record { call = Ack by n; reply = told_of_ack (Err x) } ∷ []) looked_up position (kept_for bs)) (sym err)
+      subst (λ (bs : List (Railway × BoxState)). AreKept (history ++ record { call = Ack by n; reply = told_of_ack (Err x) } ∷ []) looked_up position (kept_for bs)) (sym err)
       (kept_entered history (Ack by n) (told_of_ack (Err x)) looked_up position (kept_for old) kept room tt (ack_answer (Err x) when is ahead) refl)

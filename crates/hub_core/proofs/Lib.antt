@@ -1,5 +1,5 @@
 pub mod Keeping
 pub mod Acks
 pub mod Sends
-pub mod Delivery
+pub mod DeliverySteps
 pub mod Acceptable

@@ -18,16 +18,16 @@
 //! | `ask` | the replies to questions, and to a fetch of items |
 //! | `ack` | acknowledgements |
 //! | `send` | messages: sent before, refused, accepted |
-//! | `parcels` | items on their way into the outboxes |
+//! | `delivery` | items on their way into the outboxes |
 //! | `take` | each call to its part |
 #![tactic(auto)]
 
 mod ack;
 mod ask;
 mod books;
+mod delivery;
 mod fault;
 mod hub;
-mod parcels;
 mod send;
 mod take;
 mod view;

@@ -11,13 +11,13 @@ ghost use Rattle.hub_model.specs.Laws.{IsMoment};
 ghost use Rattle.hub_model.specs.Items.{items_of};
 ghost use Rattle.hub_tables.specs.Tabled.{known, IsAcceptable};
 ghost use Rattle.hub_core.specs.Books.{IsKept};
-ghost use Rattle.hub_core.specs.Parcels.{AreReady, are_of};
+ghost use Rattle.hub_core.specs.Delivery.{AreReady};
 
 use crate::books::{Books, enter};
-use crate::parcels::{Parcel, deliver, open_all, prepared};
+use crate::delivery::{deliver, make_room_for};
 use hub_checks::fault;
 use hub_items::items;
-use hub_model::{Entry, Fault, estimates_fit, offers_are_in_order};
+use hub_model::{Addressed, Entry, Fault, estimates_fit, offers_are_in_order};
 use hub_tables::Tables;
 use outbox::boxes_keep_the_lists;
 use std::alloc::Global;
@@ -101,33 +101,33 @@ fn refuse(books: &mut Books, message: Message, found: Fault) -> Result<Reply, Me
     Ok(told)
 }
 
-/// Makes room for one entry more, its name and these parcels. Nothing that is looked up changes.
-fn make_room(books: &mut Books, parcels: &[Parcel]) -> Result<(), Memory>
+/// Makes room for one entry more, its name and these items. Nothing that is looked up changes.
+fn make_room(books: &mut Books, items: &[Addressed]) -> Result<(), Memory>
     ensures entries { books.new.history.entries ≡ books.old.history.entries }
     ensures tables { books.new.tables ≡ books.old.tables }
     ensures notes { books.new.seen.notes ≡ books.old.seen.notes }
     ensures boxes { (r : Railway) → kept_for books.new.outboxes r ≡ kept_for books.old.outboxes r }
-    ensures ready { OnOk result (AreReady books.new.outboxes (2 ^ 62) parcels.now) }
+    ensures ready { OnOk result (AreReady books.new.outboxes (2 ^ 62) (length items.now) items.now) }
     ensures room { OnOk result (0 < books.new.history.spare) }
     ensures names { OnOk result (0 < books.new.seen.spare) }
 {
-    open_all(&mut books.outboxes, parcels)?;
+    make_room_for(&mut books.outboxes, items)?;
     books.seen.reserve()?;
     books.history.reserve()?;
     Ok(())
 }
 
-/// The parcels of an acceptable message.
-fn parcels_of(alloc: Global, tables: &Tables, message: &Message) -> Result<Vec<Parcel>, Memory>
+/// The items of an acceptable message.
+fn few_items(alloc: Global, tables: &Tables, message: &Message) -> Result<Vec<Addressed>, Memory>
     requires { IsAcceptable (known tables.now) message.now }
-    ensures parcels { IfOk result (λ parcels. parcels.items ≡ are_of (items_of (known tables.now) message.now)) }
-    ensures few { IfOk result (λ parcels. length parcels.items < 2 ^ 62) }
+    ensures items { IfOk result (λ items. items.items ≡ items_of (known tables.now) message.now) }
+    ensures few { IfOk result (λ items. length items.items < 2 ^ 62) }
 {
-    let parcels = prepared(alloc, items(alloc, tables, message)?)?;
-    if parcels.len() >= 1 << 62 {
+    let items = items(alloc, tables, message)?;
+    if items.len() >= 1 << 62 {
         return Err(Memory);
     }
-    Ok(parcels)
+    Ok(items)
 }
 
 /// Takes a new message that may be accepted: all that can be refused memory comes first, and then what cannot.
@@ -145,10 +145,10 @@ fn accept(alloc: Global, books: &mut Books, message: Message) -> Result<Reply, M
     boxes_keep_the_lists();
     let by = message.by;
     let no = message.no;
-    let parcels = parcels_of(alloc, &books.tables, &message)?;
-    make_room(books, &parcels)?;
+    let items = few_items(alloc, &books.tables, &message)?;
+    make_room(books, &items)?;
     books.tables.accept(alloc, &message)?;
-    deliver(&mut books.outboxes, parcels);
+    deliver(&mut books.outboxes, items);
     let position = books.history.len() as u64;
     books.seen.note_reserved(by, no, position);
     books

@@ -22,9 +22,9 @@ first_numbered items n m k bodies rest whole count =
     sym (take-append-le k items (numbered_after m rest) many ∙ take_all k items few) ∙ ap (take k) whole ∙ take-numbered n k bodies
 
 -- items that none follow, when no fewer are wanted
-pub all_numbered : (items : List Item) (n m k : ℕ) (bodies rest : List ItemBody) → items ++ numbered_after m rest ≡ numbered_after n bodies → rest ≡ [] → length items ≤ k → items ≡ numbered_after n (take k bodies)
+pub all_numbered : (items : List Item) (n m k : ℕ) (bodies rest : List ItemBody) → items ++ numbered_after m rest ≡ numbered_after n bodies → length rest ≡ 0 → length items ≤ k → items ≡ numbered_after n (take k bodies)
 all_numbered items n m k bodies [] whole none count = sym (take_all k items count) ∙ ap (take k) (sym (append-nil items) ∙ whole) ∙ take-numbered n k bodies
-all_numbered items n m k bodies (b ∷ rest) whole none count = cc
+all_numbered items n m k bodies (b ∷ rest) whole none count = absurd (let no : ⊥ = omega (arith, none) in no)
 
 -- the items after a number are numbered on from there
 drop-numbered : (n k : ℕ) (bodies : List ItemBody) → drop k (numbered_after n bodies) ≡ numbered_after (n + k) (drop k bodies)

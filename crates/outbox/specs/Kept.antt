@@ -15,16 +15,29 @@ pub record Kept : Type 0 where
 abbrev pub nothing : Kept
 nothing = record { acknowledged = 0; bodies = [] }
 
-abbrev pub or_nothing : Option Kept → Kept
-or_nothing None = nothing
-or_nothing (Some kept) = kept
+-- what is kept in a box, and how many items more have room in it
+pub record BoxState : Type 0 where
+  pub kept : Kept
+  pub room : ℕ
+
+abbrev pub kept_in : Option BoxState → Kept
+kept_in None = nothing
+kept_in (Some b) = b.kept
+
+abbrev pub room_in : Option BoxState → ℕ
+room_in None = 0
+room_in (Some b) = b.room
 
 -- what is kept for a railway
-abbrev pub kept_for : List (Railway × Kept) → Railway → Kept
-kept_for boxes railway = or_nothing (lookup (bytes_eq railway) boxes)
+abbrev pub kept_for : List (Railway × BoxState) → Railway → Kept
+kept_for boxes railway = kept_in (lookup (bytes_eq railway) boxes)
+
+-- how many items more have room in a railway's box: none where it has no box
+abbrev pub room_for : List (Railway × BoxState) → Railway → ℕ
+room_for boxes railway = room_in (lookup (bytes_eq railway) boxes)
 
 -- the railway has a box, which may be empty
-abbrev pub has_box : List (Railway × Kept) → Railway → Bool
+abbrev pub has_box : List (Railway × BoxState) → Railway → Bool
 has_box boxes railway = is_some (lookup (bytes_eq railway) boxes)
 
 -- the number of the last item

@@ -1,43 +1,49 @@
 //! The table of the boxes.
-ghost use Rattle.std.specs.Prelude.{◌≡◌, ◌+◌, ◌<◌, ◌≤◌, ◌^◌, true, false, max, if◌then◌else◌, bytes_eq, OnOk, OnErr};
-ghost use Rattle.indexmap.specs.IndexMap.{IsUnchanged};
+ghost use Rattle.std.specs.Prelude.{◌≡◌, ◌+◌, ◌<◌, ◌≤◌, ◌^◌, [], ◌∷◌, true, max, if◌then◌else◌, bytes_eq, OnOk, OnErr};
 ghost use Rattle.taf_codes.specs.declared.code.Railway.{Railway};
-ghost use Rattle.outbox.specs.Kept.{kept_for, has_box, last_of, nothing, pushed, acknowledged_to};
+ghost use Rattle.outbox.specs.Kept.{kept_for, has_box, room_for, last_of, pushed, acknowledged_to};
 
 use crate::outbox::Outbox;
-use crate::prepared::Prepared;
 use indexmap::IndexMap;
 use taf_codes::{Memory, Railway};
+use taf_messages::ItemBody;
 
 pub type Boxes = IndexMap<Railway, Outbox>;
 
-/// Adds an empty box for a railway that has none.
-#[tactic(auto, using(crate::proofs::KeyLemmas::nothing_kept, crate::proofs::KeyLemmas::same_box))]
-pub fn add(boxes: &mut Boxes, railway: Railway, outbox: Outbox) -> Result<(), Memory>
-    requires none { has_box boxes.old.entries railway ≡ false }
-    requires empty { outbox ≡ nothing }
+/// Makes room for so many items in the box of a railway, and the box where there is none.
+#[tactic(auto, using(crate::proofs::KeyLemmas::same_box))]
+pub fn make_room(boxes: &mut Boxes, railway: Railway, count: usize) -> Result<(), Memory>
     ensures kept { (also : Railway) → kept_for boxes.new.entries also ≡ kept_for boxes.old.entries also }
     ensures stay_open { (also : Railway) → has_box boxes.old.entries also ≡ true → has_box boxes.new.entries also ≡ true }
-    ensures ok { OnOk result (has_box boxes.new.entries railway ≡ true) }
-    ensures err { OnErr result (IsUnchanged boxes.old boxes.new) }
+    ensures stay_roomy { (also : Railway) → room_for boxes.old.entries also ≤ room_for boxes.new.entries also }
+    ensures open { OnOk result (has_box boxes.new.entries railway ≡ true) }
+    ensures room { OnOk result (count ≤ room_for boxes.new.entries railway) }
+    ensures few { OnOk result (last_of (kept_for boxes.new.entries railway) < 2 ^ 62) }
+    ensures err { OnErr result ((also : Railway) → has_box boxes.new.entries also ≡ has_box boxes.old.entries also) }
 {
+    if let Some(outbox) = boxes.get_mut(&railway) {
+        return outbox.make_room(count);
+    }
+    let mut outbox = Outbox::new(*boxes.allocator());
+    outbox.make_room(count)?;
     boxes.insert(railway, outbox)?;
     Ok(())
 }
 
-/// Adds a prepared item for a railway that has a box, and gives its number.
+/// Adds an item for a railway that has room for it, and gives its number.
 #[tactic(auto, using(crate::proofs::KeyLemmas::same_box))]
-pub fn put(boxes: &mut Boxes, railway: Railway, item: Prepared) -> u64
-    requires open { has_box boxes.old.entries railway ≡ true }
+pub fn put(boxes: &mut Boxes, railway: Railway, body: ItemBody) -> u64
+    requires room { 0 < room_for boxes.old.entries railway }
     requires few { last_of (kept_for boxes.old.entries railway) + 1 < 2 ^ 63 }
     ensures number { result ≡ last_of (kept_for boxes.old.entries railway) + 1 }
-    ensures kept { (also : Railway) → kept_for boxes.new.entries also ≡ (if bytes_eq railway also then pushed (kept_for boxes.old.entries also) item else kept_for boxes.old.entries also) }
+    ensures kept { (also : Railway) → kept_for boxes.new.entries also ≡ (if bytes_eq railway also then pushed (kept_for boxes.old.entries also) (body ∷ []) else kept_for boxes.old.entries also) }
+    ensures room { (also : Railway) → room_for boxes.new.entries also + (if bytes_eq railway also then 1 else 0) ≡ room_for boxes.old.entries also }
     ensures stay_open { (also : Railway) → has_box boxes.new.entries also ≡ has_box boxes.old.entries also }
 {
     match boxes.get_mut(&railway) {
         Some(outbox) => {
             let number = outbox.last() + 1;
-            outbox.link(item);
+            outbox.put(body);
             number
         }
         None => unreachable!(),

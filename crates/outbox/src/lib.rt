@@ -5,11 +5,14 @@
 //! So a box holds only what was not acknowledged, and each item is dropped once. A number past the last item is ahead
 //! ([`AckAhead`]) and changes nothing.
 //!
-//! In contracts [`Outboxes`] is the list of its boxes, and `kept_for` gives what is kept for a railway: the acknowledged
-//! number and the bodies of the items after it (`specs/Kept.antt`). [`boxes_keep_the_lists`] says that this is all that one
-//! needs of the whole list of what a railway was ever told (`specs/Keeping.antt`).
+//! A box is a ring, in which items are added at the end and dropped at the front without memory while there is room.
 //!
-//! What must not fail is done in two steps: [`Outboxes::open`] and [`Prepared::new`] first, which may be refused memory, and
+//! In contracts [`Outboxes`] is the list of its boxes. Of each, `kept_for` gives what is kept for the railway, the
+//! acknowledged number and the bodies of the items after it, and `room_for` how many items more have room
+//! (`specs/Kept.antt`). [`boxes_keep_the_lists`] says that what is kept is all that one needs of the whole list of what a
+//! railway was ever told (`specs/Keeping.antt`).
+//!
+//! What must not fail is done in two steps: [`Outboxes::make_room`] first, which may be refused memory, and
 //! [`Outboxes::put`], which may not.
 #![tactic(auto)]
 
@@ -18,11 +21,9 @@ mod fault;
 mod laws;
 mod outbox;
 mod outboxes;
-mod prepared;
 #[cfg(test)]
 mod tests;
 
 pub use fault::AckAhead;
 pub use laws::boxes_keep_the_lists;
 pub use outboxes::Outboxes;
-pub use prepared::Prepared;

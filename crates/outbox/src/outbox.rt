@@ -1,9 +1,8 @@
-ghost use Rattle.std.specs.Prelude.{◌≡◌, ◌+◌, ◌<◌, ◌≤◌, ◌^◌, ◌++◌, length, take, drop, max, IfOk};
+ghost use Rattle.std.specs.Prelude.{◌≡◌, ◌+◌, ◌<◌, ◌≤◌, ◌^◌, [], ◌∷◌, length, take, drop, max, IfOk, OnOk};
 ghost use Rattle.outbox.specs.Kept.{last_of, nothing, pushed, acknowledged_to, first_items, numbered_after};
 
-use crate::prepared::Prepared;
 use std::alloc::Global;
-use std::collections::LinkedList;
+use std::collections::VecDeque;
 use std::marker::Model;
 use taf_codes::Memory;
 use taf_messages::{Item, ItemBody, ItemList};
@@ -13,56 +12,73 @@ use taf_messages::{Item, ItemBody, ItemList};
 pub struct Outbox {
     // The number of the last item that was acknowledged, 0 if there is none.
     acknowledged: u64,
-    // The bodies of the items after it.
-    bodies: LinkedList<ItemBody>,
+    // The bodies of the items after it, in a ring.
+    bodies: VecDeque<ItemBody>,
 }
 
 impl Model for Outbox {
-    ghost use Rattle.std.specs.Prelude.{◌+◌, ◌≤◌, ◌^◌, length};
-    ghost use Rattle.outbox.specs.Kept.{Kept};
+    ghost use Rattle.std.specs.Prelude.{◌+◌, ◌-◌, ◌≤◌, ◌^◌};
+    ghost use Rattle.std.specs.VecDeque.{deque_capacity, deque_len};
+    ghost use Rattle.outbox.specs.Kept.{BoxState};
 
-    ghost Value = { Kept };
+    ghost Value = { BoxState };
 
-    ghost view = { λ b. record { acknowledged = b.acknowledged; bodies = b.bodies } };
+    ghost view = { λ b. record { kept = record { acknowledged = b.acknowledged; bodies = b.bodies.items }; room = deque_capacity b.bodies - deque_len b.bodies } };
 
-    ghost invariant = { λ b. b.acknowledged + length b.bodies ≤ 2 ^ 63 };
+    ghost invariant = { λ b. b.acknowledged + deque_len b.bodies ≤ 2 ^ 63 };
 }
 
 impl Outbox {
     pub fn new(alloc: Global) -> Outbox
-        ensures { result ≡ nothing }
+        ensures { result.kept ≡ nothing }
     {
         Outbox {
             acknowledged: 0,
-            bodies: LinkedList::new(alloc),
+            bodies: VecDeque::new(alloc),
         }
     }
 
     pub fn acknowledged(&self) -> u64
-        ensures { result ≡ self.now.acknowledged }
+        ensures { result ≡ self.now.kept.acknowledged }
     {
         self.acknowledged
     }
 
     pub fn last(&self) -> u64
-        ensures value { result ≡ last_of self.now }
+        ensures value { result ≡ last_of self.now.kept }
         ensures few { result ≤ 2 ^ 63 }
     {
         self.acknowledged + self.bodies.len() as u64
     }
 
-    /// Adds an item.
-    pub fn link(&mut self, item: Prepared)
-        requires { last_of self.old + 1 < 2 ^ 63 }
-        ensures { self.new ≡ pushed self.old item }
+    /// Makes room for so many items. Memory is answered also where the box had 2^62 items.
+    pub fn make_room(&mut self, count: usize) -> Result<(), Memory>
+        ensures kept { self.new.kept ≡ self.old.kept }
+        ensures stay { self.old.room ≤ self.new.room }
+        ensures room { OnOk result (count ≤ self.new.room) }
+        ensures few { OnOk result (last_of self.new.kept < 2 ^ 62) }
     {
-        item.link(&mut self.bodies);
+        if self.last() >= 1 << 62 {
+            return Err(Memory);
+        }
+        self.bodies.reserve(count)?;
+        Ok(())
+    }
+
+    /// Adds an item, for which there is room.
+    pub fn put(&mut self, body: ItemBody)
+        requires room { 0 < self.old.room }
+        requires few { last_of self.old.kept + 1 < 2 ^ 63 }
+        ensures kept { self.new.kept ≡ pushed self.old.kept (body ∷ []) }
+        ensures room { self.new.room + 1 ≡ self.old.room }
+    {
+        self.bodies.push_back_reserved(body);
     }
 
     /// Drops the items up to this number.
     pub fn acknowledge(&mut self, number: u64)
-        requires { number ≤ last_of self.old }
-        ensures { self.new ≡ acknowledged_to self.old number }
+        requires { number ≤ last_of self.old.kept }
+        ensures { self.new.kept ≡ acknowledged_to self.old.kept number }
     {
         if number > self.acknowledged {
             drop_front(&mut self.bodies, number - self.acknowledged);
@@ -72,7 +88,7 @@ impl Outbox {
 
     /// Copies of the first items.
     pub fn first(&self, alloc: Global, limit: u64) -> Result<ItemList, Memory>
-        ensures { IfOk result (λ items. items ≡ first_items self.now limit) }
+        ensures { IfOk result (λ items. items ≡ first_items self.now.kept limit) }
     {
         numbered(alloc, self.acknowledged, &self.bodies, limit)
     }
@@ -91,11 +107,11 @@ fn copy_of(body: &ItemBody) -> Result<ItemBody, Memory>
 fn numbered(
     alloc: Global,
     before: u64,
-    bodies: &LinkedList<ItemBody>,
+    bodies: &VecDeque<ItemBody>,
     limit: u64,
 ) -> Result<ItemList, Memory>
-    requires { before + length bodies.now ≤ 2 ^ 63 }
-    ensures { IfOk result (λ items. items ≡ numbered_after before (take limit bodies.now)) }
+    requires { before + length bodies.now.items ≤ 2 ^ 63 }
+    ensures { IfOk result (λ items. items ≡ numbered_after before (take limit bodies.now.items)) }
 {
     let mut items = Vec::with_capacity(alloc, bodies.len().min(limit as usize))?;
     let mut rest = bodies.iter();
@@ -111,9 +127,9 @@ fn numbered(
     Ok(ItemList::from_vec(items))
 }
 
-fn drop_front(bodies: &mut LinkedList<ItemBody>, count: u64)
-    requires { count ≤ length bodies.old }
-    ensures { bodies.new ≡ drop count bodies.old }
+fn drop_front(bodies: &mut VecDeque<ItemBody>, count: u64)
+    requires { count ≤ length bodies.old.items }
+    ensures { bodies.new.items ≡ drop count bodies.old.items }
 {
     for i in 0..count {
         let _ = bodies.pop_front();

@@ -1,11 +1,10 @@
 ghost use Rattle.std.specs.Prelude.{◌≡◌, ◌+◌, ◌<◌, ◌≤◌, ◌^◌, ◌↔◌, [], ◌∷◌, true, max, if◌then◌else◌, bytes_eq, IfOk, IfErr, OnOk, OnErr, IsOk};
 ghost use Rattle.taf_codes.specs.declared.code.Railway.{Railway};
-ghost use Rattle.outbox.specs.Kept.{kept_for, has_box, last_of, pushed, acknowledged_to, first_items};
+ghost use Rattle.outbox.specs.Kept.{kept_for, has_box, room_for, last_of, pushed, acknowledged_to, first_items};
 
 use crate::boxes::{self, Boxes};
 use crate::fault::AckAhead;
 use crate::outbox::Outbox;
-use crate::prepared::Prepared;
 use indexmap::IndexMap;
 use std::alloc::Global;
 use std::marker::Model;
@@ -21,9 +20,9 @@ pub struct Outboxes {
 impl Model for Outboxes {
     ghost use Rattle.std.specs.Prelude.{List};
     ghost use Rattle.taf_codes.specs.declared.code.Railway.{Railway};
-    ghost use Rattle.outbox.specs.Kept.{Kept};
+    ghost use Rattle.outbox.specs.Kept.{BoxState};
 
-    ghost Value = { List (Railway × Kept) };
+    ghost Value = { List (Railway × BoxState) };
 
     ghost view = { λ o. o.boxes.entries };
 }
@@ -77,42 +76,43 @@ impl Outboxes {
         self.boxes.get(&railway).is_some()
     }
 
-    /// Makes a box for a railway that has none. No item changes.
-    pub fn open(&mut self, railway: Railway) -> Result<(), Memory>
+    /// Makes room for so many items more in the box of a railway, and the box where there is none: what is kept for each
+    /// railway stays. Where memory is refused, no box is made. Memory is answered also where the railway had 2^62 items.
+    pub fn make_room(&mut self, railway: Railway, count: usize) -> Result<(), Memory>
         ensures kept { (also : Railway) → kept_for self.new also ≡ kept_for self.old also }
         ensures stay_open { (also : Railway) → has_box self.old also ≡ true → has_box self.new also ≡ true }
-        ensures ok { OnOk result (has_box self.new railway ≡ true) }
-        ensures succeeds { has_box self.old railway ≡ true → IsOk result }
-        ensures err { OnErr result (self.new ≡ self.old) }
+        ensures stay_roomy { (also : Railway) → room_for self.old also ≤ room_for self.new also }
+        ensures open { OnOk result (has_box self.new railway ≡ true) }
+        ensures room { OnOk result (count ≤ room_for self.new railway) }
+        ensures few { OnOk result (last_of (kept_for self.new railway) < 2 ^ 62) }
+        ensures err { OnErr result ((also : Railway) → has_box self.new also ≡ has_box self.old also) }
     {
-        if self.is_open(railway) {
-            return Ok(());
-        }
-        let outbox = Outbox::new(*self.boxes.allocator());
-        boxes::add(&mut self.boxes, railway, outbox)
+        boxes::make_room(&mut self.boxes, railway, count)
     }
 
-    /// Adds a prepared item for a railway that has a box, and gives its number. Takes no memory.
-    pub fn put(&mut self, railway: Railway, item: Prepared) -> u64
-        requires open { has_box self.old railway ≡ true }
+    /// Adds an item for a railway whose box has room for it, and gives its number: 1 for the first one. Takes no memory.
+    pub fn put(&mut self, railway: Railway, body: ItemBody) -> u64
+        requires room { 0 < room_for self.old railway }
         requires few { last_of (kept_for self.old railway) + 1 < 2 ^ 63 }
         ensures number { result ≡ last_of (kept_for self.old railway) + 1 }
-        ensures kept { (also : Railway) → kept_for self.new also ≡ (if bytes_eq railway also then pushed (kept_for self.old also) item else kept_for self.old also) }
+        ensures kept { (also : Railway) → kept_for self.new also ≡ (if bytes_eq railway also then pushed (kept_for self.old also) (body ∷ []) else kept_for self.old also) }
+        ensures room { (also : Railway) → room_for self.new also + (if bytes_eq railway also then 1 else 0) ≡ room_for self.old also }
         ensures stay_open { (also : Railway) → has_box self.new also ≡ has_box self.old also }
     {
-        boxes::put(&mut self.boxes, railway, item)
+        boxes::put(&mut self.boxes, railway, body)
     }
 
-    /// Adds an item for a railway, and gives its number: 1 for the first one.
+    /// Makes room for an item and adds it, and gives its number: 1 for the first one. Where memory is refused, what is kept
+    /// for each railway stays. Memory is answered also where the railway had 2^62 items.
     pub fn push(&mut self, railway: Railway, body: ItemBody) -> Result<u64, Memory>
         requires { last_of (kept_for self.old railway) + 1 < 2 ^ 63 }
         ensures number { IfOk result (λ number. number ≡ last_of (kept_for self.old railway) + 1) }
         ensures kept { OnOk result ((also : Railway) → kept_for self.new also ≡ (if bytes_eq railway also then pushed (kept_for self.old also) (body ∷ []) else kept_for self.old also)) }
-        ensures err { OnErr result (self.new ≡ self.old) }
+        ensures err { OnErr result ((also : Railway) → kept_for self.new also ≡ kept_for self.old also) }
+        ensures shut { OnErr result ((also : Railway) → has_box self.new also ≡ has_box self.old also) }
     {
-        let item = Prepared::new(*self.boxes.allocator(), body)?;
-        self.open(railway)?;
-        Ok(self.put(railway, item))
+        self.make_room(railway, 1)?;
+        Ok(self.put(railway, body))
     }
 
     /// Drops a railway's items up to this number, and gives the acknowledged number that now stands: a lower number changes

@@ -68,24 +68,32 @@ fn items_wait_until_they_are_acknowledged(rt: HostRuntime) -> Result<(), Fail> {
     Ok(())
 }
 
+// Puts an item where there is room for it, and gives its number.
+fn put(outboxes: &mut Outboxes, railway: Railway, body: ItemBody) -> Result<u64, Memory> {
+    outboxes.make_room(railway, 2)?;
+    Ok(outboxes.put(railway, body))
+}
+
 #[test]
-fn prepared_items_are_put(rt: HostRuntime) -> Result<(), Fail> {
+fn items_are_put_where_there_is_room(rt: HostRuntime) -> Result<(), Fail> {
     let alloc = rt.alloc();
     let railway = Railway::read("R100")?;
     let wagon = WagonNumber::read(WAGON)?;
     let mut outboxes = Outboxes::new(alloc);
     assert!(rt; !outboxes.is_open(railway));
-    outboxes.open(railway)?;
+    outboxes.make_room(railway, 0)?;
     assert!(rt; outboxes.is_open(railway));
     assert_eq!(rt; outboxes.last(railway), 0);
-    let item = Prepared::new(alloc, ItemBody::AlertEnds { wagon })?;
-    if outboxes.is_open(railway) && outboxes.last(railway) < 10 {
-        assert_eq!(rt; outboxes.put(railway, item), 1);
+    for number in 1..4u64 {
+        assert_eq!(rt;
+            put(&mut outboxes, railway, ItemBody::AlertEnds { wagon })?,
+            number
+        );
     }
     let fetched = outboxes.fetch(railway, limit(50)?)?;
     assert_eq!(rt;
         numbers(alloc, fetched.as_slice())?.as_slice(),
-        [1].as_slice()
+        [1, 2, 3].as_slice()
     );
     Ok(())
 }

@@ -2,21 +2,18 @@ use Rattle.std.proofs.Common.{◌≡◌, ℕ, List, [], ◌∷◌, ◌++◌, Opt
 use Rattle.taf_messages.specs.declared.call.Call.TheVariants.{Send}
 use Rattle.taf_messages.specs.declared.reply.Reply.{Reply}
 use Rattle.taf_messages.specs.declared.reply.Reply.TheVariants.{Accepted}
-use Rattle.taf_messages.specs.declared.item.ItemBody.{ItemBody}
 use Rattle.history_pages.specs.Paged.{Paged}
 use Rattle.replay_numbers.specs.Names.{same_name}
 use Rattle.replay_numbers.specs.Notes.{position_of}
 use Rattle.outbox.specs.Kept.{Kept, kept_for, pushed}
 use Rattle.hub_model.specs.declared.entry.Entry.{Entry}
-use Rattle.hub_model.specs.Items.{items_of}
+use Rattle.hub_model.specs.declared.addressed.Addressed.{Addressed}
+use Rattle.hub_model.specs.Items.{items_to}
 use Rattle.hub_model.specs.Answers.{accepted}
 use Rattle.hub_tables.specs.Tabled.{Filings, known, tabled}
-use Rattle.hub_core.specs.declared.parcels.Parcel.{Parcel}
 use Rattle.hub_core.specs.Books.{AreKept}
-use Rattle.hub_core.specs.Parcels.{bodies_to}
 use Rattle.hub_core.proofs.Keeping.{kept_same, positions_by_notes}
 use Rattle.hub_core.proofs.Sends.{new_answer, kept_accepted}
-use Rattle.hub_core.proofs.Delivery.{bodies_of_items}
 use Rattle.hub_core.proofs.send.accept.Goals as goal
 
 pub returns-in_err-make_room-clause-kept : goal.returns-in_err-make_room-clause-kept
@@ -57,9 +54,8 @@ returns-clause-kept c =
     ap (λ (p : ℕ). cond (same_name m.by m.no by k) (Some p) (position_of n.seen by k)) len ∙
     ap (λ (o : Option ℕ). cond (same_name m.by m.no by k) (Some (length b.history.entries)) o) (positions_by_notes b.seen n.seen r.notes by k))
     (λ q. c.deliver.ensures q ∙
-    ap (λ (k : Kept). pushed k (bodies_to q c.in_ok-parcels.parcels.items)) (r.boxes q) ∙
-    ap (λ (ps : List Parcel). pushed (kept_for b.outboxes q) (bodies_to q ps)) c.in_ok-parcels.ensures.parcels ∙
-    ap (λ (bodies : List ItemBody). pushed (kept_for b.outboxes q) bodies) (bodies_of_items q (items_of (known b.tables) m))))
+    ap (λ (k : Kept). pushed k (items_to q c.in_ok-items.items.items)) (r.boxes q) ∙
+    ap (λ (is : List Addressed). pushed (kept_for b.outboxes q) (items_to q is)) c.in_ok-items.ensures.items))
 
 pub returns-clause-answered : goal.returns-clause-answered
 returns-clause-answered c =
