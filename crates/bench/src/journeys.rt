@@ -79,10 +79,11 @@ impl Run {
         if self.track.admits(&event).is_some() {
             bail!("the sample is refused");
         }
-        if self.estimates.would_pass_calendar(&self.track, &event) {
+        let step = self.track.step(&event);
+        if self.estimates.would_pass_calendar(&step) {
             bail!("the sample passes the calendar");
         }
-        let estimates = self.estimates.followed(&self.track, &event);
+        let estimates = self.estimates.followed(&step);
         self.track.add(event)?;
         self.estimates = estimates;
         Ok(())

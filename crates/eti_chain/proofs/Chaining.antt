@@ -13,15 +13,18 @@ use Rattle.taf_messages.specs.declared.record.EstimateAt.{EstimateAt}
 use Rattle.journey.specs.declared.event.Event.{Event}
 use Rattle.journey.specs.declared.event.EventBody.{EventBody}
 use Rattle.journey.specs.declared.event.EventBody.TheVariants.{Planned, Moved, EstimateAsked, LegTimed, Offered, Answered, Withdrawn, Rerouted}
+use Rattle.journey.specs.declared.situation.Situation.{Situation}
 use Rattle.journey.specs.Words.{newest}
 use Rattle.journey.specs.Stages.{plan}
 use Rattle.journey.specs.Legs.{legs}
+use Rattle.journey.specs.Journey.{Onward, after}
 use Rattle.journey.specs.Situations.{situation}
+use Rattle.journey.specs.Checks.{refusal}
 use Rattle.journey.proofs.Newest.{newest-push}
+use Rattle.journey.proofs.Sounding.{plan-kept}
 use Rattle.eti_chain.specs.declared.anchor.Anchor.{Anchor}
-use Rattle.eti_chain.specs.declared.reckoning.Reckoning.{Reckoning}
 use Rattle.eti_chain.specs.Estimates.{estimate, estimate_from, estimates_from, eta, late_by, lateness, fits, base, delays, delay_in, is_anchor, expected_by, current_minutes}
-use Rattle.eti_chain.specs.Chains.{chain, anchor, anchor_in, anchor_after, with_delays, reckoning, reckoning_after, base_in, delays_in, end_in, fits_in, eta_in, late_by_in, minutes_in, IsWithin}
+use Rattle.eti_chain.specs.Chains.{Reckoning, Chain, kept_as, chain, anchor, anchor_in, anchor_after, with_delays, reckoned_from, reckoning, base_in, delays_in, end_in, fits_in, eta_in, late_by_in, minutes_in, IsWithin}
 use Rattle.eti_chain.proofs.Estimating.{delays-push}
 use Rattle.eti_chain.proofs.Fitting.{fits-no_base, all_fit, Within}
 
@@ -78,18 +81,32 @@ later_anchor None (Some a) d n b h k = refl
 later_anchor (Some a) old d n true h k = k
 later_anchor (Some a) old d n false h k = let z : Some a ≡ None = h refl in cc
 
-anchor-push : (events : List Event) (e : Event) → anchor (events ++ e ∷ []) ≡ anchor_after (anchor events) e
+-- the newest anchor goes along with the events
+pub anchor-push : (events : List Event) (e : Event) → anchor (events ++ e ∷ []) ≡ anchor_after (anchor events) e
 anchor-push events e =
     ap (λ o. option_map (with_delays (delays (events ++ e ∷ []))) o) (newest-push (λ d. anchor_in d.at d.body) events e) ∙
     ap (λ d. option_map (with_delays d) (option_or (anchor_in e.at e.body) (newest (λ d. anchor_in d.at d.body) events))) (delays-push events e) ∙
     later_anchor (anchor_in e.at e.body) (newest (λ d. anchor_in d.at d.body) events) (delays events) (delay_in e.body) (is_anchor e.body) (no_anchor_in e.at e.body) (no_delays e.at e.body)
 
 -- what the estimates are reckoned from goes along with the events
-pub reckoning-push : (events : List Event) (e : Event) → reckoning (events ++ e ∷ []) ≡ reckoning_after (reckoning events) (situation (events ++ e ∷ [])) e
-reckoning-push events e = ap (λ a. reckoned (situation (events ++ e ∷ [])).leg_index (legs (events ++ e ∷ [])) a) (anchor-push events e)
-  where
-    reckoned : ℕ → List Leg → Option Anchor → Reckoning
-    reckoned index ls a = record { leg_index = index; legs = ls; anchor = a }
+pub reckoning-step : (events : List Event) (e : Event) (s : Situation) (a next : Option Anchor) → s ≡ situation (events ++ e ∷ []) → a ≡ anchor events → next ≡ anchor_after a e →
+    reckoned_from s.leg_index s.legs next ≡ reckoning (events ++ e ∷ [])
+reckoning-step events e s a next situated newest is =
+    let indexes = ap (λ (t : Situation). t.leg_index) situated in
+    let courses = ap (λ (t : Situation). t.legs) situated in
+    let anchors = is ∙ ap (λ b. anchor_after b e) newest ∙ sym (anchor-push events e) in
+    λ i. reckoned_from (indexes i) (courses i) (anchors i)
+
+-- what is kept goes along with the events
+pub chain-step : (o : Onward) (e : Event) (k : Chain) (s : Situation) (ls : List Leg) (next : Option Anchor) → k ≡ chain o.before → e ≡ o.event → refusal o.before e.by e.body ≡ None →
+    s ≡ situation (after o) → ls ≡ s.legs → next ≡ anchor_after k.reckoning.anchor e → kept_as (reckoned_from s.leg_index ls next) k.commit ≡ chain (after o)
+chain-step o e k s ls next was event r situated same is =
+    let newest = ap (λ (c : Chain). c.reckoning.anchor) was in
+    let anchors = is ∙ ap (anchor_after k.reckoning.anchor) event in
+    let reckoned = ap (λ (xs : List Leg). reckoned_from s.leg_index xs next) same ∙ reckoning-step o.before o.event s k.reckoning.anchor next situated newest anchors in
+    let admitted = ap (λ (d : Event). refusal o.before d.by d.body) (sym event) ∙ r in
+    let commits = ap (λ (c : Chain). c.commit) was ∙ ap (option_map (λ p. p.commit)) (sym (plan-kept o.before o.event admitted)) in
+    λ i. kept_as (reckoned i) (commits i)
 
 fold-anchor : (before events : List Event) → fold anchor_after (anchor before) events ≡ anchor (before ++ events)
 fold-anchor before [] = ap anchor (sym (append-nil before))

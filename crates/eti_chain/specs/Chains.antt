@@ -1,19 +1,18 @@
 -- The estimates of a wagon as they are kept, from one event to the next.
-use Rattle.std.specs.Prelude.{ℕ, ◌≡◌, ◌+◌, ◌-◌, ◌≤◌, ◌<◌, nat_le, Bool, true, false, if◌then◌else◌, List, length, slice_get, Option, None, option_map}
+use Rattle.std.specs.Prelude.{ℕ, ◌≡◌, ◌+◌, ◌-◌, ◌≤◌, ◌<◌, ◌^◌, nat_le, Bool, true, false, if◌then◌else◌, List, length, slice_get, Option, None, option_map}
 use Rattle.std.specs.Option.{option_or, option_map_or, option_and_then}
 use Rattle.std.specs.List.{list_all}
 use Rattle.taf_moment.specs.Calendar.{last_minute}
+use Rattle.trip_plan.specs.declared.parts.Leg.{Leg}
 use Rattle.taf_messages.specs.declared.movement.MovementKind.{MovementKind}
 use Rattle.taf_messages.specs.declared.movement.MovementKind.TheVariants.{Release, Departure, Estimate, Arrival, Delivery}
 use Rattle.journey.specs.declared.event.Event.{Event}
 use Rattle.journey.specs.declared.event.EventBody.{EventBody}
 use Rattle.journey.specs.declared.event.EventBody.TheVariants.{Moved, Answered}
-use Rattle.journey.specs.declared.situation.Situation.{Situation}
 use Rattle.journey.specs.Words.{newest}
 use Rattle.journey.specs.Stages.{leg_index, plan}
 use Rattle.journey.specs.Legs.{legs}
 use Rattle.eti_chain.specs.declared.anchor.Anchor.{Anchor}
-use Rattle.eti_chain.specs.declared.reckoning.Reckoning.{Reckoning}
 use Rattle.eti_chain.specs.Estimates.{is_anchor, delay_in, delays, estimate_from, estimates_from, lateness}
 
 -- an anchor at the event's moment; the minutes of the current leg come on top where the leg is still to be run
@@ -55,13 +54,19 @@ delayed before body = option_map (λ a. with_delays (delays_after a.delays body)
 abbrev pub anchor_after : Option Anchor → Event → Option Anchor
 anchor_after before e = option_or (anchor_in e.at e.body) (delayed before e.body)
 
+-- what estimates are reckoned from: the current leg, all legs, and the newest anchor
+pub record Reckoning : Type 0 where
+  pub leg_index : ℕ
+  pub legs : List Leg
+  pub anchor : Option Anchor
+
+-- a wagon on this leg of these, with this anchor
+abbrev pub reckoned_from : ℕ → List Leg → Option Anchor → Reckoning
+reckoned_from c ls a = record { leg_index = c; legs = ls; anchor = a }
+
 -- what the estimates of a journey are reckoned from
 abbrev pub reckoning : List Event → Reckoning
-reckoning events = record { leg_index = leg_index events; legs = legs events; anchor = anchor events }
-
--- the same after an event that leads to this situation
-abbrev pub reckoning_after : Reckoning → Situation → Event → Reckoning
-reckoning_after r next e = record { leg_index = next.leg_index; legs = next.legs; anchor = anchor_after r.anchor e }
+reckoning events = reckoned_from (leg_index events) (legs events) (anchor events)
 
 -- the minutes of the current leg
 abbrev pub minutes_in : Reckoning → ℕ
@@ -92,9 +97,13 @@ pub record Chain : Type 0 where
   pub reckoning : Reckoning
   pub commit : Option ℕ
 
+-- this reckoning with this promise
+abbrev pub kept_as : Reckoning → Option ℕ → Chain
+kept_as r commit = record { reckoning = r; commit = commit }
+
 -- what is kept for a journey
 abbrev pub chain : List Event → Chain
-chain events = record { reckoning = reckoning events; commit = option_map (λ p. p.commit) (plan events) }
+chain events = kept_as (reckoning events) (option_map (λ p. p.commit) (plan events))
 
 -- the estimated time of arrival
 abbrev pub eta_in : Reckoning → Option ℕ
@@ -103,6 +112,11 @@ eta_in r = end_in r (length r.legs - 1)
 -- by how many minutes the wagon is expected after what was promised
 abbrev pub late_by_in : Chain → Option ℕ
 late_by_in c = option_and_then (λ commit. option_and_then (lateness commit) (eta_in c.reckoning)) c.commit
+
+-- the wagon is on one of its legs, and its delays are small enough for a sum
+pub record IsSummable (r : Reckoning) : Type 0 where
+  pub on_a_leg : r.leg_index < length r.legs
+  pub small : delays_in r < 2 ^ 127
 
 -- the wagon is on one of its legs, and no estimate passes the calendar
 pub record IsWithin (r : Reckoning) : Type 0 where

@@ -1,40 +1,43 @@
-ghost use Rattle.std.specs.Prelude.{◌≡◌, ◌<◌, ◌^◌, ◌++◌, [], ◌∷◌, List, length, not, None, true};
+ghost use Rattle.std.specs.Prelude.{◌≡◌, List, not, true};
 ghost use Rattle.journey.specs.declared.event.Event.{Event};
-ghost use Rattle.journey.specs.Checks.{refusal};
+ghost use Rattle.journey.specs.Journey.{after};
 ghost use Rattle.eti_chain.specs.Estimates as of;
 
-use crate::reckoning::Reckoning;
-use journey::{Event, Track};
+use crate::anchor::{Anchor, anchor_after};
+use crate::basis::Basis;
+use journey::{Legs, Step, Track};
 use std::marker::Model;
 use taf_moment::Moment;
 
 /// When a wagon is expected at the end of its legs. None of its calls takes memory.
 #[derive(Debug, Drop)]
 pub struct Estimates {
-    reckoning: Reckoning,
+    leg_index: usize,
+    legs: Legs,
+    anchor: Option<Anchor>,
     // The moment that was promised to the customer.
     commit: Moment,
 }
 
 impl Model for Estimates {
     ghost use Rattle.std.specs.Prelude.{Some};
-    ghost use Rattle.eti_chain.specs.Chains.{Chain, IsWithin};
+    ghost use Rattle.eti_chain.specs.Chains.{Chain, IsWithin, kept_as, reckoned_from};
 
     ghost Value = { Chain };
 
-    ghost view = { λ e. record { reckoning = e.reckoning; commit = Some e.commit } };
+    ghost view = { λ e. kept_as (reckoned_from e.leg_index e.legs e.anchor) (Some e.commit) };
 
-    ghost invariant = { λ e. IsWithin e.reckoning };
+    ghost invariant = { λ e. IsWithin (reckoned_from e.leg_index e.legs e.anchor) };
 }
 
 impl Estimates {
-    ghost use Rattle.eti_chain.specs.Chains.{chain, delays_in, reckoning};
+    ghost use Rattle.eti_chain.specs.Chains.{IsWithin, chain};
 
     /// Whether no estimate of the track passes the last minute of the calendar.
     pub fn fits(track: &Track) -> bool
         ensures { result ≡ of.fits track.now.events }
     {
-        Reckoning::of(track).fits()
+        Basis::of(track).fits()
     }
 
     /// The estimates of a track. It walks the events.
@@ -42,44 +45,49 @@ impl Estimates {
         requires { of.fits track.now.events ≡ true }
         ensures { result ≡ chain track.now.events }
     {
+        let basis = Basis::of(track);
         Estimates {
-            reckoning: Reckoning::of(track),
+            leg_index: basis.leg_index,
+            legs: basis.legs.copy(),
+            anchor: basis.anchor,
             commit: track.plan().commit(),
         }
     }
 
-    /// Whether with one event more, which the track admits, an estimate would pass the last minute
-    /// of the calendar.
-    pub fn would_pass_calendar(&self, track: &Track, event: &Event) -> bool
-        requires of_track { self.now ≡ chain track.now.events }
-        requires admitted { refusal track.now.events event.now.by event.now.body ≡ None }
-        ensures { result ≡ not (of.fits (track.now.events ++ event.now ∷ [])) }
+    /// Whether with the event of a step an estimate would pass the last minute of the calendar.
+    pub fn would_pass_calendar(&self, step: &Step<'_>) -> bool
+        requires { self.now ≡ chain step.now.before }
+        ensures { result ≡ not (of.fits (after step.now)) }
     {
-        !self.reckoned(track, event).fits()
+        !Basis::after(self.anchor, step).fits()
     }
 
-    /// The estimates of the track with one event more, which it admits and which does not pass the
-    /// calendar. It takes a step, and no walk.
-    pub fn followed(&self, track: &Track, event: &Event) -> Estimates
-        requires of_track { self.now ≡ chain track.now.events }
-        requires admitted { refusal track.now.events event.now.by event.now.body ≡ None }
-        requires fits { of.fits (track.now.events ++ event.now ∷ []) ≡ true }
-        ensures { result ≡ chain (track.now.events ++ event.now ∷ []) }
+    /// The estimates of the track with the event of a step, which does not pass the calendar. It takes
+    /// no walk.
+    pub fn followed(&self, step: &Step<'_>) -> Estimates
+        requires of_track { self.now ≡ chain step.now.before }
+        requires fits { of.fits (after step.now) ≡ true }
+        ensures { result ≡ chain (after step.now) }
     {
+        let next = step.situation();
         Estimates {
-            reckoning: self.reckoned(track, event),
+            leg_index: next.leg_index,
+            legs: next.legs.copy(),
+            anchor: anchor_after(self.anchor, step.event()),
             commit: self.commit,
         }
     }
 
-    /// Goes from the estimates of a track to those of the track with one event more.
-    pub fn follow(&mut self, track: &Track, event: &Event)
-        requires of_track { self.old ≡ chain track.now.events }
-        requires admitted { refusal track.now.events event.now.by event.now.body ≡ None }
-        requires fits { of.fits (track.now.events ++ event.now ∷ []) ≡ true }
-        ensures { self.new ≡ chain (track.now.events ++ event.now ∷ []) }
+    /// Goes from the estimates of a track to those of the track with the event of a step.
+    pub fn follow(&mut self, step: &Step<'_>)
+        requires of_track { self.old ≡ chain step.now.before }
+        requires fits { of.fits (after step.now) ≡ true }
+        ensures { self.new ≡ chain (after step.now) }
     {
-        *self = self.followed(track, event);
+        let next = step.situation();
+        self.leg_index = next.leg_index;
+        self.legs = next.legs.copy();
+        self.anchor = anchor_after(self.anchor, step.event());
     }
 
     /// When the wagon is expected at the end of this leg: none without an event to count from,
@@ -87,14 +95,14 @@ impl Estimates {
     pub fn estimate(&self, leg: usize) -> Option<Moment>
         ensures { (events : List Event) → self.now ≡ chain events → result ≡ of.estimate events leg }
     {
-        self.reckoning.moment(leg)
+        self.basis().moment(leg)
     }
 
     /// When the wagon is expected at the end of its last leg.
     pub fn eta(&self) -> Option<Moment>
         ensures { (events : List Event) → self.now ≡ chain events → result ≡ of.eta events }
     {
-        self.reckoning.last_moment()
+        self.basis().last_moment()
     }
 
     /// Whether the wagon is expected after what was promised to the customer.
@@ -108,18 +116,19 @@ impl Estimates {
     pub fn late_by(&self) -> Option<u32>
         ensures { (events : List Event) → self.now ≡ chain events → result ≡ of.late_by events }
     {
-        lateness(self.commit, self.reckoning.last_moment()?)
+        lateness(self.commit, self.basis().last_moment()?)
     }
 
-    // What the estimates with one event more are reckoned from.
-    fn reckoned(&self, track: &Track, event: &Event) -> Reckoning
-        requires of_track { self.now ≡ chain track.now.events }
-        requires admitted { refusal track.now.events event.now.by event.now.body ≡ None }
-        ensures value { result ≡ reckoning (track.now.events ++ event.now ∷ []) }
-        ensures on_a_leg { result.leg_index < length result.legs }
-        ensures small { delays_in result < 2 ^ 127 }
+    // What the estimates are reckoned from.
+    fn basis(&self) -> Basis<'_>
+        ensures value { result ≡ self.now.reckoning }
+        ensures within { IsWithin result }
     {
-        self.reckoning.after(track.situation_after(event), event)
+        Basis {
+            leg_index: self.leg_index,
+            legs: &self.legs,
+            anchor: self.anchor,
+        }
     }
 }
 

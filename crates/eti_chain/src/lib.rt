@@ -12,8 +12,9 @@
 //!
 //! - [`Estimates::fits`] says whether no estimate of a track passes 2199-12-31T23:59Z, and [`Estimates::of`] reckons
 //!   them afresh.
-//! - [`Estimates::followed`] and [`Estimates::follow`] go from the estimates of a track to those of the track with one
-//!   event more, in a step. [`Estimates::would_pass_calendar`] says beforehand whether one would pass the calendar.
+//! - [`Estimates::followed`] and [`Estimates::follow`] go from the estimates of a track to those of the track with the
+//!   event of a [`Step`](journey::Step). [`Estimates::would_pass_calendar`] says beforehand whether one would pass the
+//!   calendar; it copies no legs.
 //! - [`Estimates::estimate`], [`Estimates::eta`], [`Estimates::late`] and [`Estimates::late_by`] read them.
 //!
 //! Promised: each answer is that of the definitions over the track's events, and what `follow` gives is what `of` would
@@ -22,7 +23,7 @@
 #![tactic(auto)]
 
 mod anchor;
+mod basis;
 mod estimates;
-mod reckoning;
 
 pub use estimates::Estimates;

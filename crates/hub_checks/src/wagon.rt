@@ -54,7 +54,10 @@ fn busy_fault(tables: &Tables, wagon: WagonNumber) -> Option<Why>
 fn is_busy(tables: &Tables, wagon: WagonNumber) -> bool
     ensures { result ≡ of.is_busy ((known tables.now).journey wagon) }
 {
-    tables.wagon(wagon).is_some() && !is_delivered(tables, wagon)
+    match tables.wagon(wagon) {
+        Some(found) => !found.track().situation().is_delivered,
+        None => false,
+    }
 }
 
 /// Whether the wagon was delivered.
@@ -121,7 +124,16 @@ fn is_beyond(wagon: &Wagon, event: &Event) -> bool
     requires { refusal wagon.now.events event.now.by event.now.body ≡ None }
     ensures { result ≡ (estimates.is_reckoned event.now.body && not (estimates.fits (wagon.now.events ++ event.now ∷ []))) }
 {
-    is_reckoned(&event.body) && wagon.estimates().would_pass_calendar(wagon.track(), event)
+    is_reckoned(&event.body) && would_pass_calendar(wagon, event)
+}
+
+// An estimate would pass the calendar with the event, whether that refuses it or not.
+fn would_pass_calendar(wagon: &Wagon, event: &Event) -> bool
+    requires { refusal wagon.now.events event.now.by event.now.body ≡ None }
+    ensures { result ≡ not (estimates.fits (wagon.now.events ++ event.now ∷ [])) }
+{
+    let step = wagon.track().step(event);
+    wagon.estimates().would_pass_calendar(&step)
 }
 
 // An event that is refused where it would make an estimate pass the calendar.

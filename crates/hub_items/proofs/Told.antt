@@ -8,7 +8,7 @@ use Rattle.journey.specs.declared.event.Event.{Event}
 use Rattle.hub_model.specs.declared.addressed.Addressed.{Addressed}
 use Rattle.hub_model.specs.Standing.{Standing, named, journey_after}
 use Rattle.hub_model.specs.Items.{each_once, notified, sub_items, notices, estimate_items, alert_items}
-use Rattle.hub_items.specs.Onward.{Onward, after}
+use Rattle.journey.specs.Journey.{Onward, after}
 use Rattle.hub_items.specs.Telling.{told_by}
 
 -- of a wagon

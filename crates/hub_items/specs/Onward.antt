@@ -1,32 +1,22 @@
 -- A journey with one event more.
-use Rattle.std.specs.Prelude.{◌≡◌, ℕ, List, [], ◌∷◌, ◌++◌, Option, option_map, option_to_list, filter, flat_map}
+use Rattle.std.specs.Prelude.{◌≡◌, ℕ, true, List, Option, None, option_map, option_to_list, filter, flat_map}
 use Rattle.taf_messages.specs.declared.record.EstimateAt.{EstimateAt}
-use Rattle.journey.specs.declared.event.Event.{Event}
-use Rattle.journey.specs.declared.situation.Situation.{Situation}
-use Rattle.journey.specs.Journey.{Journey}
-use Rattle.journey.specs.Situations.{situation}
+use Rattle.journey.specs.Journey.{Journey, Onward, after}
+use Rattle.journey.specs.Checks.{refusal}
 use Rattle.eti_chain.specs.Chains.{Chain, chain}
-use Rattle.eti_chain.specs.Estimates.{estimate}
+use Rattle.eti_chain.specs.Estimates.{estimate, fits}
 use Rattle.hub_model.specs.declared.addressed.Addressed.{Addressed}
 use Rattle.hub_model.specs.Items.{is_news, estimate_item}
 
--- a wagon, the events of its journey, and the one that comes next
-pub record Onward : Type 0 where
-  pub wagon : ℕ
-  pub before : List Event
-  pub event : Event
+-- the event may come next, and the estimates stay in the calendar
+pub record IsNext (o : Onward) : Type 0 where
+  pub admitted : refusal o.before o.event.by o.event.body ≡ None
+  pub fits_after : fits (after o) ≡ true
 
--- the journey, and the event that comes next
-abbrev pub onward : Journey → Event → Onward
-onward j e = record { wagon = j.wagon; before = j.events; event = e }
-
--- the events with the next one
-abbrev pub after : Onward → List Event
-after o = o.before ++ o.event ∷ []
-
--- the situation and the estimates are those of the events with the next one
-pub record IsKept (o : Onward) (s : Situation) (c : Chain) : Type 0 where
-  pub situation_is : s ≡ situation (after o)
+-- the step is one of this wagon, and the estimates are those of the events with the next one
+pub record IsKept (j : Journey) (o : Onward) (c : Chain) : Type 0 where
+  pub wagon_is : o.wagon ≡ j.wagon
+  pub before_is : o.before ≡ j.events
   pub estimates_are : c ≡ chain (after o)
 
 -- the estimate of a leg with the event

@@ -1,7 +1,7 @@
 //! The alerts of wagons that are late.
 ghost use Rattle.std.specs.Prelude.{◌≡◌, ◌++◌, IfOk, OnOk};
 ghost use Rattle.hub_model.specs.Items as of;
-ghost use Rattle.hub_items.specs.Onward.{after};
+ghost use Rattle.journey.specs.Journey.{after};
 
 use crate::each::put_each;
 use crate::once::each_once;

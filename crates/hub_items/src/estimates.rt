@@ -1,7 +1,8 @@
 //! The estimates that are news (4.2.6).
 ghost use Rattle.std.specs.Prelude.{◌≡◌, ◌++◌, ◌<◌, [], if◌then◌else◌, OnOk, option_to_list};
 ghost use Rattle.hub_model.specs.Items as of;
-ghost use Rattle.hub_items.specs.Onward.{after, estimate_of, news_of};
+ghost use Rattle.journey.specs.Journey.{after};
+ghost use Rattle.hub_items.specs.Onward.{estimate_of, news_of};
 
 use crate::progress::Progress;
 use hub_model::Addressed;

@@ -4,11 +4,11 @@ ghost use Rattle.journey.specs.Legs as legs_of;
 ghost use Rattle.hub_model.specs.Standing.{named, journey_after};
 ghost use Rattle.hub_model.specs.Items as of;
 ghost use Rattle.hub_tables.specs.Tabled.{IsAcceptable, known, goes_on};
-ghost use Rattle.hub_items.specs.Onward.{after};
+ghost use Rattle.journey.specs.Journey.{after};
 ghost use Rattle.hub_items.specs.Telling.{tells_one};
 ghost use Rattle.taf_messages.specs.declared.message.Body.TheVariants as body;
 
-use crate::progress::Progress;
+use crate::progress::{Next, Progress};
 use hub_tables::Tables;
 use journey::Track;
 use std::alloc::{AllocError, Global};
@@ -121,16 +121,16 @@ fn put_leads(
     ensures { OnOk result (railways.new.items ≡ railways.old.items ++ filter_map (λ w. legs_of.lead_of (journey_after (known tables.now) message.now w)) wagons.now) }
 {
     for wagon in wagons {
-        put_lead(railways, &Progress::of(tables, message, *wagon)?)?;
+        put_lead(railways, &Next::of(tables, message, *wagon)?)?;
     }
     Ok(())
 }
 
 // Adds the lead of a wagon.
-fn put_lead(railways: &mut Vec<Railway>, progress: &Progress<'_>) -> Result<(), AllocError>
-    ensures { OnOk result (railways.new.items ≡ railways.old.items ++ option_to_list (legs_of.lead_of (after progress.now))) }
+fn put_lead(railways: &mut Vec<Railway>, next: &Next<'_>) -> Result<(), AllocError>
+    ensures { OnOk result (railways.new.items ≡ railways.old.items ++ option_to_list (legs_of.lead_of (after next.now))) }
 {
-    if let Some(lead) = progress.lead() {
+    if let Some(lead) = next.lead() {
         railways.push(lead)?;
     }
     Ok(())

@@ -1,80 +1,106 @@
 //! A journey with one event more.
 ghost use Rattle.std.specs.Prelude.{◌≡◌, ◌≤◌, ◌++◌, ◌∷◌, [], length, true, None, IfOk};
 ghost use Rattle.trip_plan.specs.Rules.{has};
-ghost use Rattle.journey.specs.Checks.{refusal};
 ghost use Rattle.journey.specs.Stages as stages;
 ghost use Rattle.journey.specs.Legs as legs_of;
 ghost use Rattle.eti_chain.specs.Estimates as of;
 ghost use Rattle.hub_model.specs.Standing.{named, journey_after};
 ghost use Rattle.hub_tables.specs.Tabled.{IsAcceptable, known, goes_on};
-ghost use Rattle.hub_items.specs.Onward.{after, onward};
+ghost use Rattle.journey.specs.Journey.{after};
 
 use eti_chain::Estimates;
 use hub_tables::{Tables, Wagon};
-use journey::{Event, Situation};
+use journey::{Event, Step};
 use std::marker::Model;
 use taf_codes::{Memory, Railway};
 use taf_messages::Message;
 use taf_moment::Moment;
 use wagon_number::WagonNumber;
 
-/// A wagon, with an event that its journey admits, and what both come to.
+/// A wagon, and an event that its journey admits and with which its estimates stay in the calendar.
 #[derive(Drop)]
-pub(crate) struct Progress<'a> {
+pub(crate) struct Next<'a> {
     wagon: &'a Wagon,
     event: Event,
-    // What the journey comes to with the event.
-    situation: Situation,
-    estimates: Estimates,
 }
 
-impl<'a> Model for Progress<'a> {
-    ghost use Rattle.hub_items.specs.Onward.{Onward, IsKept, onward};
+impl<'a> Model for Next<'a> {
+    ghost use Rattle.journey.specs.Journey.{Onward, onward};
+    ghost use Rattle.hub_items.specs.Onward.{IsNext};
 
     ghost Value = { Onward };
 
-    ghost view = { λ p. onward p.wagon.now p.event };
+    ghost view = { λ n. onward n.wagon.now n.event };
 
-    ghost invariant = { λ p. IsKept (onward p.wagon.now p.event) p.situation p.estimates };
+    ghost invariant = { λ n. IsNext (onward n.wagon.now n.event) };
 }
 
-impl<'a> Progress<'a> {
-    /// The progress of a wagon that an acceptable message names, which is no plan, by its share of the message.
+impl<'a> Next<'a> {
+    /// A wagon that an acceptable message names, which is no plan, with its share of the message.
     pub(crate) fn of(
         tables: &'a Tables,
         message: &Message,
         wagon: WagonNumber,
-    ) -> Result<Progress<'a>, Memory>
+    ) -> Result<Next<'a>, Memory>
         requires acceptable { IsAcceptable (known tables.now) message.now }
         requires no_plan { goes_on message.now.body ≡ true }
         requires is_named { has (named (known tables.now).offer message.now) wagon ≡ true }
-        ensures wagon { IfOk result (λ p. p.wagon ≡ wagon) }
-        ensures before { IfOk result (λ p. p.before ≡ (known tables.now).journey wagon) }
-        ensures after { IfOk result (λ p. after p ≡ journey_after (known tables.now) message.now wagon) }
+        ensures wagon { IfOk result (λ n. n.wagon ≡ wagon) }
+        ensures before { IfOk result (λ n. n.before ≡ (known tables.now).journey wagon) }
+        ensures after { IfOk result (λ n. after n ≡ journey_after (known tables.now) message.now wagon) }
     {
         let event = tables.share(message, wagon)?;
         match tables.wagon(wagon) {
-            Some(found) => Ok(Progress::new(found, event)),
+            Some(found) => Ok(Next {
+                wagon: found,
+                event,
+            }),
             None => unreachable!(),
         }
     }
 
-    // The wagon with an event, with which its estimates stay in the calendar.
-    fn new(wagon: &'a Wagon, event: Event) -> Progress<'a>
-        requires admitted { refusal wagon.now.events event.by event.body ≡ None }
-        requires fits { of.fits (wagon.now.events ++ event ∷ []) ≡ true }
-        ensures { result ≡ onward wagon.now event }
+    /// The lead railway undertaking, which the event leaves.
+    pub(crate) fn lead(&self) -> Option<Railway>
+        ensures { result ≡ legs_of.lead_of (after self.now) }
     {
-        let situation = wagon.track().situation_after(&event);
-        let estimates = wagon.estimates().followed(wagon.track(), &event);
+        self.wagon.track().situation().lead
+    }
+
+    /// What the journey and the estimates come to with the event.
+    pub(crate) fn progress(&self) -> Progress<'_>
+        ensures { result ≡ self.now }
+    {
+        let step = self.wagon.track().step(&self.event);
+        let estimates = self.wagon.estimates().followed(&step);
         Progress {
-            wagon,
-            event,
-            situation,
+            wagon: self.wagon,
+            step,
             estimates,
         }
     }
+}
 
+/// A wagon with an event, and what both come to.
+#[derive(Drop)]
+pub(crate) struct Progress<'a> {
+    wagon: &'a Wagon,
+    step: Step<'a>,
+    // When the wagon is expected with the event.
+    estimates: Estimates,
+}
+
+impl<'a> Model for Progress<'a> {
+    ghost use Rattle.journey.specs.Journey.{Onward};
+    ghost use Rattle.hub_items.specs.Onward.{IsKept};
+
+    ghost Value = { Onward };
+
+    ghost view = { λ p. p.step };
+
+    ghost invariant = { λ p. IsKept p.wagon.now p.step p.estimates };
+}
+
+impl<'a> Progress<'a> {
     pub(crate) fn wagon(&self) -> WagonNumber
         ensures { result ≡ self.now.wagon }
     {
@@ -85,14 +111,14 @@ impl<'a> Progress<'a> {
     pub(crate) fn lead(&self) -> Option<Railway>
         ensures { result ≡ legs_of.lead_of (after self.now) }
     {
-        self.situation.lead
+        self.step.situation().lead
     }
 
     /// The railway that answers for the wagon with the event.
     pub(crate) fn responsible(&self) -> Option<Railway>
         ensures { result ≡ stages.responsible (after self.now) }
     {
-        self.situation.responsible()
+        self.step.situation().responsible()
     }
 
     /// How many legs there are with the event: at most eight.
@@ -100,7 +126,7 @@ impl<'a> Progress<'a> {
         ensures value { result ≡ length (legs_of.legs (after self.now)) }
         ensures few { result ≤ 8 }
     {
-        self.situation.legs.as_slice().len()
+        self.step.situation().legs.as_slice().len()
     }
 
     /// The railway of a leg before the event.
@@ -114,7 +140,7 @@ impl<'a> Progress<'a> {
     pub(crate) fn runner_after(&self, leg: usize) -> Option<Railway>
         ensures { result ≡ legs_of.runner_of (after self.now) leg }
     {
-        self.situation.legs.leg(leg).map(|leg| leg.ru)
+        self.step.situation().legs.leg(leg).map(|leg| leg.ru)
     }
 
     /// When the wagon was expected at the end of a leg before the event.

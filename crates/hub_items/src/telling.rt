@@ -5,14 +5,14 @@ ghost use Rattle.eti_chain.specs.Estimates.{is_late};
 ghost use Rattle.hub_model.specs.Standing.{named, journey_after};
 ghost use Rattle.hub_model.specs.Items as of;
 ghost use Rattle.hub_tables.specs.Tabled.{IsAcceptable, known};
-ghost use Rattle.hub_items.specs.Onward.{after};
+ghost use Rattle.journey.specs.Journey.{after};
 ghost use Rattle.hub_items.specs.Telling.{tells_one, told_by};
 
 use crate::alerts::put_alerts;
 use crate::estimates::put_estimates;
 use crate::notices::notices;
 use crate::notified::told_of_movement;
-use crate::progress::Progress;
+use crate::progress::{Next, Progress};
 use hub_model::Addressed;
 use hub_tables::Tables;
 use std::alloc::Global;
@@ -37,12 +37,14 @@ fn all_items(alloc: Global, tables: &Tables, message: &Message) -> Result<Vec<Ad
 {
     match &message.body {
         Body::Movement(movement) => {
-            let progress = Progress::of(tables, message, movement.wagon)?;
+            let next = Next::of(tables, message, movement.wagon)?;
+            let progress = next.progress();
             let told = told_of_movement(&progress, movement.what);
             items_of_one(alloc, message, told, &progress)
         }
         Body::EtiAsk { wagon } => {
-            let progress = Progress::of(tables, message, *wagon)?;
+            let next = Next::of(tables, message, *wagon)?;
+            let progress = next.progress();
             items_of_one(alloc, message, progress.responsible(), &progress)
         }
         Body::Plan(_)
@@ -154,8 +156,8 @@ fn put_of_wagon(
     match &message.body {
         Body::Plan(plan) => put_alert_end(alerts, tables, plan.lead(), wagon),
         _ => {
-            let progress = Progress::of(tables, message, wagon)?;
-            put_of_progress(alloc, items, alerts, &progress)
+            let next = Next::of(tables, message, wagon)?;
+            put_of_progress(alloc, items, alerts, &next.progress())
         }
     }
 }

@@ -72,8 +72,9 @@ impl Wagon {
         requires room { length self.old.events + 1 < 2 ^ 63 }
         ensures { self.new ≡ record self.old { events = self.old.events ++ event ∷ [] } }
     {
-        let estimates = self.estimates.followed(&self.track, event.event());
-        self.track.put(event);
-        self.estimates = estimates;
+        let step = self.track.step(event.event());
+        self.estimates.follow(&step);
+        let next = step.into_situation();
+        self.track.put(event, next);
     }
 }

@@ -1,4 +1,4 @@
--- What a track keeps.
+-- What a track and a step keep.
 use Rattle.std.specs.Prelude.{◌≡◌, ◌+◌, ◌<◌, ◌≤◌, true, List, [], ◌∷◌, length, slice_index_or, Option, Some, None, is_some}
 use Rattle.trip_plan.specs.Trip.{Trip}
 use Rattle.taf_messages.specs.declared.record.Stage.TheVariants as stage_is
@@ -7,7 +7,9 @@ use Rattle.journey.specs.declared.event.EventBody.TheVariants.{EstimateAsked}
 use Rattle.journey.specs.declared.situation.Situation.{Situation}
 use Rattle.journey.specs.Stages.{plan, plan_in}
 use Rattle.journey.specs.Legs.{HaveRoom}
+use Rattle.journey.specs.Journey.{Onward, after}
 use Rattle.journey.specs.Situations.{situation}
+use Rattle.journey.specs.Checks.{refusal}
 
 -- the wagon is on one of its legs, of which there are at most eight, and is offered only where there is a next one
 pub record IsSound (s : Situation) : Type 0 where
@@ -28,6 +30,12 @@ pub record IsKept (events : List Event) (s : Situation) : Type 0 where
   pub have_room : HaveRoom 0 events
   pub situation_is : s ≡ situation events
   pub sound : IsSound s
+
+-- the event may come next, and the kept situation is that of the events with it
+pub record IsStep (o : Onward) (s : Situation) : Type 0 where
+  pub admitted : refusal o.before o.event.by o.event.body ≡ None
+  pub situation_is : s ≡ situation (after o)
+  pub on_a_leg : s.leg_index < length s.legs
 
 -- what stands for the event where there is none
 abbrev pub blank : Event

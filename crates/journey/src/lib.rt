@@ -19,8 +19,10 @@
 //!   [`Track::add`] adds one that may. Where memory is refused, a track is as it was.
 //! - [`Event::prepared`] gives an event memory of its own. [`Track::begin`] and [`Track::put`] then take none.
 //! - [`Situation`] is what the events come to. A track keeps it beside them, so that no call but
-//!   [`Track::events`] leads to a walk: stage, leg index, legs, responsible railway, place and checks take a step.
-//!   [`Track::situation_after`] is the situation that one event more would lead to.
+//!   [`Track::events`] leads to a walk: stage, leg index, legs, responsible railway, place and checks take no more
+//!   than a look at it.
+//! - [`Step`] is a track with an event that it admits, and the situation that both lead to. [`Track::step`] makes it
+//!   once, for all that is asked of the event, and [`Track::put`] takes the situation from it.
 //! - [`Legs`] are the one to eight legs of a wagon, kept in place.
 //!
 //! Promised: each answer is that of the definitions over the track's own events, for every journey. A wagon is
@@ -33,10 +35,12 @@ mod event;
 mod legs;
 mod prepared;
 mod situation;
+mod step;
 mod track;
 
 pub use event::{Event, EventBody};
 pub use legs::Legs;
 pub use prepared::Prepared;
 pub use situation::Situation;
+pub use step::Step;
 pub use track::Track;

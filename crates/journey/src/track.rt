@@ -3,6 +3,7 @@ ghost use Rattle.std.specs.Prelude.{◌≡◌, ◌+◌, ◌<◌, ◌≤◌, ◌^
 use crate::event::{Event, EventBody};
 use crate::prepared::Prepared;
 use crate::situation::Situation;
+use crate::step::Step;
 use std::alloc::Global;
 use std::collections::LinkedList;
 use std::marker::Model;
@@ -34,6 +35,7 @@ impl Model for Track {
 
 impl Track {
     ghost use Rattle.std.specs.Prelude.{slice_get};
+    ghost use Rattle.journey.specs.Journey.{onward};
     ghost use Rattle.journey.specs.Stages as of;
     ghost use Rattle.journey.specs.Legs as legs_of;
     ghost use Rattle.journey.specs.Situations.{situation};
@@ -82,16 +84,16 @@ impl Track {
         Ok(())
     }
 
-    /// Adds a prepared event that may come next. It takes no memory.
-    pub fn put(&mut self, event: Prepared)
+    /// Adds a prepared event that may come next, and leads to this situation. It takes no memory.
+    pub fn put(&mut self, event: Prepared, next: Situation)
         requires admitted { refusal self.old.events event.by event.body ≡ None }
+        requires leads_to { next ≡ situation (self.old.events ++ event ∷ []) }
         requires room { length self.old.events + 1 < 2 ^ 63 }
         ensures { self.new ≡ record self.old { events = self.old.events ++ event ∷ [] } }
     {
-        let situation = self.situation.after(event.event());
         let mut node = event.into_list();
         let _ = self.events.append(&mut node);
-        self.situation = situation;
+        self.situation = next;
     }
 
     pub fn wagon(&self) -> WagonNumber
@@ -177,12 +179,15 @@ impl Track {
         &self.situation
     }
 
-    /// What the events and this one, which may come next, come to.
-    pub fn situation_after(&self, event: &Event) -> Situation
+    /// The step that an event makes which may come next.
+    pub fn step<'a>(&'a self, event: &'a Event) -> Step<'a>
         requires { refusal self.now.events event.now.by event.now.body ≡ None }
-        ensures value { result ≡ situation (self.now.events ++ event.now ∷ []) }
-        ensures on_a_leg { result.leg_index < length result.legs }
+        ensures { result ≡ onward self.now event.now }
     {
-        self.situation.after(event)
+        Step {
+            track: self,
+            event,
+            situation: self.situation.after(event),
+        }
     }
 }

@@ -179,10 +179,11 @@ impl Run {
         if let Some(why) = self.track.admits(&event) {
             return Ok(format!(in alloc; "{why:?}")?);
         }
-        if self.estimates.would_pass_calendar(&self.track, &event) {
+        let step = self.track.step(&event);
+        if self.estimates.would_pass_calendar(&step) {
             return Ok(format!(in alloc; "BeyondCalendar")?);
         }
-        let estimates = self.estimates.followed(&self.track, &event);
+        let estimates = self.estimates.followed(&step);
         self.track.add(event)?;
         self.estimates = estimates;
         self.seen(alloc)
@@ -194,15 +195,14 @@ impl Run {
         if !admitted || self.track.events().len() > 1000 {
             return Err(Fail::new("refused by a check"));
         }
-        if self
-            .estimates
-            .would_pass_calendar(&self.track, next.event())
-        {
+        let step = self.track.step(next.event());
+        if self.estimates.would_pass_calendar(&step) {
             return Err(Fail::new("past the calendar"));
         }
-        let stage = self.track.situation_after(next.event()).stage;
-        self.estimates.follow(&self.track, next.event());
-        self.track.put(next);
+        let stage = step.situation().stage;
+        self.estimates.follow(&step);
+        let situation = step.into_situation();
+        self.track.put(next, situation);
         Ok(stage == Some(self.track.stage()))
     }
 

@@ -1,5 +1,5 @@
 use Rattle.std.proofs.Common.{◌∙◌}
-use Rattle.hub_items.specs.Onward.{after}
+use Rattle.journey.specs.Journey.{after}
 use Rattle.hub_items.proofs.Alerted.{alert_put}
 use Rattle.hub_items.proofs.alerts.put_alerts.Goals as goal
 

@@ -2,7 +2,8 @@ use Rattle.std.proofs.Common.{◌≡◌, ◌++◌}
 use Rattle.std.specs.Prelude.{filter, filter_map, flat_map}
 use Rattle.std.specs.List.{range_with_len}
 use Rattle.hub_model.specs.Items as of
-use Rattle.hub_items.specs.Onward.{after, estimate_of}
+use Rattle.journey.specs.Journey.{after}
+use Rattle.hub_items.specs.Onward.{estimate_of}
 use Rattle.hub_items.proofs.estimates.put_estimates.Given as goal
 
 -- the news of the legs so far

@@ -1,6 +1,7 @@
 use Rattle.std.proofs.Common.{◌≡◌, List, ◌∙◌, ap, sym, ◌++◌, append-nil, subst}
 use Rattle.std.specs.Prelude.{OnOk}
 use Rattle.std.proofs.lemmas.Result.{on_ok_weaker}
+use Rattle.journey.specs.Journey.{Onward, after}
 use Rattle.hub_tables.specs.Tabled.{known}
 use Rattle.hub_model.specs.declared.addressed.Addressed.{Addressed}
 use Rattle.hub_model.specs.Items.{alert_items, estimate_items}
@@ -13,11 +14,15 @@ returns-in-Plan-clause-estimates c =
     let none = planned_estimates (known c.args.tables.now) c.args.message.now c.in-Plan.plan c.args.wagon c.in-Plan.is c.requires.is_named in
     on_ok_weaker c.put_alert_end.result (λ told. sym (ap (λ more. before ++ more) none ∙ append-nil before)) c.put_alert_end.ensures
 
-pub returns-in_ok-progress-in_default : goal.returns-in_ok-progress-in_default
-returns-in_ok-progress-in_default c =
-    let e = c.in_ok-progress-in_default.ensures in
+pub returns-in_ok-next-in_default : goal.returns-in_ok-next-in_default
+returns-in_ok-next-in_default c =
+    let n = c.in_ok-next-in_default.ensures in
+    let same = c.progress.ensures in
+    let before = ap (λ (o : Onward). o.before) same ∙ n.before in
+    let behind = ap after same ∙ n.after in
+    let wagon = ap (λ (o : Onward). o.wagon) same ∙ n.wagon in
     let put = c.put_of_progress in
     record {
-      estimates = subst (λ (more : List Addressed). OnOk put.result (put.new.items.items ≡ c.args.items.now.items ++ more)) (λ i. estimate_items (e.before i) (e.after i) (e.wagon i)) put.ensures.estimates;
-      alerts = subst (λ (more : List Addressed). OnOk put.result (put.new.alerts.items ≡ c.args.alerts.now.items ++ more)) (λ i. alert_items (e.before i) (e.after i) (e.wagon i)) put.ensures.alerts;
+      estimates = subst (λ (more : List Addressed). OnOk put.result (put.new.items.items ≡ c.args.items.now.items ++ more)) (λ i. estimate_items (before i) (behind i) (wagon i)) put.ensures.estimates;
+      alerts = subst (λ (more : List Addressed). OnOk put.result (put.new.alerts.items ≡ c.args.alerts.now.items ++ more)) (λ i. alert_items (before i) (behind i) (wagon i)) put.ensures.alerts;
     }

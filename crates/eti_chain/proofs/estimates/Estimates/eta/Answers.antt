@@ -5,4 +5,5 @@ use Rattle.eti_chain.proofs.Chaining.{end_by_reckoning}
 use Rattle.eti_chain.proofs.estimates.Estimates.eta.Goals as goal
 
 pub returns : goal.returns
-returns c events is = c.last_moment.ensures ∙ ap (λ (k : Chain). eta_in k.reckoning) (c.self.view_is ∙ is) ∙ end_by_reckoning events (length (legs events) - 1)
+returns c events is =
+    c.last_moment.ensures ∙ ap eta_in (c.basis.ensures.value ∙ ap (λ (k : Chain). k.reckoning) is) ∙ end_by_reckoning events (length (legs events) - 1)

@@ -1,6 +1,6 @@
 use Rattle.std.proofs.Common.{◌≡◌, ◌*◌, ◌≤◌, ◌^◌, ◌-◌, take}
 use Rattle.std.specs.List.{sum_by}
-use Rattle.eti_chain.proofs.reckoning.minutes_of.Given as goal
+use Rattle.eti_chain.proofs.basis.minutes_of.Given as goal
 
 abbrev pub invariant-loop-leg : goal.invariant-loop-leg
 invariant-loop-leg l = record {

@@ -2,55 +2,65 @@
 ghost use Rattle.std.specs.Prelude.{◌≡◌, ◌+◌, ◌<◌, ◌≤◌, ◌^◌, length, IfSome};
 ghost use Rattle.std.specs.List.{sum_by};
 ghost use Rattle.taf_moment.specs.Calendar.{last_minute};
+ghost use Rattle.journey.specs.Journey.{after};
 ghost use Rattle.eti_chain.specs.Chains as of;
 
 use crate::anchor::{Anchor, anchor_after};
-use journey::{Event, Legs, Situation, Track};
+use journey::{Event, Legs, Step, Track};
 use std::collections::LinkedList;
+use std::marker::Model;
 use taf_moment::Moment;
 use trip_plan::Leg;
 
 /// 2199-12-31T23:59Z, in minutes since 1970.
 const LAST_MINUTE: u128 = 120_968_639;
 
-/// The legs of a wagon with the current one, and the newest anchor.
-#[derive(Debug, Drop)]
-pub(crate) struct Reckoning {
+/// The legs of a wagon with the current one, and the newest anchor. It borrows the legs.
+#[derive(Drop)]
+pub(crate) struct Basis<'a> {
     pub(crate) leg_index: usize,
-    pub(crate) legs: Legs,
+    pub(crate) legs: &'a Legs,
     pub(crate) anchor: Option<Anchor>,
 }
 
-impl Reckoning {
+impl<'a> Model for Basis<'a> {
+    ghost use Rattle.eti_chain.specs.Chains.{Reckoning, IsSummable, reckoned_from};
+
+    ghost Value = { Reckoning };
+
+    ghost view = { λ b. reckoned_from b.leg_index b.legs.now b.anchor };
+
+    ghost invariant = { λ b. IsSummable (reckoned_from b.leg_index b.legs.now b.anchor) };
+}
+
+impl<'a> Basis<'a> {
     /// What the estimates of a track are reckoned from. It walks the events.
-    pub(crate) fn of(track: &Track) -> Reckoning
-        ensures value { result ≡ of.reckoning track.now.events }
-        ensures on_a_leg { result.leg_index < length result.legs }
-        ensures small { of.delays_in result < 2 ^ 127 }
+    pub(crate) fn of(track: &'a Track) -> Basis<'a>
+        ensures { result ≡ of.reckoning track.now.events }
     {
-        Reckoning {
+        Basis {
             leg_index: track.leg_index(),
-            legs: track.situation().legs.copy(),
+            legs: &track.situation().legs,
             anchor: newest_anchor(track.events()),
         }
     }
 
-    /// The same after an event that leads to this situation.
-    pub(crate) fn after(&self, next: Situation, event: &Event) -> Reckoning
-        requires { of.delays_in self.now ≤ last_minute }
-        ensures value { result ≡ of.reckoning_after self.now next event.now }
-        ensures small { of.delays_in result < 2 ^ 127 }
+    /// The same after a step, from the newest anchor before it.
+    pub(crate) fn after(anchor: Option<Anchor>, step: &'a Step<'_>) -> Basis<'a>
+        requires newest { anchor ≡ of.anchor step.now.before }
+        requires small { of.delays_of anchor ≤ last_minute }
+        ensures { result ≡ of.reckoning (after step.now) }
     {
-        Reckoning {
+        let next = step.situation();
+        Basis {
             leg_index: next.leg_index,
-            legs: next.legs,
-            anchor: anchor_after(self.anchor, event),
+            legs: &next.legs,
+            anchor: anchor_after(anchor, step.event()),
         }
     }
 
     /// The end of a leg, in minutes since 1970.
     pub(crate) fn end_of(&self, leg: usize) -> Option<u128>
-        requires { of.delays_in self.now < 2 ^ 127 }
         ensures { result ≡ of.end_in self.now leg }
     {
         let legs = self.legs.as_slice();
@@ -63,8 +73,8 @@ impl Reckoning {
 
     /// The end of the last leg, in minutes since 1970.
     pub(crate) fn last_end(&self) -> Option<u128>
-        requires { of.delays_in self.now < 2 ^ 127 }
-        ensures { result ≡ of.eta_in self.now }
+        ensures value { result ≡ of.eta_in self.now }
+        ensures on_a_leg { self.now.leg_index < length self.now.legs }
     {
         self.end_of(self.legs.as_slice().len() - 1)
     }
@@ -72,8 +82,6 @@ impl Reckoning {
     /// Whether no estimate passes the last minute of the calendar.
     #[tactic(auto, using(crate::proofs::Chaining::fits_by_eta))]
     pub(crate) fn fits(&self) -> bool
-        requires on_a_leg { self.now.leg_index < length self.now.legs }
-        requires small { of.delays_in self.now < 2 ^ 127 }
         ensures { result ≡ of.fits_in self.now }
     {
         match self.last_end() {

@@ -1,6 +1,6 @@
 use Rattle.std.proofs.Common.{sym, ◌∙◌, arith}
 use Rattle.eti_chain.proofs.Chaining.{end-fits, moment_is}
-use Rattle.eti_chain.proofs.reckoning.Reckoning.moment.Goals as goal
+use Rattle.eti_chain.proofs.basis.Basis.moment.Goals as goal
 
 pub overflow_cast-at : goal.overflow_cast-at
 overflow_cast-at c =

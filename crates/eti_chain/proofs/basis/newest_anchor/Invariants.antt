@@ -1,7 +1,7 @@
 use Rattle.std.proofs.Common.{◌≡◌, ◌+◌, ◌*◌, ◌≤◌, length}
 use Rattle.std.specs.Prelude.{fold}
 use Rattle.eti_chain.specs.Chains as of
-use Rattle.eti_chain.proofs.reckoning.newest_anchor.Given as goal
+use Rattle.eti_chain.proofs.basis.newest_anchor.Given as goal
 
 abbrev pub invariant-loop-event : goal.invariant-loop-event
 invariant-loop-event l = record {
