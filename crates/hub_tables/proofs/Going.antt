@@ -1,5 +1,5 @@
 -- The shares by which journeys go on.
-use Rattle.std.proofs.Common.{◌≡◌, ℕ, ◌+◌, ◌<◌, ◌≤◌, ◌^◌, ◌==◌, ◌||◌, ◌&&◌, Bool, true, false, cond, List, [], ◌∷◌, ◌++◌, length, map, get_or, refl, sym, ap, subst, ◌∙◌, arith, true≢false, if◌then◌else◌, inl, inr}
+use Rattle.std.proofs.Common.{◌≡◌, ℕ, ◌+◌, ◌<◌, ◌≤◌, ◌^◌, ◌==◌, ◌||◌, Bool, true, false, cond, List, [], ◌∷◌, ◌++◌, length, map, get_or, refl, sym, ap, subst, ◌∙◌, arith, true≢false, if◌then◌else◌, inl, inr}
 use Rattle.std.specs.Prelude.{nat_lt, fold}
 use Rattle.std.specs.List.{list_all}
 use Rattle.std.proofs.lemmas.Bool.{and_parts, or_cases, eqb-true, cases_Bool}
@@ -18,7 +18,7 @@ use Rattle.eti_chain.specs.Estimates.{fits}
 use Rattle.hub_model.specs.Standing.{Standing, Offers, named, share, said_of, with_event, journey_after}
 use Rattle.hub_model.specs.Faults.{is_unknown}
 use Rattle.hub_tables.specs.Tabled.{IsAcceptable, goes_on}
-use Rattle.hub_tables.specs.Taking.{IsAdmitted, AreAdmitted, put_on}
+use Rattle.hub_tables.specs.Taking.{MayComeNext, IsAdmitted, AreAdmitted, put_on}
 
 -- no wagon of the list comes again
 abbrev pub Differ : List ℕ → Type 0
@@ -137,7 +137,7 @@ goes_by : (events : List Event) (e : Event) → is_unknown events ≡ false → 
 goes_by [] e begun h = absurd (true≢false begun)
 goes_by (first ∷ events) e begun h = rw h refl
 
-has_room : (n : ℕ) → nat_lt n (2 ^ 62) ≡ true → n + 1 < 2 ^ 63
+pub has_room : (n : ℕ) → nat_lt n (2 ^ 62) ≡ true → n + 1 < 2 ^ 63
 has_room n h = let lt : n < 2 ^ 62 = (Decides-ltb n (2 ^ 62)).0 h in omega arith
 
 module _ (s : Standing) (m : Message) (ok : IsAcceptable s m) (on : goes_on m.body ≡ true) where
@@ -149,6 +149,13 @@ module _ (s : Standing) (m : Message) (ok : IsAcceptable s m) (on : goes_on m.bo
   after_is : (w : ℕ) → journey_after s m w ≡ (if has (named s.offer m) w then s.journey w ++ share s.offer m w ∷ [] else s.journey w)
   after_is w = after_by w (has (named s.offer m) w) refl
 
+  pub comes_next : (w : ℕ) → has (named s.offer m) w ≡ true → MayComeNext (s.journey w) (share s.offer m w)
+  comes_next w h = record {
+    begun = ok.begun on w h;
+    allowed = ok.admitted on w h;
+    fits_after = ap fits (ap (λ (b : Bool). if b then s.journey w ++ share s.offer m w ∷ [] else s.journey w) (sym h) ∙ sym (after_is w)) ∙ ok.fits_after w;
+  }
+
   module _ (apart : all_differ (named s.offer m) ≡ true) where
     pub next_after : (w : ℕ) → fold put_on s.journey (map (λ v. (v, share s.offer m v)) (named s.offer m)) w ≡ journey_after s m w
     next_after w = put_each (share s.offer m) s.journey (named s.offer m) (differ _ apart) w ∙ sym (after_is w)
@@ -156,9 +163,7 @@ module _ (s : Standing) (m : Message) (ok : IsAcceptable s m) (on : goes_on m.bo
     module _ (room : list_all (λ w. nat_lt (length (s.journey w)) (2 ^ 62)) (named s.offer m) ≡ true) where
       admitted : (w : ℕ) → has (named s.offer m) w ≡ true → IsAdmitted (s.journey w) (share s.offer m w)
       admitted w h = record {
-        begun = ok.begun on w h;
-        allowed = ok.admitted on w h;
-        fits_after = ap fits (ap (λ (b : Bool). if b then s.journey w ++ share s.offer m w ∷ [] else s.journey w) (sym h) ∙ sym (after_is w)) ∙ ok.fits_after w;
+        next = comes_next w h;
         room = has_room _ (passes_named (λ v. nat_lt (length (s.journey v)) (2 ^ 62)) (named s.offer m) w room h);
       }
 
@@ -173,10 +178,8 @@ module _ (s : Standing) (m : Message) (w : ℕ) (ok : IsAcceptable s m) (on : go
   apart : all_differ (named s.offer m) ≡ true
   apart = ap all_differ alone ∙ one_differs w
 
-  pub one_admitted : nat_lt (length (s.journey w)) (2 ^ 62) ≡ true → IsAdmitted (s.journey w) (share s.offer m w)
-  one_admitted h =
-      let room : list_all (λ v. nat_lt (length (s.journey v)) (2 ^ 62)) (named s.offer m) ≡ true = ap (list_all (λ v. nat_lt (length (s.journey v)) (2 ^ 62))) alone ∙ ap (λ (b : Bool). b && true) h in
-      (subst (λ (ws : List ℕ). AreAdmitted s.journey (map (λ v. (v, share s.offer m v)) ws)) alone (next_admitted s m ok on apart room)).0
+  pub one_comes_next : MayComeNext (s.journey w) (share s.offer m w)
+  one_comes_next = comes_next s m ok on w (ap (λ (ws : List ℕ). has ws w) alone ∙ ap (λ (b : Bool). b || false) (numbers.itself w))
 
   pub one_after : (v : ℕ) → put_on s.journey (w, share s.offer m w) v ≡ journey_after s m v
   one_after v = ap (λ (ws : List ℕ). fold put_on s.journey (map (λ u. (u, share s.offer m u)) ws) v) (sym alone) ∙ next_after s m ok on apart v

@@ -16,11 +16,15 @@ use Rattle.hub_model.specs.Faults.{is_unknown}
 use Rattle.hub_model.specs.Answers.{plan_given, unit_plan_given, offer_given, opening_given, planned_in, fleet_after}
 use Rattle.hub_tables.specs.Tabled.{Filings, events_in, known}
 
--- the event may come next in a journey, and there is room for it
-pub record IsAdmitted (events : List Event) (e : Event) : Type 0 where
+-- the event may come next in a journey
+pub record MayComeNext (events : List Event) (e : Event) : Type 0 where
   pub begun : is_unknown events ≡ false
   pub allowed : refusal events e.by e.body ≡ None
   pub fits_after : fits (events ++ e ∷ []) ≡ true
+
+-- the same, and there is room for it
+pub record IsAdmitted (events : List Event) (e : Event) : Type 0 where
+  pub next : MayComeNext events e
   pub room : length events + 1 < 2 ^ 63
 
 -- a journey may begin with the event

@@ -12,7 +12,7 @@ ghost use Rattle.hub_model.specs.Answers.{accepted};
 ghost use Rattle.hub_tables.specs.Tabled.{IsAcceptable, goes_on, known, tabled};
 ghost use Rattle.hub_tables.specs.Taking.{GoesOn, Takes};
 
-use crate::enter::{enter, put, put_all};
+use crate::enter::{enter, put_all, put_within};
 use crate::tables::Tables;
 use interchange::Offer;
 use std::alloc::Global;
@@ -136,7 +136,7 @@ impl Tables {
         ensures err { OnErr result (self.new ≡ self.old) }
     {
         let share = self.next_share(alloc, message, wagon)?;
-        put(&mut self.wagons, wagon, share);
+        put_within(&mut self.wagons, wagon, share)?;
         Ok(())
     }
 

@@ -1,14 +1,15 @@
 //! Entries and events that are put into tables without memory.
-ghost use Rattle.std.specs.Prelude.{◌≡◌, ℕ, ◌≤◌, fold, length};
+ghost use Rattle.std.specs.Prelude.{◌≡◌, ℕ, ◌≤◌, OnErr, OnOk, fold, length};
 ghost use Rattle.std.specs.Map.{keys_of, update_all};
 ghost use Rattle.indexmap.specs.IndexMap.{get, insert_all, spare};
 ghost use Rattle.hub_tables.specs.Tabled.{AreFiled, events_in};
-ghost use Rattle.hub_tables.specs.Taking.{AreAdmitted, IsAdmitted, put_on};
+ghost use Rattle.hub_tables.specs.Taking.{AreAdmitted, IsAdmitted, MayComeNext, put_on};
 
 use crate::wagon::Wagon;
 use indexmap::IndexMap;
 use journey::Prepared;
 use std::hash::Hash;
+use taf_codes::Memory;
 use wagon_number::WagonNumber;
 
 /// Enters each value under its key, in turn. There has to be room for all.
@@ -50,4 +51,28 @@ pub(crate) fn put(wagons: &mut IndexMap<WagonNumber, Wagon>, wagon: WagonNumber,
         Some(found) => found.put(share),
         None => unreachable!(),
     }
+}
+
+/// Puts a share at the end of its wagon's journey, if that has room for it. `Memory` where it has none: then all is as it
+/// was.
+pub(crate) fn put_within(
+    wagons: &mut IndexMap<WagonNumber, Wagon>,
+    wagon: WagonNumber,
+    share: Prepared,
+) -> Result<(), Memory>
+    requires filed { AreFiled wagons.old.entries }
+    requires next { MayComeNext (events_in wagons.old.entries wagon) share }
+    ensures ok { OnOk result ((w : ℕ) → events_in wagons.new.entries w ≡ put_on (events_in wagons.old.entries) (wagon, share) w) }
+    ensures err { OnErr result (wagons.new.entries ≡ wagons.old.entries) }
+    ensures keys { keys_of wagons.new.entries ≡ keys_of wagons.old.entries }
+    ensures filed { AreFiled wagons.new.entries }
+{
+    let Some(found) = wagons.get_mut(&wagon) else {
+        unreachable!();
+    };
+    if !found.has_room() {
+        return Err(Memory);
+    }
+    found.put(share);
+    Ok(())
 }

@@ -6,7 +6,7 @@ ghost use Rattle.hub_model.specs.Faults.{whole_fault};
 ghost use Rattle.interchange.specs.Offers.{wagons_of, place_of};
 ghost use Rattle.trip_plan.specs.Rules.{all_differ, has};
 ghost use Rattle.hub_tables.specs.Tabled.{IsAcceptable, events_in, goes_on, known};
-ghost use Rattle.hub_tables.specs.Taking.{AreAdmitted, IsAdmitted, IsBeginning, put_on};
+ghost use Rattle.hub_tables.specs.Taking.{AreAdmitted, IsBeginning, MayComeNext, put_on};
 
 use crate::tables::Tables;
 use crate::wagon::Wagon;
@@ -18,9 +18,6 @@ use taf_codes::{Memory, Place, Railway};
 use taf_messages::{Body, Message, MessageNumber};
 use taf_moment::Moment;
 use wagon_number::WagonNumber;
-
-/// The most events of a journey that goes on: 2^62. Memory could not hold as many.
-const MOST_EVENTS: usize = 1 << 62;
 
 /// The moment that a message gives, if its kind gives one.
 fn moment_in(body: &Body) -> Option<Moment>
@@ -187,12 +184,9 @@ impl Tables {
         requires acceptable { IsAcceptable (known self.now) message.now }
         requires goes_on { goes_on message.now.body ≡ true }
         requires alone { named (known self.now).offer message.now ≡ wagon ∷ [] }
-        ensures admitted { IfOk result (λ e. IsAdmitted (events_in self.now.wagons wagon) e) }
+        ensures next { IfOk result (λ e. MayComeNext (events_in self.now.wagons wagon) e) }
         ensures after { IfOk result (λ e. (w : ℕ) → put_on (events_in self.now.wagons) (wagon, e) w ≡ journey_after (known self.now) message.now w) }
     {
-        if !has_room(self, wagon) {
-            return Err(Memory);
-        }
         let share = self.share(message, wagon)?;
         Ok(share.prepared(alloc)?)
     }
@@ -228,7 +222,7 @@ fn has_room(tables: &Tables, wagon: WagonNumber) -> bool
     ensures { result ≡ nat_lt (length ((known tables.now).journey wagon)) (2 ^ 62) }
 {
     match tables.wagon(wagon) {
-        Some(found) => found.track().events().len() < MOST_EVENTS,
+        Some(found) => found.has_room(),
         None => true,
     }
 }

@@ -1,4 +1,4 @@
-ghost use Rattle.std.specs.Prelude.{◌≡◌, ◌<◌, ◌+◌, ◌^◌, [], ◌∷◌, ◌++◌, length, true, None};
+ghost use Rattle.std.specs.Prelude.{◌≡◌, ◌<◌, ◌+◌, ◌^◌, [], ◌∷◌, ◌++◌, length, nat_lt, true, None};
 ghost use Rattle.journey.specs.Stages.{is_plan};
 ghost use Rattle.journey.specs.Checks.{refusal};
 ghost use Rattle.eti_chain.specs.Estimates.{fits};
@@ -10,6 +10,9 @@ use journey::{Prepared, Track};
 use std::marker::Model;
 use trip_plan::Plan;
 use wagon_number::WagonNumber;
+
+/// The most events of a journey that goes on: 2^62. Memory could not hold as many.
+const MOST_EVENTS: usize = 1 << 62;
 
 /// A wagon with its journey and its estimates.
 #[derive(Drop)]
@@ -63,6 +66,13 @@ impl Wagon {
         ensures { result ≡ is_on_plan self.now.events plan.now }
     {
         self.track.plan().consignment() == plan.consignment()
+    }
+
+    /// Whether the journey has room for one event more.
+    pub(crate) fn has_room(&self) -> bool
+        ensures { result ≡ nat_lt (length self.now.events) (2 ^ 62) }
+    {
+        self.track.events().len() < MOST_EVENTS
     }
 
     /// Goes on with the journey by an event that it admits.

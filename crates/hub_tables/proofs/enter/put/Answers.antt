@@ -7,7 +7,7 @@ pub put-requires : goal.put-requires
 put-requires c =
     let found = sym c.get_mut.ensures.value ∙ ap option_copied_mut c.in-Some.is in
     let there = admitted_there c.args.wagons.now.entries c.args.wagon c.in-Some.found.now c.args.share found c.requires.admitted in
-    record { admitted = there.allowed; fits = there.fits_after; room = there.room }
+    record { admitted = there.next.allowed; fits = there.next.fits_after; room = there.room }
 
 pub returns-clause-events : goal.returns-clause-events
 returns-clause-events c =

@@ -1,8 +1,8 @@
 use Rattle.std.proofs.Common.{subst, sym}
 use Rattle.hub_tables.specs.Tabled.{Filings, events_in}
-use Rattle.hub_tables.specs.Taking.{IsAdmitted}
+use Rattle.hub_tables.specs.Taking.{MayComeNext}
 use Rattle.hub_tables.proofs.tables.Tables.take_event.Goals as goal
 
-pub put-requires-clause-admitted : goal.put-requires-clause-admitted
-put-requires-clause-admitted c =
-    subst (λ (t : Filings). IsAdmitted (events_in t.wagons c.args.wagon) c.in_ok-share.share) (sym c.self.view_is) c.in_ok-share.ensures.admitted
+pub put_within-requires-clause-next : goal.put_within-requires-clause-next
+put_within-requires-clause-next c =
+    subst (λ (t : Filings). MayComeNext (events_in t.wagons c.args.wagon) c.in_ok-share.share) (sym c.self.view_is) c.in_ok-share.ensures.next
