@@ -7,11 +7,17 @@ use trip_plan::Leg;
 /// The most legs that a wagon has.
 const MOST: usize = 8;
 
+// Room for the legs of a wagon, copied at once.
+#[derive(Clone, Copy, Debug)]
+struct Row {
+    items: [Leg; MOST],
+}
+
 /// The legs of a wagon in their order: 1 to 8, kept in place.
 #[derive(Debug, Drop)]
 pub struct Legs {
     // Those from the count on stand for nothing.
-    items: [Leg; MOST],
+    row: Row,
     count: usize,
 }
 
@@ -21,7 +27,7 @@ impl Model for Legs {
 
     ghost Value = { List Leg };
 
-    ghost view = { λ a. take a.count a.items };
+    ghost view = { λ a. take a.count a.row.items };
 
     ghost invariant = { λ a. (0 < a.count) × (a.count ≤ 8) };
 }
@@ -34,7 +40,7 @@ impl Legs {
         ensures { result ≡ legs.now }
     {
         Legs {
-            items: items_of(legs),
+            row: row_of(legs),
             count: legs.len(),
         }
     }
@@ -45,7 +51,7 @@ impl Legs {
         ensures some { 0 < length result.now }
         ensures few { length result.now ≤ 8 }
     {
-        &self.items[..self.count]
+        &self.row.items[..self.count]
     }
 
     /// The leg at this place, from 0 on.
@@ -59,52 +65,42 @@ impl Legs {
     pub fn copy(&self) -> Legs
         ensures { result ≡ self.now }
     {
-        let mut items = [self.items[0]; MOST];
-        items.copy_from_slice(&self.items);
         Legs {
-            items,
+            row: self.row,
             count: self.count,
         }
     }
 
-    /// The legs, of which this one, if there is such a leg, takes these minutes.
-    pub(crate) fn timed(&self, leg: usize, minutes: u32) -> Legs
-        ensures { result ≡ timed self.now leg minutes }
+    /// Gives this leg, if there is such a leg, these minutes.
+    pub(crate) fn time(&mut self, leg: usize, minutes: u32)
+        ensures { self.new ≡ timed self.old leg minutes }
     {
-        let legs = self.as_slice();
-        let mut items = items_of(legs);
-        if leg < legs.len() {
-            items[leg].minutes = minutes;
-        }
-        Legs {
-            items,
-            count: legs.len(),
+        if leg < self.count {
+            self.row.items[leg].minutes = minutes;
         }
     }
 
-    /// The legs up to the current one, and then those of a route.
-    pub(crate) fn rerouted(&self, current: usize, route: &[Leg]) -> Legs
-        requires on_a_leg { current < length self.now }
+    /// Goes on behind the current leg by those of a route.
+    pub(crate) fn reroute(&mut self, current: usize, route: &[Leg])
+        requires on_a_leg { current < length self.old }
         requires few { current + 1 + length route.now ≤ 8 }
-        ensures { result ≡ take (current + 1) self.now ++ route.now }
+        ensures { self.new ≡ take (current + 1) self.old ++ route.now }
     {
         let behind = current + 1;
-        let mut legs = self.copy();
-        put_behind(&mut legs.items, behind, route);
-        legs.count = behind + route.len();
-        legs
+        put_behind(&mut self.row.items, behind, route);
+        self.count = behind + route.len();
     }
 }
 
-// An array that begins with these legs.
-fn items_of(legs: &[Leg]) -> [Leg; MOST]
+// A row that begins with these legs.
+fn row_of(legs: &[Leg]) -> Row
     requires some { 0 < length legs.now }
     requires few { length legs.now ≤ 8 }
-    ensures { take (length legs.now) result ≡ legs.now }
+    ensures { take (length legs.now) result.items ≡ legs.now }
 {
     let mut items = [legs[0]; MOST];
     put_behind(&mut items, 0, legs);
-    items
+    Row { items }
 }
 
 // Puts legs behind the first so many.

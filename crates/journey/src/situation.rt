@@ -51,31 +51,42 @@ impl Situation {
         requires room { HasRoom self.now.leg_index event.now.body }
         ensures { result ≡ situation_after self.now event.now }
     {
-        let body = &event.body;
-        Situation {
-            stage: body.stage_after().or(self.stage),
-            leg_index: self.leg_index + usize::from(body.is_reception()),
-            legs: self.legs_after(body),
-            lead: body.lead().or(self.lead),
-            has_departed: self.has_departed || body.is_departure(),
-            is_delivered: self.is_delivered || body.is_delivery(),
-            taker: event.taker().or(self.taker),
-            yard: body.yard().or(self.yard),
-        }
+        let mut next = self.copy();
+        next.advance(event);
+        next
     }
 
-    fn legs_after(&self, body: &EventBody) -> Legs
-        requires on_a_leg { self.now.leg_index < length self.now.legs }
-        requires room { HasRoom self.now.leg_index body.now }
-        ensures { result ≡ legs_after self.now.leg_index self.now.legs body.now }
+    /// Goes on by one event more.
+    fn advance(&mut self, event: &Event)
+        requires on_a_leg { self.old.leg_index < length self.old.legs }
+        requires few_legs { length self.old.legs ≤ 8 }
+        requires room { HasRoom self.old.leg_index event.now.body }
+        ensures { self.new ≡ situation_after self.old event.now }
+    {
+        let body = &event.body;
+        self.change_legs(body);
+        self.stage = body.stage_after().or(self.stage);
+        self.leg_index += usize::from(body.is_reception());
+        self.lead = body.lead().or(self.lead);
+        self.has_departed = self.has_departed || body.is_departure();
+        self.is_delivered = self.is_delivered || body.is_delivery();
+        self.taker = event.taker().or(self.taker);
+        self.yard = body.yard().or(self.yard);
+    }
+
+    // Changes the legs as an event says; few do.
+    fn change_legs(&mut self, body: &EventBody)
+        requires on_a_leg { self.old.leg_index < length self.old.legs }
+        requires room { HasRoom self.old.leg_index body.now }
+        ensures { self.new ≡ record self.old { legs = legs_after self.old.leg_index self.old.legs body.now } }
     {
         match body {
-            EventBody::Planned(plan) => Legs::of(plan.legs()),
-            EventBody::Rerouted(route) => self.legs.rerouted(self.leg_index, route.legs()),
+            EventBody::Planned(plan) => self.legs = Legs::of(plan.legs()),
+            EventBody::Rerouted(route) => self.legs.reroute(self.leg_index, route.legs()),
             EventBody::LegTimed { leg, minutes } => {
-                self.legs.timed(leg.get() as usize, minutes.get() as u32)
+                self.legs.time(leg.get() as usize, minutes.get() as u32);
             }
-            _ => self.legs.copy(),
+            _ => {}
         }
     }
 
