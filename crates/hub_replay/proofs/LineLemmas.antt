@@ -116,6 +116,12 @@ IsTaken-line bytes w hs from end h t le lt is whole e = record {
       t.says more ∙ ap (λ l. hs ++ l) one ∙ sym (append_assoc hs (h ∷ []) (heard_in (drop (end + 1) w ++ more)));
 }
 
+-- lines after lines
+pub IsTaken-append : (bytes next rest : List ℕ) (hs more : List Heard) → IsTaken bytes hs next → IsTaken next more rest → IsTaken bytes (hs ++ more) rest
+IsTaken-append bytes next rest hs more t u = record {
+  says = λ after. t.says after ∙ ap (λ l. hs ++ l) (u.says after) ∙ sym (append_assoc hs more (heard_in (rest ++ after)));
+}
+
 pub heard_taken : (bytes : List ℕ) (hs : List Heard) (rest : List ℕ) → IsTaken bytes hs rest → heard_in bytes ≡ hs ++ heard_in rest
 heard_taken bytes hs rest t = sym (ap heard_in (append-nil bytes)) ∙ t.says [] ∙ ap (λ l. hs ++ heard_in l) (append-nil rest)
 

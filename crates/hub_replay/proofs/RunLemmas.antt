@@ -92,10 +92,6 @@ IsUnderway-said start hs h written entries pending pending' counts counts' u e =
 pub Goes-none : (c : Option (List ℕ)) (e : List Entry) (d : Desk) → Goes c c e d e d []
 Goes-none c e d = record { goes = λ start before written u. ([], Appends-none c, rw (append-nil before, append-nil written) u) }
 
--- nothing is written, and what is pending and what was counted stays
-pub Goes-read : {c : Option (List ℕ)} {e : List Entry} {d₀ d₁ : Desk} → d₀.out.items ≡ d₁.out.items → d₀.counts ≡ d₁.counts → Goes c c e d₀ e d₁ []
-Goes-read {c} {e} {d₀} {d₁} pending counts = record { goes = λ start before written u. ([], Appends-none c, rw (append-nil before, append-nil written, ← pending, ← counts) u) }
-
 -- nothing is written, and the writer keeps what it has
 pub Goes-kept : (c₀ c₁ : Option (List ℕ)) (e : List Entry) (d : Desk) → Keeps c₀ c₁ → Goes c₀ c₁ e d e d []
 Goes-kept c₀ c₁ e d k = record { goes = λ start before written u. ([], Appends-kept c₀ c₁ k, rw (append-nil before, append-nil written) u) }

@@ -1,4 +1,4 @@
-//! What is still to be written, what was counted, and what reads.
+//! What is still to be written, and what was counted.
 ghost use Rattle.std.specs.Prelude.{◌≡◌, ◌≢◌, ◌+◌, ◌<◌, ◌≤◌, ◌^◌, ◌++◌, ◌∷◌, [], List, ℕ, OnOk, OnErr, IfErr};
 ghost use Rattle.std.specs.Io.KnownBytes.{Appends};
 ghost use Rattle.taf_messages.specs.declared.fault.RecordFault.TheVariants.{Memory as NoMemory};
@@ -9,13 +9,12 @@ ghost use Rattle.hub_replay.specs.Outcomes.{one_fault_more, one_call_more};
 use crate::counts::Counts;
 use std::alloc::Global;
 use taf_codes::{Failed, Memory, Sink};
-use taf_messages::{CallReader, RecordFault, Reply, append_fault, append_reply};
+use taf_messages::{RecordFault, Reply, append_fault, append_reply};
 
-/// Lines that are still to be written, the counts so far, and the reader of calls.
+/// Lines that are still to be written, and the counts so far.
 #[derive(Drop)]
 pub(crate) struct Desk {
     pub(crate) alloc: Global,
-    pub(crate) reader: CallReader,
     pub(crate) out: Vec<u8>,
     pub(crate) counts: Counts,
 }
@@ -27,7 +26,6 @@ impl Desk {
     {
         Desk {
             alloc,
-            reader: CallReader::new(alloc),
             out: Vec::new(alloc),
             counts: Counts {
                 lines: 0,

@@ -4,10 +4,14 @@
 //! is not blank: the hub's reply, or a fault line where the line is no call or the hub's history is full. What lines
 //! lead to is defined in `specs/Outcomes.antt`, and what a line says in `specs/Lines.antt`.
 //!
-//! Of the input no more than 131,072 bytes are held at once, beside the room for the texts of one line, and of the
-//! output the lines of one call and of the faults before it. Each reply is handed to the writer before the next call
-//! goes to the hub, and the writer is flushed before more input is read, so that one who waits for a reply before he
-//! writes his next line gets it.
+//! Lines are heard in spans of about 65,536 bytes: while those of a span are answered, a thread of its own hears the
+//! next ones, where the reader gave as many. The hub is called by the one thread that calls [`run`], in the order of the
+//! lines.
+//!
+//! Of the input no more than 1,114,112 bytes are held at once, beside what the lines of two spans say, and of the output
+//! the lines of one call and of the faults before it. Each reply is handed to the writer before the next call goes to the
+//! hub, and the writer is flushed before more input is read, so that one who waits for a reply before he writes his next
+//! line gets it.
 #![tactic(auto)]
 
 mod counts;
@@ -17,6 +21,8 @@ mod heard;
 mod newline;
 mod pieces;
 mod replay;
+mod span;
+mod telling;
 mod turn;
 
 pub use counts::Counts;

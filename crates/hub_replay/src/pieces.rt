@@ -9,9 +9,12 @@ use crate::desk::Desk;
 use crate::fault::RunFault;
 use crate::heard::{Heard, LONGEST, hear};
 use crate::newline::next_newline;
-use crate::turn::{flush, turn, write_much};
+use crate::telling::{hear_first, tell_and_hear};
+use crate::turn::{flush, turn};
 use hub_core::Hub;
+use std::thread::Threads;
 use taf_codes::Sink;
+use taf_messages::CallReader;
 
 /// What is left of a piece: where it begins, and whether the rest of its line is skipped.
 #[derive(Clone, Copy)]
@@ -37,6 +40,7 @@ pub(crate) fn first_start(piece: &[u8], skipping: bool) -> Option<usize>
 
 /// Answers the whole lines of a piece from a place on, and gives the place after them. No newline comes before `seen`.
 pub(crate) fn take_lines<W: Sink>(
+    rt: &impl Threads,
     writer: &mut W,
     hub: &mut Hub,
     desk: &mut Desk,
@@ -55,22 +59,21 @@ pub(crate) fn take_lines<W: Sink>(
     ensures kept { OnOk result (W.failures writer.new ≡ W.failures writer.old) }
     ensures counted { IfOk result (λ end. tally desk.new.counts + 2 * start ≤ tally desk.old.counts + 2 * end) }
 {
+    let mut span = hear_first(desk.alloc, &piece[start..], seen - start)?;
     let mut from = start;
-    let mut place = seen;
-    'lines: while let Some(end) = next_newline(piece, place) {
-        let Ok(heard) = hear(&mut desk.reader, &piece[from..end]) else {
-            return Err(RunFault::Memory);
-        };
-        turn(writer, hub, desk, heard)?;
-        write_much(writer, desk)?;
-        from = end + 1;
-        place = from;
+    'spans: while span.end > 0 {
+        let next = from + span.end;
+        let (told, ahead) = tell_and_hear(rt, writer, hub, desk, &mut span.heard, &piece[next..]);
+        told?;
+        span = ahead?;
+        from = next;
     }
     Ok(from)
 }
 
 /// Answers the lines of a piece, and tells what is left of it.
 pub(crate) fn take_piece<W: Sink>(
+    rt: &impl Threads,
     writer: &mut W,
     hub: &mut Hub,
     desk: &mut Desk,
@@ -96,7 +99,7 @@ pub(crate) fn take_piece<W: Sink>(
         });
     };
     let place = if skipping { start } else { seen };
-    let end = take_lines(writer, hub, desk, piece, start, place)?;
+    let end = take_lines(rt, writer, hub, desk, piece, start, place)?;
     if piece.len() - end <= LONGEST {
         return Ok(Rest {
             start: end,
@@ -147,7 +150,7 @@ fn last_line<W: Sink>(
     if line.is_empty() {
         return Ok(());
     }
-    let Ok(heard) = hear(&mut desk.reader, line) else {
+    let Ok(heard) = hear(&mut CallReader::new(desk.alloc), line) else {
         return Err(RunFault::Memory);
     };
     turn(writer, hub, desk, heard)

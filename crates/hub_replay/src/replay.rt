@@ -13,13 +13,14 @@ use crate::pieces::{finish, take_piece};
 use crate::turn::flush;
 use hub_core::Hub;
 use std::alloc::Global;
+use std::thread::Threads;
 use taf_codes::{Sink, Source};
 
 // How many bytes are asked for at once.
-const PIECE: usize = 65_536;
+const PIECE: usize = 1_048_576;
 
 // The longest beginning of a line that is kept, and a piece.
-const ROOM: usize = 131_072;
+const ROOM: usize = 1_114_112;
 
 /// How many bytes of a reader are read at most.
 pub const MOST_BYTES: u64 = 1 << 40;
@@ -35,6 +36,7 @@ pub const MOST_BYTES: u64 = 1 << 40;
 /// end, [`RunFault::NoEnd`] is the answer. After a fault the hub has the entries of the calls so far, and of these
 /// only the last may lack its whole line.
 pub fn run<R: Source, W: Sink>(
+    rt: &impl Threads,
     alloc: Global,
     reader: &mut R,
     writer: &mut W,
@@ -86,7 +88,7 @@ pub fn run<R: Source, W: Sink>(
         }
         total += count as u64;
         let end = held + count;
-        let rest = match take_piece(writer, hub, &mut desk, &room[..end], held, skipping) {
+        let rest = match take_piece(rt, writer, hub, &mut desk, &room[..end], held, skipping) {
             Ok(rest) => rest,
             Err(fault) => return Err(fault),
         };
@@ -104,9 +106,9 @@ fn pull_piece<R: Source>(
     held: usize,
     most: u64,
 ) -> Result<usize, RunFault>
-    requires room { held + 65536 ≤ length room.old }
+    requires room { held + 1048576 ≤ length room.old }
     requires some { 0 < most }
-    ensures bounds { IfOk result (λ n. (n ≤ 65536) × (n ≤ most)) }
+    ensures bounds { IfOk result (λ n. (n ≤ 1048576) × (n ≤ most)) }
     ensures bytes { IfOk result (λ n. Consumes (R.remaining reader.old) (R.remaining reader.new) (slice_range room.new held (held + n))) }
     ensures end { IfOk result (λ n. n ≡ 0 → IsAtEnd (R.remaining reader.new)) }
     ensures kept { take held room.new ≡ take held room.old }

@@ -25,7 +25,7 @@ pub fn perform<R: Read + Drop, W: Write + Drop>(
     let mut reader = Std::new(input);
     let mut writer = Std::new(gathered);
     let mut hub = Hub::new(alloc);
-    run(alloc, &mut reader, &mut writer, &mut hub)?;
+    run(rt, alloc, &mut reader, &mut writer, &mut hub)?;
     let Ok(view) = hub.view() else {
         return Err(Fault::Memory);
     };

@@ -23,10 +23,10 @@ const WAGONS_61: &str =
 > {"code":4,"fault":"bad_plan"}"#;
 
 // Fails unless an example is answered as it says, and as many wagons are planned then as the report's first line says.
-fn plays_with(alloc: Global, example: &str, wagons: &str) -> Result<(), Fail> {
-    plays(alloc, &[example])?;
-    let input = input_of(alloc, &[example])?;
-    let report = report_after(alloc, &input)?;
+fn plays_with(rt: &HostRuntime, example: &str, wagons: &str) -> Result<(), Fail> {
+    plays(rt, &[example])?;
+    let input = input_of(rt.alloc(), &[example])?;
+    let report = report_after(rt, &input)?;
     if report.lines().next() == Some(wagons) {
         Ok(())
     } else {
@@ -36,17 +36,17 @@ fn plays_with(alloc: Global, example: &str, wagons: &str) -> Result<(), Fail> {
 
 #[test]
 fn as_many_wagons_and_legs_as_a_plan_has(rt: HostRuntime) -> Result<(), Fail> {
-    plays_with(rt.alloc(), MOST_WAGONS_AND_LEGS, "wagons 60")
+    plays_with(&rt, MOST_WAGONS_AND_LEGS, "wagons 60")
 }
 
 #[test]
 fn more_legs_than_a_plan_has(rt: HostRuntime) -> Result<(), Fail> {
-    plays_with(rt.alloc(), NINE_LEGS, "wagons 0")
+    plays_with(&rt, NINE_LEGS, "wagons 0")
 }
 
 #[test]
 fn more_wagons_than_a_plan_has(rt: HostRuntime) -> Result<(), Fail> {
-    plays_with(rt.alloc(), WAGONS_61, "wagons 0")
+    plays_with(&rt, WAGONS_61, "wagons 0")
 }
 
 // A delay of a minute with each of the numbers from 2 to 25, and an arrival in the yard: with the departure these make 51
@@ -115,7 +115,7 @@ const PAGES: &str =
 
 #[test]
 fn items_come_in_pages(rt: HostRuntime) -> Result<(), Fail> {
-    plays(rt.alloc(), &[DEPARTED, PAGES])
+    plays(&rt, &[DEPARTED, PAGES])
 }
 
 // Adds a delay of a minute with each of the numbers from 2 to 20,001.
@@ -171,13 +171,13 @@ fn delays_wanted(alloc: Global) -> Result<Vec<u8>, Fail> {
 fn twenty_thousand_delays(rt: HostRuntime) -> Result<(), Fail> {
     let input = delays_input(rt.alloc())?;
     let wanted = delays_wanted(rt.alloc())?;
-    no_difference(written_otherwise(rt.alloc(), &input, &wanted)?)
+    no_difference(written_otherwise(&rt, &input, &wanted)?)
 }
 
 #[test]
 fn a_report_of_twenty_thousand_delays(rt: HostRuntime) -> Result<(), Fail> {
     let input = delays_input(rt.alloc())?;
-    let report = report_after(rt.alloc(), &input)?;
+    let report = report_after(&rt, &input)?;
     if report.lines().nth(1) == Some(LATE) {
         Ok(())
     } else {
@@ -219,13 +219,13 @@ fn is_full(alloc: Global, hub: &mut Hub) -> Result<(), Fail> {
 const ANSWERED_FULL: &str = r#"{"kind":"ask","from":"R100","wagon":"318066552148"}
 > {"fault":"hub_full"}"#;
 
-fn answers_full(alloc: Global, hub: &mut Hub) -> Result<(), Fail> {
-    is_full(alloc, hub)?;
-    plays_on(alloc, hub, &[ANSWERED_FULL])
+fn answers_full(rt: &HostRuntime, hub: &mut Hub) -> Result<(), Fail> {
+    is_full(rt.alloc(), hub)?;
+    plays_on(rt, hub, &[ANSWERED_FULL])
 }
 
 #[test]
 fn as_many_calls_as_a_hub_takes(rt: HostRuntime) -> Result<(), Fail> {
     let mut hub = Hub::new(rt.alloc());
-    answers_full(rt.alloc(), &mut hub)
+    answers_full(&rt, &mut hub)
 }

@@ -74,17 +74,17 @@ const DEPARTURE: &str =
 const ASK: &str = r#"{"from":"R100","kind":"ask","wagon":"338478961232"}"#;
 
 // Fails unless the hub tells which messages may overtake the release of the first planned wagon.
-fn check_all(alloc: Global, hub: &mut Hub) -> Result<(), Fail> {
-    plays_on(alloc, hub, &[PLANNED])?;
-    let release = call(alloc, RELEASE)?;
-    check_line(alloc, hub, &release, OTHER_RELEASE, true)?;
-    check_line(alloc, hub, &release, SAME_NUMBER, false)?;
-    check_line(alloc, hub, &release, DEPARTURE, false)?;
-    check_line(alloc, hub, &release, ASK, false)
+fn check_all(rt: &HostRuntime, hub: &mut Hub) -> Result<(), Fail> {
+    plays_on(rt, hub, &[PLANNED])?;
+    let release = call(rt.alloc(), RELEASE)?;
+    check_line(rt.alloc(), hub, &release, OTHER_RELEASE, true)?;
+    check_line(rt.alloc(), hub, &release, SAME_NUMBER, false)?;
+    check_line(rt.alloc(), hub, &release, DEPARTURE, false)?;
+    check_line(rt.alloc(), hub, &release, ASK, false)
 }
 
 #[test]
 fn messages_that_may_overtake_each_other(rt: HostRuntime) -> Result<(), Fail> {
     let mut hub = Hub::new(rt.alloc());
-    check_all(rt.alloc(), &mut hub)
+    check_all(&rt, &mut hub)
 }

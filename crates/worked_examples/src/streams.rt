@@ -9,7 +9,6 @@ use crate::play::{DEPARTED, input_of, wanted_of};
 use ballast::Ballast;
 use hub_core::Hub;
 use hub_replay::{Counts, RunFault, run};
-use std::alloc::Global;
 use std::test::Fail;
 use taf_codes::{Failed, Failures, Sink, Source};
 
@@ -154,11 +153,11 @@ struct Ran {
 }
 
 // Runs the input through a new hub, with its output behind these bytes.
-fn run_through(alloc: Global, input: &[u8], bytes: Vec<u8>, reach: Reach) -> Ran {
-    let mut hub = Hub::new(alloc);
+fn run_through(rt: &HostRuntime, input: &[u8], bytes: Vec<u8>, reach: Reach) -> Ran {
+    let mut hub = Hub::new(rt.alloc());
     let mut from = Bytes::new(input, reach);
     let mut to = Page::new(bytes, reach);
-    let told = run(alloc, &mut from, &mut to, &mut hub);
+    let told = run(rt, rt.alloc(), &mut from, &mut to, &mut hub);
     Ran {
         told,
         output: to.bytes,
@@ -220,9 +219,9 @@ fn answers_to_first<'a>(input: &[u8], output: &'a [u8], size: usize) -> &'a [u8]
 }
 
 // Whether the script is answered where a reader and a writer go by so many bytes.
-fn goes_by(alloc: Global, input: &[u8], output: &[u8], step: usize, taken: usize) -> bool {
+fn goes_by(rt: &HostRuntime, input: &[u8], output: &[u8], step: usize, taken: usize) -> bool {
     let reach = Reach { step, taken, ..FAR };
-    is_whole(&run_through(alloc, input, Vec::new(alloc), reach), output)
+    is_whole(&run_through(rt, input, Vec::new(rt.alloc()), reach), output)
 }
 
 #[test]
@@ -232,7 +231,7 @@ fn few_bytes_at_once(rt: HostRuntime) -> Result<(), Fail> {
     for step in [1usize, 7, 1_000_000] {
         for taken in [1usize, 3, 1_000_000] {
             assert!(rt;
-                goes_by(rt.alloc(), &input, &output, step, taken),
+                goes_by(&rt, &input, &output, step, taken),
                 "by {step} and {taken}"
             );
         }
@@ -241,13 +240,13 @@ fn few_bytes_at_once(rt: HostRuntime) -> Result<(), Fail> {
 }
 
 // Whether the lines that were read before a read fails are answered, and no more.
-fn fails_to_read(alloc: Global, input: &[u8], output: &[u8], reads: usize) -> bool {
+fn fails_to_read(rt: &HostRuntime, input: &[u8], output: &[u8], reads: usize) -> bool {
     let reach = Reach {
         step: 1,
         reads,
         ..FAR
     };
-    let ran = run_through(alloc, input, Vec::new(alloc), reach);
+    let ran = run_through(rt, input, Vec::new(rt.alloc()), reach);
     is_failed(&ran, RunFault::Read, answers_to_first(input, output, reads))
 }
 
@@ -257,7 +256,7 @@ fn each_read_fails(rt: HostRuntime) -> Result<(), Fail> {
     let output = wanted_of(rt.alloc(), SCRIPT)?;
     for reads in 0..=input.len() {
         assert!(rt;
-            fails_to_read(rt.alloc(), &input, &output, reads),
+            fails_to_read(&rt, &input, &output, reads),
             "at {reads}"
         );
     }
@@ -265,13 +264,13 @@ fn each_read_fails(rt: HostRuntime) -> Result<(), Fail> {
 }
 
 // Whether the bytes that were taken before a write fails are the first ones of the output.
-fn fails_to_write(alloc: Global, input: &[u8], output: &[u8], writes: usize) -> bool {
+fn fails_to_write(rt: &HostRuntime, input: &[u8], output: &[u8], writes: usize) -> bool {
     let reach = Reach {
         taken: 1,
         writes,
         ..FAR
     };
-    let ran = run_through(alloc, input, Vec::new(alloc), reach);
+    let ran = run_through(rt, input, Vec::new(rt.alloc()), reach);
     let front = output.get(..writes).unwrap_or(output);
     is_failed(&ran, RunFault::Write, front) && is_front(&ran, output)
 }
@@ -282,7 +281,7 @@ fn each_write_fails(rt: HostRuntime) -> Result<(), Fail> {
     let output = wanted_of(rt.alloc(), SCRIPT)?;
     for writes in 0..output.len() {
         assert!(rt;
-            fails_to_write(rt.alloc(), &input, &output, writes),
+            fails_to_write(&rt, &input, &output, writes),
             "at {writes}"
         );
     }
@@ -290,9 +289,9 @@ fn each_write_fails(rt: HostRuntime) -> Result<(), Fail> {
 }
 
 // Whether a flush that fails comes behind as many reads, and behind the answers to the lines that they gave.
-fn fails_to_flush(alloc: Global, input: &[u8], output: &[u8], flushes: usize) -> bool {
+fn fails_to_flush(rt: &HostRuntime, input: &[u8], output: &[u8], flushes: usize) -> bool {
     let reach = Reach { flushes, ..FAR };
-    let ran = run_through(alloc, input, Vec::new(alloc), reach);
+    let ran = run_through(rt, input, Vec::new(rt.alloc()), reach);
     let answers = answers_to_first(input, output, flushes.saturating_mul(FAR.step));
     is_failed(&ran, RunFault::Write, answers) && ran.reads.saturating_add(flushes) == MANY
 }
@@ -304,7 +303,7 @@ fn each_flush_fails(rt: HostRuntime) -> Result<(), Fail> {
     let output = wanted_of(rt.alloc(), SCRIPT)?;
     for flushes in 0..=input.len().div_ceil(FAR.step).saturating_add(1) {
         assert!(rt;
-            fails_to_flush(rt.alloc(), &input, &output, flushes),
+            fails_to_flush(&rt, &input, &output, flushes),
             "at {flushes}"
         );
     }
@@ -313,28 +312,28 @@ fn each_flush_fails(rt: HostRuntime) -> Result<(), Fail> {
 
 // What comes of a run where so many bytes are left.
 fn ran_within(
-    alloc: Global,
+    rt: &HostRuntime,
     ballast: &mut Ballast,
     input: &[u8],
     size: usize,
     left: usize,
 ) -> Result<Ran, Fail> {
-    let page = Vec::with_capacity(alloc, size)?;
+    let page = Vec::with_capacity(rt.alloc(), size)?;
     ballast.leave(left)?;
-    let ran = run_through(alloc, input, page, FAR);
+    let ran = run_through(rt, input, page, FAR);
     ballast.ease();
     Ok(ran)
 }
 
 // Whether so many bytes are enough. Fails unless the script is answered, or memory was refused behind a front of the output.
 fn is_enough(
-    alloc: Global,
+    rt: &HostRuntime,
     ballast: &mut Ballast,
     input: &[u8],
     output: &[u8],
     left: usize,
 ) -> Result<bool, Fail> {
-    let ran = ran_within(alloc, ballast, input, output.len(), left)?;
+    let ran = ran_within(rt, ballast, input, output.len(), left)?;
     if is_whole(&ran, output) {
         return Ok(true);
     }
@@ -346,10 +345,10 @@ fn is_enough(
 }
 
 // How many budgets aren't enough, each of 64 bytes more than the one before.
-fn count_budgets(alloc: Global, input: &[u8], output: &[u8]) -> Result<usize, Fail> {
-    let mut ballast = Ballast::new(alloc)?;
+fn count_budgets(rt: &HostRuntime, input: &[u8], output: &[u8]) -> Result<usize, Fail> {
+    let mut ballast = Ballast::new(rt.alloc())?;
     for step in 0..20_000usize {
-        if is_enough(alloc, &mut ballast, input, output, step * 64)? {
+        if is_enough(rt, &mut ballast, input, output, step * 64)? {
             return Ok(step);
         }
     }
@@ -361,7 +360,7 @@ fn count_budgets(alloc: Global, input: &[u8], output: &[u8]) -> Result<usize, Fa
 fn each_growth_of_a_run_is_refused_in_turn(rt: HostRuntime) -> Result<(), Fail> {
     let input = input_of(rt.alloc(), SCRIPT)?;
     let output = wanted_of(rt.alloc(), SCRIPT)?;
-    let budgets = count_budgets(rt.alloc(), &input, &output)?;
+    let budgets = count_budgets(&rt, &input, &output)?;
     assert!(rt; budgets > 1_000, "{budgets}");
     Ok(())
 }

@@ -1,8 +1,7 @@
-use Rattle.std.proofs.Common.{◌≡◌, ◌<◌, length, [], ◌∷◌, refl, sym, ◌∙◌}
-use Rattle.std.proofs.lemmas.Result.{on_ok_weaker, on_err_weaker}
+use Rattle.std.proofs.Common.{◌≡◌, ◌<◌, length, [], ◌∷◌, sym, ◌∙◌}
 use Rattle.hub_replay.specs.Lines.{heard_in}
 use Rattle.hub_replay.proofs.LineLemmas.{heard_line, heard_none, nonempty}
-use Rattle.hub_replay.proofs.RunLemmas.{Goes-none, Goes-read, Goes-append, Stops-here, Stops-after}
+use Rattle.hub_replay.proofs.RunLemmas.{Goes-none, Stops-here}
 use Rattle.hub_replay.proofs.pieces.last_line.Goals as goal
 
 pub returns-then-is_empty-clause-ok : goal.returns-then-is_empty-clause-ok
@@ -15,10 +14,10 @@ pub returns-clause-ok : goal.returns-clause-ok
 returns-clause-ok g c =
     let some : 0 < length c.args.line.now = nonempty c.args.line.now (sym c.is_empty.ensures ∙ c.if-is_empty.false) in
     let e : heard_in c.args.line.now ≡ c.in-Ok.heard ∷ [] = rw (c.in-Ok.ensures.value) (heard_line c.args.line.now c.requires.whole some) in
-    rw e (on_ok_weaker c.turn.result (λ g. Goes-append (Goes-read refl refl) g) c.turn.ensures.ok)
+    rw e c.turn.ensures.ok
 
 pub returns-clause-err : goal.returns-clause-err
 returns-clause-err g c =
     let some : 0 < length c.args.line.now = nonempty c.args.line.now (sym c.is_empty.ensures ∙ c.if-is_empty.false) in
     let e : heard_in c.args.line.now ≡ c.in-Ok.heard ∷ [] = rw (c.in-Ok.ensures.value) (heard_line c.args.line.now c.requires.whole some) in
-    rw e (on_err_weaker c.turn.result (λ s. Stops-after (Goes-read refl refl) s) c.turn.ensures.err)
+    rw e c.turn.ensures.err

@@ -1,0 +1,34 @@
+use Rattle.std.proofs.Common.{◌≡◌, ◌+◌, ◌∙◌, ◌∷◌, [], true, arith, ap, sym, drop, length, length-append}
+use Rattle.std.specs.List.{slice_range}
+use Rattle.std.proofs.lemmas.List.Elements.{All-same, All-push}
+use Rattle.hub_replay.specs.Lines.{CanBeTold, unbroken}
+use Rattle.hub_replay.proofs.LineLemmas.{IsTaken-line, unbroken_slices, unbroken_rest, unbroken_nothing}
+use Rattle.hub_replay.proofs.span.hear_span.Goals as goal
+
+pub returns-in_default : goal.returns-in_default
+returns-in_default c =
+    let i = c.lines.invariant in
+    let left = unbroken_rest c.args.bytes.now c.lines.from c.lines.place i.order i.seen c.in_default.ensures in
+    record {
+      bounds = omega (arith, i.order, i.bounds);
+      says = i.says;
+      told = i.told;
+      few = i.few;
+      none = λ e. sym (ap (λ n. unbroken (drop n c.args.bytes.now)) e) ∙ left;
+    }
+
+pub lines-preserved : goal.lines-preserved
+lines-preserved c =
+    let i = c.lines.invariant in
+    let n = c.in-Some.ensures in
+    let h = c.in_ok-hear.field-0 in
+    let whole : unbroken (slice_range c.args.bytes.now c.lines.from c.in-Some.end) ≡ true = unbroken_slices c.args.bytes.now c.lines.from c.lines.place c.in-Some.end i.order n.0 i.seen n.3 in
+    let more = c.in_ok-push.ensures.items in
+    record {
+      order = omega arith;
+      bounds = omega (arith, n.1);
+      seen = unbroken_nothing c.args.bytes.now (c.in-Some.end + 1);
+      says = rw more (IsTaken-line c.args.bytes.now c.args.bytes.now c.lines.heard.items c.lines.from c.in-Some.end h i.says (omega (arith, i.order, n.0)) n.1 n.2 whole c.in_ok-hear.ensures.value);
+      told = All-same CanBeTold _ _ more (All-push CanBeTold c.lines.heard.items h i.told c.in_ok-hear.ensures.told);
+      few = omega (arith, ap length more, length-append c.lines.heard.items (h ∷ []), i.few, i.order, n.0);
+    }

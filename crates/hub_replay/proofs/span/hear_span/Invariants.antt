@@ -1,0 +1,18 @@
+use Rattle.std.proofs.Common.{◌≡◌, ◌≤◌, ◌-◌, length, drop, true}
+use Rattle.std.specs.List.{All, slice_range}
+use Rattle.hub_replay.specs.Lines.{CanBeTold, IsTaken, unbroken}
+use Rattle.hub_replay.proofs.span.hear_span.Given as goal
+
+-- the lines before `from` are heard, and no newline comes from there to `place`
+abbrev pub invariant-lines : goal.invariant-lines
+invariant-lines l = record {
+  order : l.from ≤ l.place;
+  bounds : l.place ≤ length l.bytes;
+  seen : unbroken (slice_range l.bytes l.from l.place) ≡ true;
+  says : IsTaken l.bytes l.heard.items (drop l.from l.bytes);
+  told : All CanBeTold l.heard.items;
+  few : length l.heard.items ≤ l.from;
+}
+
+abbrev pub decreases-lines : goal.decreases-lines
+decreases-lines l = length l.bytes - l.place

@@ -1,0 +1,46 @@
+//! What lines in a row say.
+ghost use Rattle.std.specs.Prelude.{◌≡◌, ◌<◌, ◌≤◌, true, length, take, IfOk};
+ghost use Rattle.hub_replay.specs.Lines.{unbroken};
+ghost use Rattle.hub_replay.specs.Spans.{IsSpan};
+
+use crate::heard::{Heard, hear};
+use crate::newline::next_newline;
+use std::alloc::Global;
+use taf_codes::Memory;
+use taf_messages::CallReader;
+
+/// What lines in a row say, and where the last of them ends.
+#[derive(Drop)]
+pub(crate) struct Span {
+    pub(crate) heard: Vec<Heard>,
+    /// In bytes, with the newline.
+    pub(crate) end: usize,
+}
+
+/// What the first lines of the bytes say: those that begin among the first so many bytes. No newline comes before
+/// `seen`.
+pub(crate) fn hear_span(
+    alloc: Global,
+    bytes: &[u8],
+    seen: usize,
+    most: usize,
+) -> Result<Span, Memory>
+    requires order { seen ≤ length bytes.now }
+    requires some { 0 < most }
+    requires seen { unbroken (take seen bytes.now) ≡ true }
+    ensures { IfOk result (λ span. IsSpan bytes.now span) }
+{
+    let mut reader = CallReader::new(alloc);
+    let mut heard = Vec::new(alloc);
+    let mut from = 0;
+    let mut place = seen;
+    'lines: while from < most {
+        let Some(end) = next_newline(bytes, place) else {
+            return Ok(Span { heard, end: from });
+        };
+        heard.push(hear(&mut reader, &bytes[from..end])?)?;
+        from = end + 1;
+        place = from;
+    }
+    Ok(Span { heard, end: from })
+}

@@ -1,0 +1,91 @@
+//! What lines say is told, and what the next ones say is heard.
+ghost use Rattle.std.specs.Prelude.{◌≡◌, ◌+◌, ◌*◌, ◌<◌, ◌≤◌, ◌^◌, true, length, take, All, OnOk, OnErr, IfOk, IfErr};
+ghost use Rattle.hub_replay.specs.Lines.{CanBeTold, unbroken};
+ghost use Rattle.hub_replay.specs.Running.{Goes, Stops, tally, ComesLate};
+ghost use Rattle.hub_replay.specs.Spans.{IsSpan};
+
+use crate::desk::Desk;
+use crate::fault::RunFault;
+use crate::heard::Heard;
+use crate::span::{Span, hear_span};
+use crate::turn::{turn, write_much};
+use hub_core::Hub;
+use std::alloc::Global;
+use std::mem::replace;
+use std::thread::{Threads, join_mut};
+use taf_codes::{Memory, Sink};
+
+// How many bytes of lines are heard at once.
+const SPAN: usize = 65_536;
+
+// From so many bytes on the next lines are heard in a thread of their own.
+const MANY: usize = 16_384;
+
+/// What the first lines of the bytes say. No newline comes before `seen`.
+pub(crate) fn hear_first(alloc: Global, bytes: &[u8], seen: usize) -> Result<Span, RunFault>
+    requires order { seen ≤ length bytes.now }
+    requires seen { unbroken (take seen bytes.now) ≡ true }
+    ensures ok { IfOk result (λ span. IsSpan bytes.now span) }
+    ensures err { IfErr result (λ f. f ≡ RunFault.Memory) }
+{
+    match hear_span(alloc, bytes, seen, SPAN) {
+        Ok(span) => Ok(span),
+        Err(Memory) => Err(RunFault::Memory),
+    }
+}
+
+// Answers what lines say, in turn.
+fn tell<W: Sink>(
+    writer: &mut W,
+    hub: &mut Hub,
+    desk: &mut Desk,
+    heard: &mut Vec<Heard>,
+) -> Result<(), RunFault>
+    requires few { tally desk.old.counts + 2 * length heard.old.items < 2 ^ 62 }
+    requires told { All CanBeTold heard.old.items }
+    ensures ok { OnOk result (Goes (W.contents writer.old) (W.contents writer.new) hub.old desk.old hub.new desk.new heard.old.items) }
+    ensures err { OnErr result (Stops (W.contents writer.old) (W.contents writer.new) hub.old desk.old hub.new heard.old.items) }
+    ensures fault { IfErr result (λ f. ComesLate f (W.failures writer.old) (W.failures writer.new)) }
+    ensures kept { OnOk result (W.failures writer.new ≡ W.failures writer.old) }
+    ensures counted { OnOk result (tally desk.new.counts ≤ tally desk.old.counts + 2 * length heard.old.items) }
+{
+    let heard = replace(heard, Vec::new(desk.alloc));
+    for line in heard {
+        turn(writer, hub, desk, line)?;
+        write_much(writer, desk)?;
+    }
+    Ok(())
+}
+
+/// Answers what lines say, in turn, while another thread hears the next lines. Where these are few, they are heard
+/// after it.
+pub(crate) fn tell_and_hear<W: Sink>(
+    rt: &impl Threads,
+    writer: &mut W,
+    hub: &mut Hub,
+    desk: &mut Desk,
+    heard: &mut Vec<Heard>,
+    next: &[u8],
+) -> (Result<(), RunFault>, Result<Span, RunFault>)
+    requires few { tally desk.old.counts + 2 * length heard.old.items < 2 ^ 62 }
+    requires told { All CanBeTold heard.old.items }
+    ensures ok { OnOk result.0 (Goes (W.contents writer.old) (W.contents writer.new) hub.old desk.old hub.new desk.new heard.old.items) }
+    ensures err { OnErr result.0 (Stops (W.contents writer.old) (W.contents writer.new) hub.old desk.old hub.new heard.old.items) }
+    ensures fault { IfErr result.0 (λ f. ComesLate f (W.failures writer.old) (W.failures writer.new)) }
+    ensures kept { OnOk result.0 (W.failures writer.new ≡ W.failures writer.old) }
+    ensures counted { OnOk result.0 (tally desk.new.counts ≤ tally desk.old.counts + 2 * length heard.old.items) }
+    ensures next { IfOk result.1 (λ span. IsSpan next.now span) }
+    ensures refused { IfErr result.1 (λ f. f ≡ RunFault.Memory) }
+{
+    let alloc = desk.alloc;
+    if next.len() < MANY {
+        let told = tell(writer, hub, desk, heard);
+        return (told, hear_first(alloc, next, 0));
+    }
+    let (ahead, told) = join_mut(
+        rt,
+        &mut || hear_first(alloc, next, 0),
+        &mut || tell(writer, hub, desk, heard),
+    );
+    (told, ahead)
+}
