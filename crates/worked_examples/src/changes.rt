@@ -27,7 +27,7 @@ const OTHER_LEGS: &str =
 
 #[test]
 fn a_wagon_gets_other_legs(rt: HostRuntime) -> Result<(), Fail> {
-    plays(&rt, &[DEPARTED, OTHER_LEGS])
+    plays(&rt, rt.alloc(), &[DEPARTED, OTHER_LEGS])
 }
 
 const TOO_MANY_LEGS: &str =
@@ -37,7 +37,7 @@ const TOO_MANY_LEGS: &str =
 #[test]
 fn a_wagon_gets_too_many_legs(rt: HostRuntime) -> Result<(), Fail> {
     let example = [DEPARTED, BOTH_DEPARTED, OFFERED, ANSWERED, TOO_MANY_LEGS];
-    plays(&rt, &example)
+    plays(&rt, rt.alloc(), &example)
 }
 
 /// A plan that loads a unit on the first of its wagons.
@@ -60,7 +60,7 @@ const UNIT: &str = r#"{"from":"R102","kind":"ask_unit","unit":"CSQU3054383"}
 
 #[test]
 fn a_unit_is_loaded(rt: HostRuntime) -> Result<(), Fail> {
-    plays(&rt, &[WITH_UNIT, UNIT])
+    plays(&rt, rt.alloc(), &[WITH_UNIT, UNIT])
 }
 
 // A wrong check digit, a unit that is loaded twice, and one on another's wagon.
@@ -74,5 +74,5 @@ const BAD_UNITS: &str =
 
 #[test]
 fn units_that_no_plan_can_load(rt: HostRuntime) -> Result<(), Fail> {
-    plays(&rt, &[BAD_UNITS])
+    plays(&rt, rt.alloc(), &[BAD_UNITS])
 }

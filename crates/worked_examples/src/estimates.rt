@@ -22,7 +22,7 @@ const DELAY_COUNTS_ONCE: &str = r#"{"from":"R102","kind":"ask","wagon":"21812471
 #[test]
 fn a_delay_counts_once(rt: HostRuntime) -> Result<(), Fail> {
     let example = [DEPARTED, DELAYED, DELAY_COUNTS_ONCE];
-    plays(&rt, &example)
+    plays(&rt, rt.alloc(), &example)
 }
 
 // Another delay, and the fields of the departure under another kind.
@@ -39,7 +39,7 @@ const NUMBERS_REUSED: &str =
 #[test]
 fn a_number_is_used_once(rt: HostRuntime) -> Result<(), Fail> {
     let example = [DEPARTED, DELAYED, NUMBERS_REUSED];
-    plays(&rt, &example)
+    plays(&rt, rt.alloc(), &example)
 }
 
 const ACKNOWLEDGED: &str = r#"{"from":"R100","kind":"fetch","limit":2}
@@ -58,7 +58,7 @@ const ACKNOWLEDGED: &str = r#"{"from":"R100","kind":"fetch","limit":2}
 #[test]
 fn items_are_kept_until_they_are_acknowledged(rt: HostRuntime) -> Result<(), Fail> {
     let example = [DEPARTED, DELAYED, ACKNOWLEDGED];
-    plays(&rt, &example)
+    plays(&rt, rt.alloc(), &example)
 }
 
 // A reported estimate ends the delays before it.
@@ -80,7 +80,7 @@ const REPORTED: &str = r#"{"from":"R100","item":5,"kind":"ack"}
 #[test]
 fn a_reported_estimate(rt: HostRuntime) -> Result<(), Fail> {
     let example = [DEPARTED, DELAYED, REPORTED];
-    plays(&rt, &example)
+    plays(&rt, rt.alloc(), &example)
 }
 
 // Late is what comes after the commitment, and an alert begins once.
@@ -103,7 +103,7 @@ const ALERTS: &str = r#"{"from":"R100","item":2,"kind":"ack"}
 
 #[test]
 fn alerts(rt: HostRuntime) -> Result<(), Fail> {
-    plays(&rt, &[DEPARTED, ALERTS])
+    plays(&rt, rt.alloc(), &[DEPARTED, ALERTS])
 }
 
 const BEYOND_CALENDAR: &str =
@@ -112,7 +112,7 @@ const BEYOND_CALENDAR: &str =
 
 #[test]
 fn past_the_end_of_the_calendar(rt: HostRuntime) -> Result<(), Fail> {
-    plays(&rt, &[DEPARTED, BEYOND_CALENDAR])
+    plays(&rt, rt.alloc(), &[DEPARTED, BEYOND_CALENDAR])
 }
 
 const END_OF_CALENDAR: &str =
@@ -124,7 +124,7 @@ const END_OF_CALENDAR: &str =
 #[test]
 fn the_end_of_the_calendar(rt: HostRuntime) -> Result<(), Fail> {
     let example = [DEPARTED, BOTH_DEPARTED, OFFERED, ANSWERED, END_OF_CALENDAR];
-    plays(&rt, &example)
+    plays(&rt, rt.alloc(), &example)
 }
 
 const DEVIATIONS: &str = r#"{"consignment":"C-1","from":"R100","kind":"deviation"}
@@ -139,7 +139,7 @@ const DEVIATIONS: &str = r#"{"consignment":"C-1","from":"R100","kind":"deviation
 #[test]
 fn deviations(rt: HostRuntime) -> Result<(), Fail> {
     let example = [DEPARTED, DELAYED, DEVIATIONS];
-    plays(&rt, &example)
+    plays(&rt, rt.alloc(), &example)
 }
 
 const TIMES_OF_LEGS: &str =
@@ -160,5 +160,5 @@ const TIMES_OF_LEGS: &str =
 
 #[test]
 fn times_of_legs(rt: HostRuntime) -> Result<(), Fail> {
-    plays(&rt, &[DEPARTED, TIMES_OF_LEGS])
+    plays(&rt, rt.alloc(), &[DEPARTED, TIMES_OF_LEGS])
 }

@@ -4,6 +4,7 @@ use crate::play::{
 };
 use std::alloc::Global;
 use std::test::Fail;
+use std::thread::Threads;
 
 // A session's first line is no call, and without sessions anyone may ask.
 pub(crate) const BAD_LINES: &str = r#"{"kind":"ask","from":"DE
@@ -41,14 +42,14 @@ pub(crate) const BAD_LINES: &str = r#"{"kind":"ask","from":"DE
 
 #[test]
 fn bad_lines(rt: HostRuntime) -> Result<(), Fail> {
-    plays(&rt, &[BAD_LINES])
+    plays(&rt, rt.alloc(), &[BAD_LINES])
 }
 
 #[test]
 fn nothing_is_answered_to_blank_lines(rt: HostRuntime) -> Result<(), Fail> {
     for input in ["", "\n", "\n\n\n", " \t\r", " \n\t\n\r\n\n "] {
         assert_eq!(rt;
-            written_otherwise(&rt, input.as_bytes(), b"")?,
+            written_otherwise(&rt, rt.alloc(), input.as_bytes(), b"")?,
             None,
             "{input:?}"
         );
@@ -82,67 +83,69 @@ fn line_of(alloc: Global, text: &str) -> Result<Vec<u8>, Fail> {
 
 // Where a line that is filled to this size has another answer than `wanted`, with its newline or without.
 fn filled_otherwise(
-    rt: &HostRuntime,
+    rt: &impl Threads,
+    alloc: Global,
     line: &str,
     fill: u8,
     size: usize,
     wanted: &str,
 ) -> Result<Option<String>, Fail> {
-    let wanted = line_of(rt.alloc(), wanted)?;
-    let mut input = filled(rt.alloc(), line, fill, size)?;
-    if let Some(text) = written_otherwise(rt, &input, &wanted)? {
+    let wanted = line_of(alloc, wanted)?;
+    let mut input = filled(alloc, line, fill, size)?;
+    if let Some(text) = written_otherwise(rt, alloc, &input, &wanted)? {
         return Ok(Some(text));
     }
     input.push(b'\n')?;
-    written_otherwise(rt, &input, &wanted)
+    written_otherwise(rt, alloc, &input, &wanted)
 }
 
 #[test]
 fn the_longest_line(rt: HostRuntime) -> Result<(), Fail> {
-    no_difference(filled_otherwise(&rt, ASK, b' ', 65_536, UNKNOWN)?)
+    no_difference(filled_otherwise(&rt, rt.alloc(), ASK, b' ', 65_536, UNKNOWN)?)
 }
 
 #[test]
 fn a_line_that_is_too_long(rt: HostRuntime) -> Result<(), Fail> {
-    no_difference(filled_otherwise(&rt, ASK, b' ', 65_537, TOO_LONG)?)
+    no_difference(filled_otherwise(&rt, rt.alloc(), ASK, b' ', 65_537, TOO_LONG)?)
 }
 
 #[test]
 fn a_line_that_nests_deep(rt: HostRuntime) -> Result<(), Fail> {
-    no_difference(filled_otherwise(&rt, "", b'[', 30_000, BAD_JSON)?)
+    no_difference(filled_otherwise(&rt, rt.alloc(), "", b'[', 30_000, BAD_JSON)?)
 }
 
 // Where a line that is too long and the line behind it are answered otherwise.
 fn followed_otherwise(
-    rt: &HostRuntime,
+    rt: &impl Threads,
+    alloc: Global,
     line: &str,
     fill: u8,
     size: usize,
 ) -> Result<Option<String>, Fail> {
-    let mut input = filled(rt.alloc(), line, fill, size)?;
+    let mut input = filled(alloc, line, fill, size)?;
     add_line(&mut input, "\n\n[]")?;
-    let mut wanted = line_of(rt.alloc(), TOO_LONG)?;
+    let mut wanted = line_of(alloc, TOO_LONG)?;
     add_line(&mut wanted, BAD_JSON)?;
-    written_otherwise(rt, &input, &wanted)
+    written_otherwise(rt, alloc, &input, &wanted)
 }
 
 #[test]
 fn a_line_behind_one_that_is_too_long(rt: HostRuntime) -> Result<(), Fail> {
-    no_difference(followed_otherwise(&rt, ASK, b' ', 65_537)?)?;
-    no_difference(followed_otherwise(&rt, "", b'[', 300_000)?)
+    no_difference(followed_otherwise(&rt, rt.alloc(), ASK, b' ', 65_537)?)?;
+    no_difference(followed_otherwise(&rt, rt.alloc(), "", b'[', 300_000)?)
 }
 
 #[test]
 fn long_blank_lines(rt: HostRuntime) -> Result<(), Fail> {
     let input = filled(rt.alloc(), "", b' ', 65_536)?;
-    no_difference(written_otherwise(&rt, &input, b"")?)?;
-    no_difference(filled_otherwise(&rt, "", b' ', 65_537, TOO_LONG)?)
+    no_difference(written_otherwise(&rt, rt.alloc(), &input, b"")?)?;
+    no_difference(filled_otherwise(&rt, rt.alloc(), "", b' ', 65_537, TOO_LONG)?)
 }
 
 #[test]
 fn lines_that_are_no_text(rt: HostRuntime) -> Result<(), Fail> {
-    no_difference(filled_otherwise(&rt, "", 0xFF, 1, BAD_JSON)?)?;
-    no_difference(filled_otherwise(&rt, "\"", 0xC3, 2, BAD_JSON)?)
+    no_difference(filled_otherwise(&rt, rt.alloc(), "", 0xFF, 1, BAD_JSON)?)?;
+    no_difference(filled_otherwise(&rt, rt.alloc(), "\"", 0xC3, 2, BAD_JSON)?)
 }
 
 /// How many newlines there are.
@@ -184,23 +187,34 @@ fn answers_to(alloc: Global, front: &[u8], rest: &[u8], answers: &[u8]) -> Resul
 }
 
 // Whether the input that is cut at a byte is answered as it has to be.
-fn is_answered(rt: &HostRuntime, input: &[u8], answers: &[u8], cut: usize) -> Result<bool, Fail> {
+fn is_answered(
+    rt: &impl Threads,
+    alloc: Global,
+    input: &[u8],
+    answers: &[u8],
+    cut: usize,
+) -> Result<bool, Fail> {
     let Some((front, rest)) = input.split_at_checked(cut) else {
         return Err(Fail::new("no such cut"));
     };
-    let wanted = answers_to(rt.alloc(), front, rest, answers)?;
-    Ok(written_otherwise(rt, front, &wanted)?.is_none())
+    let wanted = answers_to(alloc, front, rest, answers)?;
+    Ok(written_otherwise(rt, alloc, front, &wanted)?.is_none())
 }
 
 // The first byte of `part`, behind the calls of `before`, at which a cut is answered otherwise.
-fn bad_cut(rt: &HostRuntime, before: &[&str], part: &str) -> Result<Option<usize>, Fail> {
-    let mut input = input_of(rt.alloc(), before)?;
-    let mut answers = wanted_of(rt.alloc(), before)?;
+fn bad_cut(
+    rt: &impl Threads,
+    alloc: Global,
+    before: &[&str],
+    part: &str,
+) -> Result<Option<usize>, Fail> {
+    let mut input = input_of(alloc, before)?;
+    let mut answers = wanted_of(alloc, before)?;
     let start = input.len();
     add_calls(&mut input, part)?;
     add_answers(&mut answers, part)?;
     for cut in start..=input.len() {
-        if !is_answered(rt, &input, &answers, cut)? {
+        if !is_answered(rt, alloc, &input, &answers, cut)? {
             return Ok(Some(cut));
         }
     }
@@ -209,26 +223,26 @@ fn bad_cut(rt: &HostRuntime, before: &[&str], part: &str) -> Result<Option<usize
 
 #[test]
 fn a_departure_is_cut_at_every_byte(rt: HostRuntime) -> Result<(), Fail> {
-    assert_eq!(rt; bad_cut(&rt, &[], DEPARTED)?, None);
+    assert_eq!(rt; bad_cut(&rt, rt.alloc(), &[], DEPARTED)?, None);
     Ok(())
 }
 
 #[test]
 fn another_departure_is_cut_at_every_byte(rt: HostRuntime) -> Result<(), Fail> {
-    assert_eq!(rt; bad_cut(&rt, &[DEPARTED], BOTH_DEPARTED)?, None);
+    assert_eq!(rt; bad_cut(&rt, rt.alloc(), &[DEPARTED], BOTH_DEPARTED)?, None);
     Ok(())
 }
 
 #[test]
 fn an_offer_is_cut_at_every_byte(rt: HostRuntime) -> Result<(), Fail> {
     let before = [DEPARTED, BOTH_DEPARTED];
-    assert_eq!(rt; bad_cut(&rt, &before, OFFERED)?, None);
+    assert_eq!(rt; bad_cut(&rt, rt.alloc(), &before, OFFERED)?, None);
     Ok(())
 }
 
 #[test]
 fn an_answer_is_cut_at_every_byte(rt: HostRuntime) -> Result<(), Fail> {
     let before = [DEPARTED, BOTH_DEPARTED, OFFERED];
-    assert_eq!(rt; bad_cut(&rt, &before, ANSWERED)?, None);
+    assert_eq!(rt; bad_cut(&rt, rt.alloc(), &before, ANSWERED)?, None);
     Ok(())
 }

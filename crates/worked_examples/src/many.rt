@@ -5,6 +5,7 @@ use crate::play::{
 use hub_core::{Hub, HubFault};
 use std::alloc::Global;
 use std::test::Fail;
+use std::thread::Threads;
 use taf_messages::{Call, copy_call, read_call};
 
 // A plan of 60 wagons over eight legs.
@@ -23,10 +24,10 @@ const WAGONS_61: &str =
 > {"code":4,"fault":"bad_plan"}"#;
 
 // Fails unless an example is answered as it says, and as many wagons are planned then as the report's first line says.
-fn plays_with(rt: &HostRuntime, example: &str, wagons: &str) -> Result<(), Fail> {
-    plays(rt, &[example])?;
-    let input = input_of(rt.alloc(), &[example])?;
-    let report = report_after(rt, &input)?;
+fn plays_with(rt: &impl Threads, alloc: Global, example: &str, wagons: &str) -> Result<(), Fail> {
+    plays(rt, alloc, &[example])?;
+    let input = input_of(alloc, &[example])?;
+    let report = report_after(rt, alloc, &input)?;
     if report.lines().next() == Some(wagons) {
         Ok(())
     } else {
@@ -36,17 +37,17 @@ fn plays_with(rt: &HostRuntime, example: &str, wagons: &str) -> Result<(), Fail>
 
 #[test]
 fn as_many_wagons_and_legs_as_a_plan_has(rt: HostRuntime) -> Result<(), Fail> {
-    plays_with(&rt, MOST_WAGONS_AND_LEGS, "wagons 60")
+    plays_with(&rt, rt.alloc(), MOST_WAGONS_AND_LEGS, "wagons 60")
 }
 
 #[test]
 fn more_legs_than_a_plan_has(rt: HostRuntime) -> Result<(), Fail> {
-    plays_with(&rt, NINE_LEGS, "wagons 0")
+    plays_with(&rt, rt.alloc(), NINE_LEGS, "wagons 0")
 }
 
 #[test]
 fn more_wagons_than_a_plan_has(rt: HostRuntime) -> Result<(), Fail> {
-    plays_with(&rt, WAGONS_61, "wagons 0")
+    plays_with(&rt, rt.alloc(), WAGONS_61, "wagons 0")
 }
 
 // A delay of a minute with each of the numbers from 2 to 25, and an arrival in the yard: with the departure these make 51
@@ -115,7 +116,7 @@ const PAGES: &str =
 
 #[test]
 fn items_come_in_pages(rt: HostRuntime) -> Result<(), Fail> {
-    plays(&rt, &[DEPARTED, PAGES])
+    plays(&rt, rt.alloc(), &[DEPARTED, PAGES])
 }
 
 // Adds a delay of a minute with each of the numbers from 2 to 20,001.
@@ -153,14 +154,16 @@ const AFTER_DELAYS: &str = r#"{"from":"R100","item":64,"kind":"ack"}
 const LATE: &str =
     "218124712173 R100 R101 0 running   ------- 2025-03-15T12:20Z     19970 loaded_on_journey";
 
-fn delays_input(alloc: Global) -> Result<Vec<u8>, Fail> {
+/// A departure, and then twenty thousand delays.
+pub(crate) fn delays_input(alloc: Global) -> Result<Vec<u8>, Fail> {
     let mut input = input_of(alloc, &[DEPARTED])?;
     add_delays(alloc, &mut input)?;
     add_calls(&mut input, AFTER_DELAYS)?;
     Ok(input)
 }
 
-fn delays_wanted(alloc: Global) -> Result<Vec<u8>, Fail> {
+/// What is answered to these.
+pub(crate) fn delays_wanted(alloc: Global) -> Result<Vec<u8>, Fail> {
     let mut wanted = wanted_of(alloc, &[DEPARTED])?;
     add_accepted(alloc, &mut wanted)?;
     add_answers(&mut wanted, AFTER_DELAYS)?;
@@ -171,13 +174,13 @@ fn delays_wanted(alloc: Global) -> Result<Vec<u8>, Fail> {
 fn twenty_thousand_delays(rt: HostRuntime) -> Result<(), Fail> {
     let input = delays_input(rt.alloc())?;
     let wanted = delays_wanted(rt.alloc())?;
-    no_difference(written_otherwise(&rt, &input, &wanted)?)
+    no_difference(written_otherwise(&rt, rt.alloc(), &input, &wanted)?)
 }
 
 #[test]
 fn a_report_of_twenty_thousand_delays(rt: HostRuntime) -> Result<(), Fail> {
     let input = delays_input(rt.alloc())?;
-    let report = report_after(&rt, &input)?;
+    let report = report_after(&rt, rt.alloc(), &input)?;
     if report.lines().nth(1) == Some(LATE) {
         Ok(())
     } else {
@@ -219,13 +222,13 @@ fn is_full(alloc: Global, hub: &mut Hub) -> Result<(), Fail> {
 const ANSWERED_FULL: &str = r#"{"kind":"ask","from":"R100","wagon":"318066552148"}
 > {"fault":"hub_full"}"#;
 
-fn answers_full(rt: &HostRuntime, hub: &mut Hub) -> Result<(), Fail> {
-    is_full(rt.alloc(), hub)?;
-    plays_on(rt, hub, &[ANSWERED_FULL])
+fn answers_full(rt: &impl Threads, alloc: Global, hub: &mut Hub) -> Result<(), Fail> {
+    is_full(alloc, hub)?;
+    plays_on(rt, alloc, hub, &[ANSWERED_FULL])
 }
 
 #[test]
 fn as_many_calls_as_a_hub_takes(rt: HostRuntime) -> Result<(), Fail> {
     let mut hub = Hub::new(rt.alloc());
-    answers_full(&rt, &mut hub)
+    answers_full(&rt, rt.alloc(), &mut hub)
 }

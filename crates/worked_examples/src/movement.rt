@@ -21,7 +21,7 @@ pub(crate) const AFTER_DEPARTURE: &str = r#"{"from":"R102","kind":"ask","wagon":
 
 #[test]
 fn a_wagon_departs(rt: HostRuntime) -> Result<(), Fail> {
-    plays(&rt, &[DEPARTED, AFTER_DEPARTURE])
+    plays(&rt, rt.alloc(), &[DEPARTED, AFTER_DEPARTURE])
 }
 
 const UNKNOWN: &str = r#"{"from":"R100","kind":"ask","wagon":"318066552148"}
@@ -37,7 +37,7 @@ const UNKNOWN: &str = r#"{"from":"R100","kind":"ask","wagon":"318066552148"}
 
 #[test]
 fn an_unknown_wagon(rt: HostRuntime) -> Result<(), Fail> {
-    plays(&rt, &[UNKNOWN])
+    plays(&rt, rt.alloc(), &[UNKNOWN])
 }
 
 // A refused message stays refused when it is repeated.
@@ -55,7 +55,7 @@ const BEFORE_RELEASE: &str =
 
 #[test]
 fn a_departure_before_its_release(rt: HostRuntime) -> Result<(), Fail> {
-    plays(&rt, &[BEFORE_RELEASE])
+    plays(&rt, rt.alloc(), &[BEFORE_RELEASE])
 }
 
 const EMPTY_OVER_ONE_LEG: &str =
@@ -84,7 +84,7 @@ const EMPTY_OVER_ONE_LEG: &str =
 
 #[test]
 fn an_empty_wagon_over_one_leg(rt: HostRuntime) -> Result<(), Fail> {
-    plays(&rt, &[EMPTY_OVER_ONE_LEG])
+    plays(&rt, rt.alloc(), &[EMPTY_OVER_ONE_LEG])
 }
 
 const ARRIVAL_ON_THE_FIRST_LEG: &str =
@@ -93,5 +93,5 @@ const ARRIVAL_ON_THE_FIRST_LEG: &str =
 
 #[test]
 fn an_arrival_on_the_first_of_two_legs(rt: HostRuntime) -> Result<(), Fail> {
-    plays(&rt, &[DEPARTED, ARRIVAL_ON_THE_FIRST_LEG])
+    plays(&rt, rt.alloc(), &[DEPARTED, ARRIVAL_ON_THE_FIRST_LEG])
 }

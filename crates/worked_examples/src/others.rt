@@ -3,11 +3,12 @@ use crate::play::{DEPARTED, plays_on, reports};
 use hub_core::Hub;
 use std::alloc::Global;
 use std::test::Fail;
+use std::thread::Threads;
 use taf_messages::{Call, read_call};
 
 #[test]
 fn a_report_of_nothing(rt: HostRuntime) -> Result<(), Fail> {
-    reports(rt.alloc(), &[], "wagons 0\n")
+    reports(&rt, rt.alloc(), &[], "wagons 0\n")
 }
 
 const REPORT: &str = "wagons 2
@@ -17,7 +18,7 @@ const REPORT: &str = "wagons 2
 
 #[test]
 fn a_report(rt: HostRuntime) -> Result<(), Fail> {
-    reports(rt.alloc(), &[DEPARTED], REPORT)
+    reports(&rt, rt.alloc(), &[DEPARTED], REPORT)
 }
 
 const REPORT_WITH_UNIT: &str = "wagons 2
@@ -27,7 +28,7 @@ const REPORT_WITH_UNIT: &str = "wagons 2
 
 #[test]
 fn a_report_with_a_unit(rt: HostRuntime) -> Result<(), Fail> {
-    reports(rt.alloc(), &[WITH_UNIT], REPORT_WITH_UNIT)
+    reports(&rt, rt.alloc(), &[WITH_UNIT], REPORT_WITH_UNIT)
 }
 
 const PLANNED: &str =
@@ -74,17 +75,17 @@ const DEPARTURE: &str =
 const ASK: &str = r#"{"from":"R100","kind":"ask","wagon":"338478961232"}"#;
 
 // Fails unless the hub tells which messages may overtake the release of the first planned wagon.
-fn check_all(rt: &HostRuntime, hub: &mut Hub) -> Result<(), Fail> {
-    plays_on(rt, hub, &[PLANNED])?;
-    let release = call(rt.alloc(), RELEASE)?;
-    check_line(rt.alloc(), hub, &release, OTHER_RELEASE, true)?;
-    check_line(rt.alloc(), hub, &release, SAME_NUMBER, false)?;
-    check_line(rt.alloc(), hub, &release, DEPARTURE, false)?;
-    check_line(rt.alloc(), hub, &release, ASK, false)
+fn check_all(rt: &impl Threads, alloc: Global, hub: &mut Hub) -> Result<(), Fail> {
+    plays_on(rt, alloc, hub, &[PLANNED])?;
+    let release = call(alloc, RELEASE)?;
+    check_line(alloc, hub, &release, OTHER_RELEASE, true)?;
+    check_line(alloc, hub, &release, SAME_NUMBER, false)?;
+    check_line(alloc, hub, &release, DEPARTURE, false)?;
+    check_line(alloc, hub, &release, ASK, false)
 }
 
 #[test]
 fn messages_that_may_overtake_each_other(rt: HostRuntime) -> Result<(), Fail> {
     let mut hub = Hub::new(rt.alloc());
-    check_all(&rt, &mut hub)
+    check_all(&rt, rt.alloc(), &mut hub)
 }

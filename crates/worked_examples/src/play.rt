@@ -5,6 +5,7 @@ use hub_replay::run;
 use std::alloc::Global;
 use std::str;
 use std::test::Fail;
+use std::thread::Threads;
 use taf_codes::Std;
 use wimo_report::plain_lines;
 
@@ -93,10 +94,15 @@ pub(crate) fn wanted_of(alloc: Global, example: &[&str]) -> Result<Vec<u8>, Fail
 }
 
 /// What the hub writes to these bytes.
-pub(crate) fn output_of(rt: &HostRuntime, hub: &mut Hub, input: &[u8]) -> Result<Vec<u8>, Fail> {
+pub(crate) fn output_of(
+    rt: &impl Threads,
+    alloc: Global,
+    hub: &mut Hub,
+    input: &[u8],
+) -> Result<Vec<u8>, Fail> {
     let mut reader = Std::new(input);
-    let mut writer = Std::new(Vec::new(rt.alloc()));
-    run(rt, rt.alloc(), &mut reader, &mut writer, hub)?;
+    let mut writer = Std::new(Vec::new(alloc));
+    run(rt, alloc, &mut reader, &mut writer, hub)?;
     Ok(writer.into_inner())
 }
 
@@ -130,23 +136,25 @@ pub(crate) fn difference(
 
 // Where what the hub writes to these bytes isn't what is wanted.
 fn written_by(
-    rt: &HostRuntime,
+    rt: &impl Threads,
+    alloc: Global,
     hub: &mut Hub,
     input: &[u8],
     wanted: &[u8],
 ) -> Result<Option<String>, Fail> {
-    let output = output_of(rt, hub, input)?;
-    difference(rt.alloc(), &output, wanted)
+    let output = output_of(rt, alloc, hub, input)?;
+    difference(alloc, &output, wanted)
 }
 
 /// Where what a new hub writes to these bytes isn't what is wanted.
 pub(crate) fn written_otherwise(
-    rt: &HostRuntime,
+    rt: &impl Threads,
+    alloc: Global,
     input: &[u8],
     wanted: &[u8],
 ) -> Result<Option<String>, Fail> {
-    let mut hub = Hub::new(rt.alloc());
-    written_by(rt, &mut hub, input, wanted)
+    let mut hub = Hub::new(alloc);
+    written_by(rt, alloc, &mut hub, input, wanted)
 }
 
 /// Fails with the difference, if there is one.
@@ -158,17 +166,22 @@ pub(crate) fn no_difference(difference: Option<String>) -> Result<(), Fail> {
 }
 
 /// Fails unless the hub answers the calls of an example as it says.
-pub(crate) fn plays_on(rt: &HostRuntime, hub: &mut Hub, example: &[&str]) -> Result<(), Fail> {
-    let input = input_of(rt.alloc(), example)?;
-    let wanted = wanted_of(rt.alloc(), example)?;
-    no_difference(written_by(rt, hub, &input, &wanted)?)
+pub(crate) fn plays_on(
+    rt: &impl Threads,
+    alloc: Global,
+    hub: &mut Hub,
+    example: &[&str],
+) -> Result<(), Fail> {
+    let input = input_of(alloc, example)?;
+    let wanted = wanted_of(alloc, example)?;
+    no_difference(written_by(rt, alloc, hub, &input, &wanted)?)
 }
 
 /// Fails unless a new hub answers the calls of an example as it says.
-pub(crate) fn plays(rt: &HostRuntime, example: &[&str]) -> Result<(), Fail> {
-    let input = input_of(rt.alloc(), example)?;
-    let wanted = wanted_of(rt.alloc(), example)?;
-    no_difference(written_otherwise(rt, &input, &wanted)?)
+pub(crate) fn plays(rt: &impl Threads, alloc: Global, example: &[&str]) -> Result<(), Fail> {
+    let input = input_of(alloc, example)?;
+    let wanted = wanted_of(alloc, example)?;
+    no_difference(written_otherwise(rt, alloc, &input, &wanted)?)
 }
 
 fn joined(alloc: Global, lines: &[String]) -> Result<String, Fail> {
@@ -185,21 +198,31 @@ fn report_of(alloc: Global, view: &View) -> Result<String, Fail> {
     joined(alloc, &lines)
 }
 
-fn report_by(rt: &HostRuntime, hub: &mut Hub, input: &[u8]) -> Result<String, Fail> {
-    output_of(rt, hub, input)?;
+fn report_by(
+    rt: &impl Threads,
+    alloc: Global,
+    hub: &mut Hub,
+    input: &[u8],
+) -> Result<String, Fail> {
+    output_of(rt, alloc, hub, input)?;
     let view = hub.view()?;
-    report_of(rt.alloc(), &view)
+    report_of(alloc, &view)
 }
 
 /// The report of a new hub after these bytes, each of its lines with a newline.
-pub(crate) fn report_after(rt: &HostRuntime, input: &[u8]) -> Result<String, Fail> {
-    let mut hub = Hub::new(rt.alloc());
-    report_by(rt, &mut hub, input)
+pub(crate) fn report_after(rt: &impl Threads, alloc: Global, input: &[u8]) -> Result<String, Fail> {
+    let mut hub = Hub::new(alloc);
+    report_by(rt, alloc, &mut hub, input)
 }
 
 /// Fails unless the report after an example is this.
-pub(crate) fn reports(rt: &HostRuntime, example: &[&str], wanted: &str) -> Result<(), Fail> {
-    let input = input_of(rt.alloc(), example)?;
-    let report = report_after(rt, &input)?;
-    no_difference(difference(rt.alloc(), report.as_bytes(), wanted.as_bytes())?)
+pub(crate) fn reports(
+    rt: &impl Threads,
+    alloc: Global,
+    example: &[&str],
+    wanted: &str,
+) -> Result<(), Fail> {
+    let input = input_of(alloc, example)?;
+    let report = report_after(rt, alloc, &input)?;
+    no_difference(difference(alloc, report.as_bytes(), wanted.as_bytes())?)
 }

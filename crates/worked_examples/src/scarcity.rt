@@ -6,6 +6,7 @@ use ballast::Ballast;
 use hub_core::{Hub, View};
 use std::alloc::Global;
 use std::test::Fail;
+use std::thread::Threads;
 use taf_messages::{Call, Reply, append_reply, read_call};
 
 // The reply of the hub, if memory isn't refused.
@@ -112,23 +113,34 @@ impl Scarcity {
     }
 
     // The view after the interchange. Fails unless the railways have the records and items then that they ever have.
-    fn view_after(&mut self, rt: &HostRuntime, hub: &mut Hub) -> Result<View, Fail> {
-        self.interchange(rt.alloc(), hub)?;
-        plays_on(rt, hub, &[AFTER_INTERCHANGE])?;
+    fn view_after(
+        &mut self,
+        rt: &impl Threads,
+        alloc: Global,
+        hub: &mut Hub,
+    ) -> Result<View, Fail> {
+        self.interchange(alloc, hub)?;
+        plays_on(rt, alloc, hub, &[AFTER_INTERCHANGE])?;
         self.view(hub)
     }
 
     // The same of a new hub, where so many bytes are left for each call.
-    fn seen(&mut self, rt: &HostRuntime, left: usize) -> Result<View, Fail> {
+    fn seen(&mut self, rt: &impl Threads, alloc: Global, left: usize) -> Result<View, Fail> {
         self.left = left;
         self.refused = 0;
-        let mut hub = Hub::new(rt.alloc());
-        self.view_after(rt, &mut hub)
+        let mut hub = Hub::new(alloc);
+        self.view_after(rt, alloc, &mut hub)
     }
 
     // Whether so many bytes are enough. Fails unless the view is this one.
-    fn is_enough(&mut self, rt: &HostRuntime, left: usize, wanted: &View) -> Result<bool, Fail> {
-        let view = self.seen(rt, left)?;
+    fn is_enough(
+        &mut self,
+        rt: &impl Threads,
+        alloc: Global,
+        left: usize,
+        wanted: &View,
+    ) -> Result<bool, Fail> {
+        let view = self.seen(rt, alloc, left)?;
         if view.records() != wanted.records() {
             return Err(Fail::new("other records"));
         }
@@ -136,21 +148,21 @@ impl Scarcity {
     }
 
     // How many budgets aren't enough, each of sixteen bytes more than the one before.
-    fn budgets(&mut self, rt: &HostRuntime, wanted: &View) -> Result<usize, Fail> {
+    fn budgets(&mut self, rt: &impl Threads, alloc: Global, wanted: &View) -> Result<usize, Fail> {
         for step in 0..100_000usize {
-            if self.is_enough(rt, step * 16, wanted)? {
+            if self.is_enough(rt, alloc, step * 16, wanted)? {
                 return Ok(step);
             }
         }
         Err(Fail::new("always refused"))
     }
 
-    fn check(&mut self, rt: &HostRuntime) -> Result<(), Fail> {
-        let view = self.seen(rt, 1 << 20)?;
+    fn check(&mut self, rt: &impl Threads, alloc: Global) -> Result<(), Fail> {
+        let view = self.seen(rt, alloc, 1 << 20)?;
         if self.refused > 0 || view.records().len() != 2 {
             return Err(Fail::new("refused, or not both wagons"));
         }
-        if self.budgets(rt, &view)? > 20 {
+        if self.budgets(rt, alloc, &view)? > 20 {
             Ok(())
         } else {
             Err(Fail::new("refused too seldom"))
@@ -161,5 +173,5 @@ impl Scarcity {
 #[test]
 fn each_growth_is_refused_in_turn(rt: HostRuntime) -> Result<(), Fail> {
     let mut scarcity = Scarcity::new(rt.alloc())?;
-    scarcity.check(&rt)
+    scarcity.check(&rt, rt.alloc())
 }

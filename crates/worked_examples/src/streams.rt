@@ -4,12 +4,15 @@ ghost use Rattle.std.specs.Prelude.{None};
 ghost use Rattle.taf_codes.specs.Counting.{count};
 
 use crate::lines::{BAD_LINES, count_lines, first_lines};
+use crate::many::{delays_input, delays_wanted};
 use crate::movement::AFTER_DEPARTURE;
 use crate::play::{DEPARTED, input_of, wanted_of};
 use ballast::Ballast;
 use hub_core::Hub;
 use hub_replay::{Counts, RunFault, run};
+use std::alloc::Global;
 use std::test::Fail;
+use std::thread::Threads;
 use taf_codes::{Failed, Failures, Sink, Source};
 
 const BLANK_LINES: &str = "\n \t\n  ";
@@ -153,11 +156,17 @@ struct Ran {
 }
 
 // Runs the input through a new hub, with its output behind these bytes.
-fn run_through(rt: &HostRuntime, input: &[u8], bytes: Vec<u8>, reach: Reach) -> Ran {
-    let mut hub = Hub::new(rt.alloc());
+fn run_through(
+    rt: &impl Threads,
+    alloc: Global,
+    input: &[u8],
+    bytes: Vec<u8>,
+    reach: Reach,
+) -> Ran {
+    let mut hub = Hub::new(alloc);
     let mut from = Bytes::new(input, reach);
     let mut to = Page::new(bytes, reach);
-    let told = run(rt, rt.alloc(), &mut from, &mut to, &mut hub);
+    let told = run(rt, alloc, &mut from, &mut to, &mut hub);
     Ran {
         told,
         output: to.bytes,
@@ -219,9 +228,19 @@ fn answers_to_first<'a>(input: &[u8], output: &'a [u8], size: usize) -> &'a [u8]
 }
 
 // Whether the script is answered where a reader and a writer go by so many bytes.
-fn goes_by(rt: &HostRuntime, input: &[u8], output: &[u8], step: usize, taken: usize) -> bool {
+fn goes_by(
+    rt: &impl Threads,
+    alloc: Global,
+    input: &[u8],
+    output: &[u8],
+    step: usize,
+    taken: usize,
+) -> bool {
     let reach = Reach { step, taken, ..FAR };
-    is_whole(&run_through(rt, input, Vec::new(rt.alloc()), reach), output)
+    is_whole(
+        &run_through(rt, alloc, input, Vec::new(alloc), reach),
+        output,
+    )
 }
 
 #[test]
@@ -231,7 +250,7 @@ fn few_bytes_at_once(rt: HostRuntime) -> Result<(), Fail> {
     for step in [1usize, 7, 1_000_000] {
         for taken in [1usize, 3, 1_000_000] {
             assert!(rt;
-                goes_by(&rt, &input, &output, step, taken),
+                goes_by(&rt, rt.alloc(), &input, &output, step, taken),
                 "by {step} and {taken}"
             );
         }
@@ -240,13 +259,19 @@ fn few_bytes_at_once(rt: HostRuntime) -> Result<(), Fail> {
 }
 
 // Whether the lines that were read before a read fails are answered, and no more.
-fn fails_to_read(rt: &HostRuntime, input: &[u8], output: &[u8], reads: usize) -> bool {
+fn fails_to_read(
+    rt: &impl Threads,
+    alloc: Global,
+    input: &[u8],
+    output: &[u8],
+    reads: usize,
+) -> bool {
     let reach = Reach {
         step: 1,
         reads,
         ..FAR
     };
-    let ran = run_through(rt, input, Vec::new(rt.alloc()), reach);
+    let ran = run_through(rt, alloc, input, Vec::new(alloc), reach);
     is_failed(&ran, RunFault::Read, answers_to_first(input, output, reads))
 }
 
@@ -256,7 +281,7 @@ fn each_read_fails(rt: HostRuntime) -> Result<(), Fail> {
     let output = wanted_of(rt.alloc(), SCRIPT)?;
     for reads in 0..=input.len() {
         assert!(rt;
-            fails_to_read(&rt, &input, &output, reads),
+            fails_to_read(&rt, rt.alloc(), &input, &output, reads),
             "at {reads}"
         );
     }
@@ -264,13 +289,19 @@ fn each_read_fails(rt: HostRuntime) -> Result<(), Fail> {
 }
 
 // Whether the bytes that were taken before a write fails are the first ones of the output.
-fn fails_to_write(rt: &HostRuntime, input: &[u8], output: &[u8], writes: usize) -> bool {
+fn fails_to_write(
+    rt: &impl Threads,
+    alloc: Global,
+    input: &[u8],
+    output: &[u8],
+    writes: usize,
+) -> bool {
     let reach = Reach {
         taken: 1,
         writes,
         ..FAR
     };
-    let ran = run_through(rt, input, Vec::new(rt.alloc()), reach);
+    let ran = run_through(rt, alloc, input, Vec::new(alloc), reach);
     let front = output.get(..writes).unwrap_or(output);
     is_failed(&ran, RunFault::Write, front) && is_front(&ran, output)
 }
@@ -281,17 +312,40 @@ fn each_write_fails(rt: HostRuntime) -> Result<(), Fail> {
     let output = wanted_of(rt.alloc(), SCRIPT)?;
     for writes in 0..output.len() {
         assert!(rt;
-            fails_to_write(&rt, &input, &output, writes),
+            fails_to_write(&rt, rt.alloc(), &input, &output, writes),
             "at {writes}"
         );
     }
     Ok(())
 }
 
+// Many lines are read at once, so the next are heard while some are answered.
+#[test]
+fn a_write_fails_among_many_lines(rt: HostRuntime) -> Result<(), Fail> {
+    let input = delays_input(rt.alloc())?;
+    let output = delays_wanted(rt.alloc())?;
+    let reach = Reach {
+        step: MANY,
+        taken: MANY,
+        writes: 12_345,
+        ..FAR
+    };
+    let ran = run_through(&rt, rt.alloc(), &input, Vec::new(rt.alloc()), reach);
+    assert!(rt; is_failed(&ran, RunFault::Write, first_lines(&output, 12_345)));
+    assert_eq!(rt; ran.entries, 12_346);
+    Ok(())
+}
+
 // Whether a flush that fails comes behind as many reads, and behind the answers to the lines that they gave.
-fn fails_to_flush(rt: &HostRuntime, input: &[u8], output: &[u8], flushes: usize) -> bool {
+fn fails_to_flush(
+    rt: &impl Threads,
+    alloc: Global,
+    input: &[u8],
+    output: &[u8],
+    flushes: usize,
+) -> bool {
     let reach = Reach { flushes, ..FAR };
-    let ran = run_through(rt, input, Vec::new(rt.alloc()), reach);
+    let ran = run_through(rt, alloc, input, Vec::new(alloc), reach);
     let answers = answers_to_first(input, output, flushes.saturating_mul(FAR.step));
     is_failed(&ran, RunFault::Write, answers) && ran.reads.saturating_add(flushes) == MANY
 }
@@ -303,37 +357,44 @@ fn each_flush_fails(rt: HostRuntime) -> Result<(), Fail> {
     let output = wanted_of(rt.alloc(), SCRIPT)?;
     for flushes in 0..=input.len().div_ceil(FAR.step).saturating_add(1) {
         assert!(rt;
-            fails_to_flush(&rt, &input, &output, flushes),
+            fails_to_flush(&rt, rt.alloc(), &input, &output, flushes),
             "at {flushes}"
         );
     }
     Ok(())
 }
 
-// What comes of a run where so many bytes are left.
+// The bytes that a run holds its input in.
+const HELD: usize = 1_114_112;
+
+// What comes of a run where so many bytes are left, beside those that hold its input.
 fn ran_within(
-    rt: &HostRuntime,
+    rt: &impl Threads,
+    alloc: Global,
     ballast: &mut Ballast,
     input: &[u8],
     size: usize,
     left: usize,
 ) -> Result<Ran, Fail> {
-    let page = Vec::with_capacity(rt.alloc(), size)?;
+    let held: Vec<u8> = Vec::with_capacity(alloc, HELD)?;
+    let page = Vec::with_capacity(alloc, size)?;
     ballast.leave(left)?;
-    let ran = run_through(rt, input, page, FAR);
+    drop(held);
+    let ran = run_through(rt, alloc, input, page, FAR);
     ballast.ease();
     Ok(ran)
 }
 
 // Whether so many bytes are enough. Fails unless the script is answered, or memory was refused behind a front of the output.
 fn is_enough(
-    rt: &HostRuntime,
+    rt: &impl Threads,
+    alloc: Global,
     ballast: &mut Ballast,
     input: &[u8],
     output: &[u8],
     left: usize,
 ) -> Result<bool, Fail> {
-    let ran = ran_within(rt, ballast, input, output.len(), left)?;
+    let ran = ran_within(rt, alloc, ballast, input, output.len(), left)?;
     if is_whole(&ran, output) {
         return Ok(true);
     }
@@ -345,22 +406,26 @@ fn is_enough(
 }
 
 // How many budgets aren't enough, each of 64 bytes more than the one before.
-fn count_budgets(rt: &HostRuntime, input: &[u8], output: &[u8]) -> Result<usize, Fail> {
-    let mut ballast = Ballast::new(rt.alloc())?;
+fn count_budgets(
+    rt: &impl Threads,
+    alloc: Global,
+    input: &[u8],
+    output: &[u8],
+) -> Result<usize, Fail> {
+    let mut ballast = Ballast::new(alloc)?;
     for step in 0..20_000usize {
-        if is_enough(rt, &mut ballast, input, output, step * 64)? {
+        if is_enough(rt, alloc, &mut ballast, input, output, step * 64)? {
             return Ok(step);
         }
     }
     Err(Fail::new("always refused"))
 }
 
-// The input is held in 131,072 bytes, so this many at least aren't enough.
 #[test]
 fn each_growth_of_a_run_is_refused_in_turn(rt: HostRuntime) -> Result<(), Fail> {
     let input = input_of(rt.alloc(), SCRIPT)?;
     let output = wanted_of(rt.alloc(), SCRIPT)?;
-    let budgets = count_budgets(&rt, &input, &output)?;
-    assert!(rt; budgets > 1_000, "{budgets}");
+    let budgets = count_budgets(&rt, rt.alloc(), &input, &output)?;
+    assert!(rt; budgets > 300, "{budgets}");
     Ok(())
 }

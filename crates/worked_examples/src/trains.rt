@@ -9,7 +9,7 @@ const NOT_OFFERED: &str = r#"{"from":"R100","kind":"ask","wagon":"218124712173"}
 #[test]
 fn an_offer_is_made_for_all_wagons_or_none(rt: HostRuntime) -> Result<(), Fail> {
     let example = [DEPARTED, BOTH_DEPARTED, NOT_OFFERED];
-    plays(&rt, &example)
+    plays(&rt, rt.alloc(), &example)
 }
 
 /// After the interchange: the records of both wagons, and what each railway was sent.
@@ -35,7 +35,7 @@ fn an_answer_receives_and_refuses(rt: HostRuntime) -> Result<(), Fail> {
         ANSWERED,
         AFTER_INTERCHANGE,
     ];
-    plays(&rt, &example)
+    plays(&rt, rt.alloc(), &example)
 }
 
 // Together the lists name each wagon once, or the offer stands.
@@ -52,7 +52,7 @@ const LISTS: &str =
 #[test]
 fn an_answer_to_other_wagons(rt: HostRuntime) -> Result<(), Fail> {
     let example = [DEPARTED, BOTH_DEPARTED, OFFERED, LISTS];
-    plays(&rt, &example)
+    plays(&rt, rt.alloc(), &example)
 }
 
 const WITHDRAWN: &str =
@@ -72,7 +72,7 @@ const WITHDRAWN: &str =
 #[test]
 fn an_offer_is_withdrawn(rt: HostRuntime) -> Result<(), Fail> {
     let example = [DEPARTED, BOTH_DEPARTED, OFFERED, WITHDRAWN];
-    plays(&rt, &example)
+    plays(&rt, rt.alloc(), &example)
 }
 
 const DELIVERED: &str =
@@ -98,5 +98,5 @@ const DELIVERED: &str =
 #[test]
 fn a_wagon_is_delivered_and_planned_anew(rt: HostRuntime) -> Result<(), Fail> {
     let example = [DEPARTED, BOTH_DEPARTED, OFFERED, ANSWERED, DELIVERED];
-    plays(&rt, &example)
+    plays(&rt, rt.alloc(), &example)
 }
