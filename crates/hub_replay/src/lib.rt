@@ -4,9 +4,9 @@
 //! is not blank: the hub's reply, or a fault line where the line is no call or the hub's history is full. What lines
 //! lead to is defined in `specs/Outcomes.antt`, and what a line says in `specs/Lines.antt`.
 //!
-//! Lines are heard in spans of about 65,536 bytes: while those of a span are answered, a thread of its own hears the
-//! next ones, where the reader gave as many. The hub is called by the one thread that calls [`run`], in the order of the
-//! lines.
+//! Lines are heard in spans: while those of a span are answered, a thread of its own hears those of the next, where the
+//! reader gave as many. Of what was read at once the first span has about 32,768 bytes, and each other twice as many as the
+//! one before, up to 524,288. The hub is called by the one thread that calls [`run`], in the order of the lines.
 //!
 //! Of the input no more than 1,114,112 bytes are held at once, beside what the lines of two spans say, and of the output
 //! the lines of one call and of the faults before it. Each reply is handed to the writer before the next call goes to the

@@ -9,12 +9,18 @@ use crate::desk::Desk;
 use crate::fault::RunFault;
 use crate::heard::{Heard, LONGEST, hear};
 use crate::newline::next_newline;
-use crate::telling::{hear_first, tell_and_hear};
+use crate::telling::{hear_lines, tell_and_hear};
 use crate::turn::{flush, turn};
 use hub_core::Hub;
 use std::thread::Threads;
 use taf_codes::Sink;
 use taf_messages::CallReader;
+
+// How many bytes of lines are heard before the first is answered.
+const FIRST: usize = 32_768;
+
+// How many bytes of lines are heard at once at most.
+const MOST: usize = 524_288;
 
 /// What is left of a piece: where it begins, and whether the rest of its line is skipped.
 #[derive(Clone, Copy)]
@@ -59,16 +65,34 @@ pub(crate) fn take_lines<W: Sink>(
     ensures kept { OnOk result (W.failures writer.new ≡ W.failures writer.old) }
     ensures counted { IfOk result (λ end. tally desk.new.counts + 2 * start ≤ tally desk.old.counts + 2 * end) }
 {
-    let mut span = hear_first(desk.alloc, &piece[start..], seen - start)?;
+    let mut size = FIRST;
+    let mut span = hear_lines(desk.alloc, &piece[start..], seen - start, size)?;
     let mut from = start;
     'spans: while span.end > 0 {
+        size = twice(size);
         let next = from + span.end;
-        let (told, ahead) = tell_and_hear(rt, writer, hub, desk, &mut span.heard, &piece[next..]);
+        let (told, ahead) = tell_and_hear(
+            rt,
+            writer,
+            hub,
+            desk,
+            &mut span.heard,
+            &piece[next..],
+            size,
+        );
         told?;
         span = ahead?;
         from = next;
     }
     Ok(from)
+}
+
+// Twice as many bytes, up to the most that are heard at once.
+fn twice(size: usize) -> usize
+    requires { (0 < size) × (size ≤ 524288) }
+    ensures { (0 < result) × (result ≤ 524288) }
+{
+    (size * 2).min(MOST)
 }
 
 /// Answers the lines of a piece, and tells what is left of it.

@@ -15,20 +15,23 @@ use std::mem::replace;
 use std::thread::{Threads, join_mut};
 use taf_codes::{Memory, Sink};
 
-// How many bytes of lines are heard at once.
-const SPAN: usize = 65_536;
-
 // From so many bytes on the next lines are heard in a thread of their own.
 const MANY: usize = 16_384;
 
-/// What the first lines of the bytes say. No newline comes before `seen`.
-pub(crate) fn hear_first(alloc: Global, bytes: &[u8], seen: usize) -> Result<Span, RunFault>
+/// What the lines say that begin among the first so many bytes. No newline comes before `seen`.
+pub(crate) fn hear_lines(
+    alloc: Global,
+    bytes: &[u8],
+    seen: usize,
+    most: usize,
+) -> Result<Span, RunFault>
     requires order { seen ≤ length bytes.now }
+    requires some { 0 < most }
     requires seen { unbroken (take seen bytes.now) ≡ true }
     ensures ok { IfOk result (λ span. IsSpan bytes.now span) }
     ensures err { IfErr result (λ f. f ≡ RunFault.Memory) }
 {
-    match hear_span(alloc, bytes, seen, SPAN) {
+    match hear_span(alloc, bytes, seen, most) {
         Ok(span) => Ok(span),
         Err(Memory) => Err(RunFault::Memory),
     }
@@ -57,8 +60,8 @@ fn tell<W: Sink>(
     Ok(())
 }
 
-/// Answers what lines say, in turn, while another thread hears the next lines. Where these are few, they are heard
-/// after it.
+/// Answers what lines say, in turn, while another thread hears the next lines: those that begin among the first so many
+/// bytes of `next`. Where these are few, they are heard after it.
 pub(crate) fn tell_and_hear<W: Sink>(
     rt: &impl Threads,
     writer: &mut W,
@@ -66,8 +69,10 @@ pub(crate) fn tell_and_hear<W: Sink>(
     desk: &mut Desk,
     heard: &mut Vec<Heard>,
     next: &[u8],
+    most: usize,
 ) -> (Result<(), RunFault>, Result<Span, RunFault>)
     requires few { tally desk.old.counts + 2 * length heard.old.items < 2 ^ 62 }
+    requires some { 0 < most }
     requires told { All CanBeTold heard.old.items }
     ensures ok { OnOk result.0 (Goes (W.contents writer.old) (W.contents writer.new) hub.old desk.old hub.new desk.new heard.old.items) }
     ensures err { OnErr result.0 (Stops (W.contents writer.old) (W.contents writer.new) hub.old desk.old hub.new heard.old.items) }
@@ -80,11 +85,11 @@ pub(crate) fn tell_and_hear<W: Sink>(
     let alloc = desk.alloc;
     if next.len() < MANY {
         let told = tell(writer, hub, desk, heard);
-        return (told, hear_first(alloc, next, 0));
+        return (told, hear_lines(alloc, next, 0, most));
     }
     let (ahead, told) = join_mut(
         rt,
-        &mut || hear_first(alloc, next, 0),
+        &mut || hear_lines(alloc, next, 0, most),
         &mut || tell(writer, hub, desk, heard),
     );
     (told, ahead)

@@ -1,4 +1,4 @@
-use Rattle.std.proofs.Common.{◌≡◌, ◌+◌, ◌-◌, ◌≤◌, ◌++◌, [], ℕ, List, arith, refl, ◌∙◌, drop, take, length, subst, length-drop}
+use Rattle.std.proofs.Common.{◌+◌, ◌-◌, ◌≤◌, ◌++◌, [], ℕ, List, arith, refl, ◌∙◌, drop, take, length, subst, length-drop}
 use Rattle.std.proofs.lemmas.List.{drop-drop, take_all}
 use Rattle.hub_replay.specs.declared.span.Span.{Span}
 use Rattle.hub_replay.specs.Lines.{IsTaken}
@@ -17,6 +17,7 @@ pub spans-init : goal.spans-init
 spans-init g c = (
   omega arith,
   omega (arith, c.requires.order.0, c.requires.order.1),
+  (omega arith, omega arith),
   from_place c.args.piece.now c.args.start _ c.in_ok-span.ensures.ok,
   omega arith,
   refl,
@@ -29,33 +30,34 @@ returns-in_err-span-clause-err g c = on_err _ (Stops-here _ c.args.hub.now c.arg
 pub returns-in_err-told-clause-err : goal.returns-in_err-told-clause-err
 returns-in_err-told-clause-err g c =
     let i = c.spans.invariant in
-    let t = IsTaken-append _ _ _ i.5.0 c.spans.span.heard.items i.5.1 i.2.says in
+    let t = IsTaken-append _ _ _ i.6.0 c.spans.span.heard.items i.6.1 i.3.says in
     let stops = rw (c.in_err-told.was) at c.tell_and_hear-told.ensures.err in
-    Stops-err _ (heard_taken _ _ _ t) (Stops-more _ (Stops-after i.5.2 stops))
+    Stops-err _ (heard_taken _ _ _ t) (Stops-more _ (Stops-after i.6.2 stops))
 
 pub returns-in_err-span-2-clause-err : goal.returns-in_err-span-2-clause-err
 returns-in_err-span-2-clause-err g c =
     let i = c.spans.invariant in
-    let t = IsTaken-append _ _ _ i.5.0 c.spans.span.heard.items i.5.1 i.2.says in
+    let t = IsTaken-append _ _ _ i.6.0 c.spans.span.heard.items i.6.1 i.3.says in
     let goes = rw (c.in_ok-told.was) at c.tell_and_hear-told.ensures.ok in
-    Stops-err _ (heard_taken _ _ _ t) (Stops-after (Goes-append i.5.2 goes) (Stops-here _ _ _ _))
+    Stops-err _ (heard_taken _ _ _ t) (Stops-after (Goes-append i.6.2 goes) (Stops-here _ _ _ _))
 
 pub spans-preserved : goal.spans-preserved
 spans-preserved g c =
     let i = c.spans.invariant in
     let piece = c.args.piece.now in
     let next = c.spans.from + c.spans.span.end in
-    let hs = i.5.0 ++ c.spans.span.heard.items in
-    let t = IsTaken-append _ _ _ i.5.0 c.spans.span.heard.items i.5.1 i.2.says in
+    let hs = i.6.0 ++ c.spans.span.heard.items in
+    let t = IsTaken-append _ _ _ i.6.0 c.spans.span.heard.items i.6.1 i.3.says in
     let goes = rw (c.in_ok-told.was) at c.tell_and_hear-told.ensures.ok in
     let counted = rw (c.in_ok-told.was) at c.tell_and_hear-told.ensures.counted in
     let kept = rw (c.in_ok-told.was) at c.tell_and_hear-told.ensures.kept in
     let span = rw (c.in_ok-span-2.was) at c.tell_and_hear-told.ensures.next in
     let size = length-drop c.spans.from piece in (
       omega (arith, i.0),
-      omega (arith, i.1, i.2.bounds, size),
+      omega (arith, i.1, i.3.bounds, size),
+      c.twice-size.ensures,
       from_place piece next _ span,
-      omega (arith, i.3, i.2.few, counted),
-      kept ∙ i.4,
-      (hs, subst (λ r. IsTaken (drop c.args.start piece) hs r) (drop-drop c.spans.span.end c.spans.from piece) t, Goes-append i.5.2 goes),
+      omega (arith, i.4, i.3.few, counted),
+      kept ∙ i.5,
+      (hs, subst (λ r. IsTaken (drop c.args.start piece) hs r) (drop-drop c.spans.span.end c.spans.from piece) t, Goes-append i.6.2 goes),
     )
