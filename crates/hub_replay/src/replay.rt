@@ -31,10 +31,11 @@ pub const MOST_BYTES: u64 = 1 << 40;
 /// to its call, by `line_too_long` if it has more than 65,536 bytes, else by its fault if it is no call, or by
 /// `hub_full` where the history has 1,000,000 entries. No call enters the history by a fault line.
 ///
-/// Each reply is pushed before the next call is given to the hub. The writer is flushed before each pull and at the
-/// end; a flush that fails is [`RunFault::Write`]. The reader is read for at most 2^40 bytes, and where they have no
-/// end, [`RunFault::NoEnd`] is the answer. After a fault the hub has the entries of the calls so far, and of these
-/// only the last may lack its whole line.
+/// Where many lines were read at once, a thread of its own hears the next ones while some are answered; the reader,
+/// the writer and the hub are called by this thread alone. Each reply is pushed before the next call is given to
+/// the hub. The writer is flushed before each pull and at the end; a flush that fails is [`RunFault::Write`]. The
+/// reader is read for at most 2^40 bytes, and where they have no end, [`RunFault::NoEnd`] is the answer. After a
+/// fault the hub has the entries of the calls so far, and of these only the last may lack its whole line.
 pub fn run<R: Source, W: Sink>(
     rt: &impl Threads,
     alloc: Global,
