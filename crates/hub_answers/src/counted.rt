@@ -2,6 +2,8 @@
 ghost use Rattle.std.specs.Prelude.{◌≡◌, [], ◌∷◌, ◌++◌};
 ghost use Rattle.std.specs.List.{list_any};
 ghost use Rattle.trip_plan.specs.Rules.{has};
+ghost use Rattle.taf_messages.specs.declared.message.Message.{Message};
+ghost use Rattle.taf_messages.specs.declared.message.Body.TheVariants as body;
 ghost use Rattle.interchange.specs.Offers.{wagons_of};
 ghost use Rattle.hub_model.specs.Overtaking.{counted, share_wagon};
 ghost use Rattle.hub_tables.specs.Tabled.{known};
@@ -10,7 +12,7 @@ use hub_tables::Tables;
 use std::marker::Model;
 use std::slice;
 use taf_codes::Railway;
-use taf_messages::{Body, Message, MessageNumber};
+use taf_messages::{Body, Message, MessageNumber, TrainAnswer};
 use wagon_number::WagonNumber;
 
 /// The wagons that a message names and, of an answer, those of its offer. It borrows them.
@@ -40,12 +42,8 @@ impl<'a> Counted<'a> {
             Body::EtiAsk { wagon } => Counted::one(wagon),
             Body::LegTime { wagon, .. } => Counted::one(wagon),
             Body::Reroute { wagon, .. } => Counted::one(wagon),
-            Body::Offer(offer) => Counted::listed(offer.wagons.as_slice()),
-            Body::Answer(answer) => Counted {
-                named: answer.received.as_slice(),
-                also_named: answer.refused.as_slice(),
-                offered: offered(tables, answer.offerer, answer.offer),
-            },
+            Body::Offer(offer) => Counted::listed(offer.get().wagons.as_slice()),
+            Body::Answer(answer) => Counted::answered(tables, answer.get()),
             Body::Withdraw { offer, .. } => Counted::listed(offered(tables, message.by, *offer)),
         }
     }
@@ -58,6 +56,17 @@ impl<'a> Counted<'a> {
             named: wagons,
             also_named: &[],
             offered: &[],
+        }
+    }
+
+    /// The wagons of an answer, and those of the offer that it answers.
+    fn answered(tables: &'a Tables, answer: &'a TrainAnswer) -> Counted<'a>
+        ensures { (m : Message) → result ≡ counted (known tables.now) m (body.Answer answer.now) }
+    {
+        Counted {
+            named: answer.received.as_slice(),
+            also_named: answer.refused.as_slice(),
+            offered: offered(tables, answer.offerer, answer.offer),
         }
     }
 

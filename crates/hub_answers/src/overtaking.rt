@@ -78,7 +78,7 @@ fn offer_named(message: &Message) -> Option<(Railway, MessageNumber)>
 {
     match &message.body {
         Body::Offer(_) => Some((message.by, message.no)),
-        Body::Answer(answer) => Some((answer.offerer, answer.offer)),
+        Body::Answer(answer) => Some((answer.get().offerer, answer.get().offer)),
         Body::Withdraw { offer, .. } => Some((message.by, *offer)),
         _ => None,
     }

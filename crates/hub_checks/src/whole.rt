@@ -16,7 +16,7 @@ pub(crate) fn whole_fault(tables: &Tables, by: Railway, says: &Body) -> Option<W
 {
     match says {
         Body::Plan(plan) => plan_fault(tables, plan),
-        Body::Answer(answer) => answer_fault(tables, by, answer),
+        Body::Answer(answer) => answer_fault(tables, by, answer.get()),
         Body::Withdraw { offer, .. } => withdraw_fault(tables, by, *offer),
         Body::Movement(_)
         | Body::EtiAsk { .. }

@@ -163,8 +163,8 @@ fn note_moment(message: &Message)
 {
     let _minutes = match &message.body {
         Body::Movement(movement) => movement.at.minutes(),
-        Body::Offer(offer) => offer.at.minutes(),
-        Body::Answer(answer) => answer.at.minutes(),
+        Body::Offer(offer) => offer.get().at.minutes(),
+        Body::Answer(answer) => answer.get().at.minutes(),
         Body::Withdraw { at, .. } => at.minutes(),
         Body::Plan(_) | Body::EtiAsk { .. } | Body::LegTime { .. } | Body::Reroute { .. } => 0,
     };

@@ -11,7 +11,7 @@ use hub_model::Addressed;
 use hub_tables::Tables;
 use std::alloc::Global;
 use taf_codes::{Memory, Railway};
-use taf_messages::{Body, ItemBody, Message, SubNotice, TrainAnswer, copy};
+use taf_messages::{Body, ItemBody, Message, Shared, SubNotice, TrainAnswer, copy};
 
 /// The notices of a message, and the sub notice.
 pub(crate) fn notices(
@@ -31,47 +31,59 @@ pub(crate) fn notices(
         &ItemBody::Notice(copy(message)?),
         railways.as_slice(),
     )?;
-    put_sub_notice(&mut items, message.by, &message.body)?;
+    put_sub_notice(alloc, &mut items, message.by, &message.body)?;
     Ok(items)
 }
 
 // Adds the sub notice, if there is one.
-fn put_sub_notice(items: &mut Vec<Addressed>, by: Railway, says: &Body) -> Result<(), Memory>
+fn put_sub_notice(
+    alloc: Global,
+    items: &mut Vec<Addressed>,
+    by: Railway,
+    says: &Body,
+) -> Result<(), Memory>
     ensures { OnOk result (items.new.items ≡ items.old.items ++ of.sub_items by says.now) }
 {
-    if let Some(item) = sub_notice(by, says)? {
+    if let Some(item) = sub_notice(alloc, by, says)? {
         items.push(item)?;
     }
     Ok(())
 }
 
 // The item for the manager, where a manager is named and a wagon was received.
-fn sub_notice(by: Railway, says: &Body) -> Result<Option<Addressed>, Memory>
+fn sub_notice(alloc: Global, by: Railway, says: &Body) -> Result<Option<Addressed>, Memory>
     ensures { IfOk result (λ o. option_to_list o ≡ of.sub_items by says.now) }
 {
     let Body::Answer(answer) = says else {
         return Ok(None);
     };
+    let answer = answer.get();
     match answer.manager {
         Some(manager) if !answer.received.as_slice().is_empty() => {
-            Ok(Some(sub_item(by, answer, manager)?))
+            Ok(Some(sub_item(alloc, by, answer, manager)?))
         }
         _ => Ok(None),
     }
 }
 
 // What the manager is told of an answer that received wagons.
-fn sub_item(by: Railway, answer: &TrainAnswer, manager: Railway) -> Result<Addressed, Memory>
+fn sub_item(
+    alloc: Global,
+    by: Railway,
+    answer: &TrainAnswer,
+    manager: Railway,
+) -> Result<Addressed, Memory>
     ensures { IfOk result (λ i. i ≡ of.sub_item by answer.now manager) }
 {
+    let sub = SubNotice {
+        at: answer.at,
+        from: by,
+        offer: answer.offer,
+        offerer: answer.offerer,
+        wagons: answer.received.clone()?,
+    };
     Ok(Addressed {
         to: manager,
-        body: ItemBody::Sub(SubNotice {
-            at: answer.at,
-            from: by,
-            offer: answer.offer,
-            offerer: answer.offerer,
-            wagons: answer.received.clone()?,
-        }),
+        body: ItemBody::Sub(Shared::new(alloc, sub)?),
     })
 }

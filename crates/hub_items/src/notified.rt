@@ -32,8 +32,8 @@ pub(crate) fn notified(
         Body::Plan(plan) => Ok(runners(alloc, plan.legs())?),
         Body::Movement(_) | Body::EtiAsk { .. } => unreachable!(),
         Body::LegTime { .. } => Ok(Vec::new(alloc)),
-        Body::Offer(offer) => Ok(listed(alloc, Some(offer.to))?),
-        Body::Answer(answer) => told_of_answer(alloc, tables, message, answer),
+        Body::Offer(offer) => Ok(listed(alloc, Some(offer.get().to))?),
+        Body::Answer(answer) => told_of_answer(alloc, tables, message, answer.get()),
         Body::Withdraw { offer, .. } => {
             let asked = tables.offer(message.by, *offer).map(|found| found.to);
             Ok(listed(alloc, asked)?)

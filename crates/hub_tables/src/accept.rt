@@ -17,7 +17,7 @@ use crate::tables::Tables;
 use interchange::Offer;
 use std::alloc::Global;
 use taf_codes::{Memory, Railway, UnitCode};
-use taf_messages::{Body, Message, MessageNumber, OfferedWagons, TrainOffer};
+use taf_messages::{Body, Message, MessageNumber, OfferedWagons, TrainAnswer, TrainOffer};
 use trip_plan::{Plan, UnitLoad};
 use wagon_number::WagonNumber;
 
@@ -31,8 +31,11 @@ impl Tables {
     {
         match &message.body {
             Body::Plan(plan) => self.take_plan(alloc, message, plan),
-            Body::Offer(offer) => self.take_offer(alloc, message, offer),
-            Body::Answer(answer) => self.settle(alloc, message, answer.offerer, answer.offer),
+            Body::Offer(offer) => self.take_offer(alloc, message, offer.get()),
+            Body::Answer(answer) => {
+                let TrainAnswer { offerer, offer, .. } = answer.get();
+                self.settle(alloc, message, *offerer, *offer)
+            }
             Body::Withdraw { offer, .. } => {
                 self.offered_differ(message.by, *offer);
                 self.settle(alloc, message, message.by, *offer)

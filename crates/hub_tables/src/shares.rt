@@ -25,8 +25,8 @@ fn moment_in(body: &Body) -> Option<Moment>
 {
     match body {
         Body::Movement(movement) => Some(movement.at),
-        Body::Offer(offer) => Some(offer.at),
-        Body::Answer(answer) => Some(answer.at),
+        Body::Offer(offer) => Some(offer.get().at),
+        Body::Answer(answer) => Some(answer.get().at),
         Body::Withdraw { at, .. } => Some(*at),
         Body::Plan(_) | Body::EtiAsk { .. } | Body::LegTime { .. } | Body::Reroute { .. } => None,
     }
@@ -62,8 +62,9 @@ impl Tables {
             Body::EtiAsk { wagon } => slice::from_ref(wagon),
             Body::LegTime { wagon, .. } => slice::from_ref(wagon),
             Body::Reroute { wagon, .. } => slice::from_ref(wagon),
-            Body::Offer(offer) => offer.wagons.as_slice(),
+            Body::Offer(offer) => offer.get().wagons.as_slice(),
             Body::Answer(answer) => {
+                let answer = answer.get();
                 let wagons = both(alloc, answer.received.as_slice(), answer.refused.as_slice())?;
                 return Ok(CowSlice::Owned(wagons));
             }
@@ -108,12 +109,12 @@ impl Tables {
                 minutes: *minutes,
             },
             Body::Offer(offer) => EventBody::Offered {
-                place: offer.place,
-                to: offer.to,
+                place: offer.get().place,
+                to: offer.get().to,
             },
             Body::Answer(answer) => EventBody::Answered {
-                place: self.place(answer.offerer, answer.offer),
-                received: has(answer.received.as_slice(), wagon),
+                place: self.place(answer.get().offerer, answer.get().offer),
+                received: has(answer.get().received.as_slice(), wagon),
             },
             Body::Withdraw { offer, .. } => EventBody::Withdrawn {
                 place: self.place(message.by, *offer),

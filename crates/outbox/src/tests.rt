@@ -3,7 +3,7 @@ use ballast::Ballast;
 use std::alloc::{AllocError, Global};
 use std::test::Fail;
 use taf_codes::{Memory, Railway};
-use taf_messages::{FetchLimit, Item, ItemBody, MessageNumber, SubNotice, Wagons};
+use taf_messages::{FetchLimit, Item, ItemBody, MessageNumber, Shared, SubNotice, Wagons};
 use taf_moment::Moment;
 use wagon_number::WagonNumber;
 
@@ -150,13 +150,14 @@ fn many_items_are_acknowledged_at_once(rt: HostRuntime) -> Result<(), Fail> {
 // The notice of an infrastructure manager, which holds memory of its own.
 fn sub_notice(alloc: Global, wagon: WagonNumber, offerer: Railway) -> Result<ItemBody, Memory> {
     let wagons = Wagons::new(Vec::from_slice(alloc, &[wagon])?).ok_or(Memory)?;
-    Ok(ItemBody::Sub(SubNotice {
+    let sub = SubNotice {
         at: Moment::read("2025-03-01T11:10Z").ok().ok_or(Memory)?,
         from: offerer,
         offer: MessageNumber::new(6).ok_or(Memory)?,
         offerer,
         wagons,
-    }))
+    };
+    Ok(ItemBody::Sub(Shared::new(alloc, sub)?))
 }
 
 // How many growths were refused, and the boxes.

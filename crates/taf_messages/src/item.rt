@@ -1,5 +1,6 @@
 use crate::message::Message;
 use crate::number::{LegIndex, MessageNumber};
+use crate::shared::Shared;
 use crate::wagons::Wagons;
 use taf_codes::Railway;
 use taf_moment::Moment;
@@ -17,7 +18,7 @@ pub struct Item {
 #[derive(Clone, Debug, PartialEq, Eq, Drop)]
 pub enum ItemBody {
     Notice(Message),
-    Sub(SubNotice),
+    Sub(Shared<SubNotice>),
     Eti {
         wagon: WagonNumber,
         leg: LegIndex,

@@ -1,5 +1,6 @@
 use crate::movement::Movement;
 use crate::number::{LegIndex, LegMinutes, MessageNumber};
+use crate::shared::Shared;
 use crate::wagons::{OfferedWagons, Wagons};
 use taf_codes::{Place, Railway, TrainId};
 use taf_moment::Moment;
@@ -27,8 +28,8 @@ pub enum Body {
         leg: LegIndex,
         minutes: LegMinutes,
     },
-    Offer(TrainOffer),
-    Answer(TrainAnswer),
+    Offer(Shared<TrainOffer>),
+    Answer(Shared<TrainAnswer>),
     Withdraw {
         at: Moment,
         offer: MessageNumber,

@@ -85,8 +85,8 @@ impl Object for Message {
                 leg,
                 minutes,
             } => put_leg_time(out, self, *wagon, *leg, *minutes),
-            Body::Offer(offer) => put_offer(out, self.by, self.no, offer),
-            Body::Answer(answer) => put_answer(out, self.by, self.no, answer),
+            Body::Offer(offer) => put_offer(out, self.by, self.no, offer.get()),
+            Body::Answer(answer) => put_answer(out, self.by, self.no, answer.get()),
             Body::Withdraw { at, offer } => {
                 put_field(out, "at", at)?;
                 put_field(out, "from", &self.by)?;

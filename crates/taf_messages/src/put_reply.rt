@@ -65,7 +65,7 @@ impl Object for Item {
                 put_field(out, "type", &"notice")?;
                 Ok(())
             }
-            ItemBody::Sub(sub) => put_sub(out, self.number, sub),
+            ItemBody::Sub(sub) => put_sub(out, self.number, sub.get()),
             ItemBody::Eti { wagon, leg, at } => put_eti(out, self.number, *wagon, *leg, *at),
             ItemBody::Eta { wagon, at } => {
                 put_field(out, "at", at)?;

@@ -14,6 +14,7 @@ use crate::kind::{BodyName, Kind, MovementName};
 use crate::listed::Listed;
 use crate::message::{Body, Message, TrainAnswer, TrainOffer};
 use crate::movement::{Movement, MovementKind};
+use crate::shared::Shared;
 use crate::value::{Good, Unread};
 use crate::wagons::UnitLoads;
 use json::Scratch;
@@ -198,8 +199,8 @@ fn read_body(fields: Fields, by: Railway, name: BodyName) -> Result<Body, Record
             leg: fields.read(Field::Leg)?,
             minutes: fields.read(Field::Minutes)?,
         }),
-        BodyName::Offer => Ok(Body::Offer(read_offer(fields)?)),
-        BodyName::Answer => Ok(Body::Answer(read_answer(fields)?)),
+        BodyName::Offer => Ok(Body::Offer(Shared::new(fields.alloc, read_offer(fields)?)?)),
+        BodyName::Answer => Ok(Body::Answer(Shared::new(fields.alloc, read_answer(fields)?)?)),
         BodyName::Withdraw => Ok(Body::Withdraw {
             at: fields.read(Field::At)?,
             offer: fields.read(Field::Offer)?,

@@ -8,7 +8,7 @@ use std::alloc::Global;
 use std::test::Fail;
 use taf_codes::{Railway, TrainId, UnitCode};
 use taf_messages::{
-    Body, Call, Movement, MovementKind, OfferedWagons, TrainAnswer, TrainOffer, Wagons,
+    Body, Call, Movement, MovementKind, OfferedWagons, Shared, TrainAnswer, TrainOffer, Wagons,
 };
 use trip_plan::{Leg, Load, Plan, Route, UnitLoad};
 
@@ -120,14 +120,14 @@ fn offer(alloc: Global) -> Result<Call, Fail> {
     let Some(wagons) = OfferedWagons::new(wagons(alloc, &[ONE, TWO])?) else {
         return Err(Fail::new("no offer"));
     };
-    let body = Body::Offer(TrainOffer {
+    let offer = TrainOffer {
         at,
         train,
         place,
         to,
         wagons,
-    });
-    send("R101", 6, body)
+    };
+    send("R101", 6, Body::Offer(Shared::new(alloc, offer)?))
 }
 
 fn withdrawal() -> Result<Call, Fail> {
@@ -183,15 +183,15 @@ fn answer(
     let offer = within(6)?;
     let received = some_wagons(alloc, received)?;
     let refused = some_wagons(alloc, refused)?;
-    let body = Body::Answer(TrainAnswer {
+    let answer = TrainAnswer {
         at,
         offerer,
         offer,
         received,
         refused,
         manager,
-    });
-    send("R102", no, body)
+    };
+    send("R102", no, Body::Answer(Shared::new(alloc, answer)?))
 }
 
 // An answer may name no manager.

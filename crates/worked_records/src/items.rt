@@ -3,7 +3,7 @@ use crate::checks::{is_call, is_text};
 use crate::parts::{ONE, message, moment, railway, wagon, wagons, within};
 use std::alloc::Global;
 use std::test::Fail;
-use taf_messages::{Call, Item, ItemBody, SubNotice, Wagons, write_item};
+use taf_messages::{Call, Item, ItemBody, Shared, SubNotice, Wagons, write_item};
 
 // Lines, and below each the message that its notice carries: the kind's own fields alone, keys in byte order.
 const NOTICES: &str =
@@ -73,13 +73,14 @@ fn sub(alloc: Global) -> Result<ItemBody, Fail> {
     let Some(wagons) = Wagons::new(wagons(alloc, &[ONE])?) else {
         return Err(Fail::new("no wagons"));
     };
-    Ok(ItemBody::Sub(SubNotice {
+    let sub = SubNotice {
         at,
         from,
         offer,
         offerer,
         wagons,
-    }))
+    };
+    Ok(ItemBody::Sub(Shared::new(alloc, sub)?))
 }
 
 // Fails unless the item of this number has the text.
