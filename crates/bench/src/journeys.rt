@@ -1,11 +1,12 @@
 //! Tracks that grow, with their estimates.
-ghost use Rattle.std.specs.Prelude.{◌≡◌, ◌≤◌, ◌+◌, length, IfOk, OnOk};
-ghost use Rattle.eti_chain.specs.Chains.{chain};
+ghost use Rattle.std.specs.Prelude.{◌≡◌, ◌≤◌, ◌+◌, length, true, IfOk, OnOk};
+ghost use Rattle.eti_chain.specs.Chains.{anchored, chain};
+ghost use Rattle.eti_chain.specs.Estimates.{fits};
 
 use crate::measured::Measured;
 use crate::samples;
 use anyhow::{Result, bail};
-use eti_chain::Estimates;
+use eti_chain::{Anchored, Estimates};
 use journey::{Event, EventBody, Track};
 use std::alloc::Global;
 use std::time::{Clock, Instant};
@@ -15,12 +16,14 @@ use taf_moment::Moment;
 use trip_plan::Plan;
 use wimo::record_of;
 
-/// A track with its estimates.
+/// A track with what is kept for its estimates.
 #[derive(Drop)]
 pub struct Run {
+    alloc: Global,
     track: Track,
-    estimates: Estimates,
-    ghost follows: { estimates ≡ chain track.events },
+    kept: Anchored,
+    ghost follows: { kept ≡ anchored track.events },
+    ghost within: { fits track.events ≡ true },
 }
 
 impl Run {
@@ -38,8 +41,8 @@ impl Run {
         if !Estimates::fits(&track) {
             bail!("the plan passes the calendar");
         }
-        let estimates = Estimates::of(&track);
-        let mut run = Run { track, estimates };
+        let kept = Anchored::of(&track);
+        let mut run = Run { alloc, track, kept };
         run.add("R100", MovementKind::Release)?;
         run.add("R101", MovementKind::Departure)?;
         Ok(run)
@@ -80,18 +83,27 @@ impl Run {
             bail!("the sample is refused");
         }
         let step = self.track.step(&event);
-        if self.estimates.would_pass_calendar(&step) {
+        if self.estimates().would_pass_calendar(&step) {
             bail!("the sample passes the calendar");
         }
-        let estimates = self.estimates.followed(&step);
-        self.track.add(event)?;
-        self.estimates = estimates;
+        if self.track.events().len() >= 1 << 62 {
+            bail!("the sample is too long");
+        }
+        let next = event.prepared(self.alloc)?;
+        self.kept.put(&mut self.track, next);
         Ok(())
+    }
+
+    // When the wagon is expected.
+    fn estimates(&self) -> Estimates<'_>
+        ensures { result ≡ chain self.now.track.events }
+    {
+        self.kept.estimates(&self.track)
     }
 
     /// The record of the wagon.
     pub fn shown(&self, alloc: Global) -> Result<Record> {
-        Ok(record_of(alloc, &self.track, &self.estimates)?)
+        Ok(record_of(alloc, &self.track, &self.estimates())?)
     }
 }
 

@@ -15,7 +15,7 @@ use Rattle.journey.specs.declared.event.EventBody.{EventBody}
 use Rattle.journey.specs.declared.event.EventBody.TheVariants.{Planned, Moved, EstimateAsked, LegTimed, Offered, Answered, Withdrawn, Rerouted}
 use Rattle.journey.specs.declared.situation.Situation.{Situation}
 use Rattle.journey.specs.Words.{newest}
-use Rattle.journey.specs.Stages.{plan}
+use Rattle.journey.specs.Stages.{leg_index, plan}
 use Rattle.journey.specs.Legs.{legs}
 use Rattle.journey.specs.Journey.{Onward, after}
 use Rattle.journey.specs.Situations.{situation}
@@ -24,7 +24,7 @@ use Rattle.journey.proofs.Newest.{newest-push}
 use Rattle.journey.proofs.Sounding.{plan-kept}
 use Rattle.eti_chain.specs.declared.anchor.Anchor.{Anchor}
 use Rattle.eti_chain.specs.Estimates.{estimate, estimate_from, estimates_from, eta, late_by, lateness, fits, base, delays, delay_in, is_anchor, expected_by, current_minutes}
-use Rattle.eti_chain.specs.Chains.{Reckoning, Chain, kept_as, chain, anchor, anchor_in, anchor_after, with_delays, reckoned_from, reckoning, base_in, delays_in, end_in, fits_in, eta_in, late_by_in, minutes_in, IsWithin}
+use Rattle.eti_chain.specs.Chains.{Reckoning, Chain, promised, chain, Anchored, anchored_by, anchored, delays_of, anchor, anchor_in, anchor_after, with_delays, reckoned_from, reckoning, base_in, delays_in, end_in, fits_in, eta_in, late_by_in, minutes_in, IsWithin}
 use Rattle.eti_chain.proofs.Estimating.{delays-push}
 use Rattle.eti_chain.proofs.Fitting.{fits-no_base, all_fit, Within}
 
@@ -97,16 +97,19 @@ reckoning-step events e s a next situated newest is =
     let anchors = is ∙ ap (λ b. anchor_after b e) newest ∙ sym (anchor-push events e) in
     λ i. reckoned_from (indexes i) (courses i) (anchors i)
 
--- what is kept goes along with the events
-pub chain-step : (o : Onward) (e : Event) (k : Chain) (s : Situation) (ls : List Leg) (next : Option Anchor) → k ≡ chain o.before → e ≡ o.event → refusal o.before e.by e.body ≡ None →
-    s ≡ situation (after o) → ls ≡ s.legs → next ≡ anchor_after k.reckoning.anchor e → kept_as (reckoned_from s.leg_index ls next) k.commit ≡ chain (after o)
-chain-step o e k s ls next was event r situated same is =
-    let newest = ap (λ (c : Chain). c.reckoning.anchor) was in
-    let anchors = is ∙ ap (anchor_after k.reckoning.anchor) event in
-    let reckoned = ap (λ (xs : List Leg). reckoned_from s.leg_index xs next) same ∙ reckoning-step o.before o.event s k.reckoning.anchor next situated newest anchors in
-    let admitted = ap (λ (d : Event). refusal o.before d.by d.body) (sym event) ∙ r in
+-- the estimates go along with the events
+pub chain-step : (o : Onward) (k : Chain) (r : Reckoning) → k ≡ chain o.before → refusal o.before o.event.by o.event.body ≡ None → r ≡ reckoning (after o) → promised r k.commit ≡ chain (after o)
+chain-step o k r was admitted is =
     let commits = ap (λ (c : Chain). c.commit) was ∙ ap (option_map (λ p. p.commit)) (sym (plan-kept o.before o.event admitted)) in
-    λ i. kept_as (reckoned i) (commits i)
+    λ i. promised (is i) (commits i)
+
+-- what is kept goes along with the events
+pub anchored-step : (events : List Event) (e : Event) (k : Anchored) (next : Option Anchor) → k ≡ anchored events → refusal events e.by e.body ≡ None → next ≡ anchor_after k.newest e →
+    anchored_by next k.commit ≡ anchored (events ++ e ∷ [])
+anchored-step events e k next was r is =
+    let anchors = is ∙ ap (λ (a : Anchored). anchor_after a.newest e) was ∙ sym (anchor-push events e) in
+    let commits = ap (λ (a : Anchored). a.commit) was ∙ ap (option_map (λ p. p.commit)) (sym (plan-kept events e r)) in
+    λ i. anchored_by (anchors i) (commits i)
 
 fold-anchor : (before events : List Event) → fold anchor_after (anchor before) events ≡ anchor (before ++ events)
 fold-anchor before [] = ap anchor (sym (append-nil before))
@@ -289,6 +292,10 @@ small_by r (Some a) e h f =
 -- delays of estimates that fit are small
 pub small-delays : (r : Reckoning) → r.leg_index < length r.legs → fits_in r ≡ true → delays_in r ≤ last_minute
 small-delays r h f = small_by r r.anchor refl h f
+
+-- the delays of a journey whose estimates fit are small
+pub small-of : (events : List Event) (a : Option Anchor) → a ≡ anchor events → leg_index events < length (legs events) → fits events ≡ true → delays_of a ≤ last_minute
+small-of events a is h f = rw is (small-delays (reckoning events) h (fits_by_reckoning events ∙ f))
 
 -- what fits is kept
 pub is_within : (r : Reckoning) → r.leg_index < length r.legs → fits_in r ≡ true → IsWithin r

@@ -1,4 +1,4 @@
--- The estimates of a wagon as they are kept, from one event to the next.
+-- The estimates of a wagon, from one event to the next.
 use Rattle.std.specs.Prelude.{ℕ, ◌≡◌, ◌+◌, ◌-◌, ◌≤◌, ◌<◌, ◌^◌, nat_le, Bool, true, false, if◌then◌else◌, List, length, slice_get, Option, None, option_map}
 use Rattle.std.specs.Option.{option_or, option_map_or, option_and_then}
 use Rattle.std.specs.List.{list_all}
@@ -92,18 +92,35 @@ end_in r j = estimate_from r.leg_index r.legs (base_in r) (delays_in r) j
 abbrev pub fits_in : Reckoning → Bool
 fits_in r = list_all (λ e. nat_le e.at last_minute) (estimates_from r.leg_index r.legs (base_in r) (delays_in r))
 
--- what is kept: what the estimates are reckoned from, and the moment that was promised to the customer
+-- the moment that was promised to the customer
+abbrev pub promise : List Event → Option ℕ
+promise events = option_map (λ p. p.commit) (plan events)
+
+-- the estimates: what they are reckoned from, and the moment that was promised to the customer
 pub record Chain : Type 0 where
   pub reckoning : Reckoning
   pub commit : Option ℕ
 
 -- this reckoning with this promise
-abbrev pub kept_as : Reckoning → Option ℕ → Chain
-kept_as r commit = record { reckoning = r; commit = commit }
+abbrev pub promised : Reckoning → Option ℕ → Chain
+promised r commit = record { reckoning = r; commit = commit }
 
--- what is kept for a journey
+-- the estimates of a journey
 abbrev pub chain : List Event → Chain
-chain events = kept_as (reckoning events) (option_map (λ p. p.commit) (plan events))
+chain events = promised (reckoning events) (promise events)
+
+-- what is kept for the estimates: the newest anchor, and the moment that was promised to the customer
+pub record Anchored : Type 0 where
+  pub newest : Option Anchor
+  pub commit : Option ℕ
+
+-- this anchor with this promise
+abbrev pub anchored_by : Option Anchor → Option ℕ → Anchored
+anchored_by newest commit = record { newest = newest; commit = commit }
+
+-- what is kept for the estimates of a journey
+abbrev pub anchored : List Event → Anchored
+anchored events = anchored_by (anchor events) (promise events)
 
 -- the estimated time of arrival
 abbrev pub eta_in : Reckoning → Option ℕ

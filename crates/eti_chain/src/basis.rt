@@ -1,7 +1,8 @@
 //! What estimates are reckoned from.
-ghost use Rattle.std.specs.Prelude.{◌≡◌, ◌+◌, ◌<◌, ◌≤◌, ◌^◌, length, IfSome};
+ghost use Rattle.std.specs.Prelude.{◌≡◌, ◌+◌, ◌<◌, ◌≤◌, ◌^◌, length, IfSome, None};
 ghost use Rattle.std.specs.List.{sum_by};
 ghost use Rattle.taf_moment.specs.Calendar.{last_minute};
+ghost use Rattle.journey.specs.Checks.{refusal};
 ghost use Rattle.journey.specs.Journey.{after};
 ghost use Rattle.eti_chain.specs.Chains as of;
 
@@ -36,12 +37,23 @@ impl<'a> Model for Basis<'a> {
 impl<'a> Basis<'a> {
     /// What the estimates of a track are reckoned from. It walks the events.
     pub(crate) fn of(track: &'a Track) -> Basis<'a>
-        ensures { result ≡ of.reckoning track.now.events }
+        ensures value { result ≡ of.reckoning track.now.events }
+        ensures on_a_leg { result.leg_index < length result.legs }
+    {
+        Basis::with(newest_anchor(track.events()), track)
+    }
+
+    /// The same by the newest anchor of the track.
+    pub(crate) fn with(anchor: Option<Anchor>, track: &'a Track) -> Basis<'a>
+        requires newest { anchor ≡ of.anchor track.now.events }
+        requires small { of.delays_of anchor < 2 ^ 127 }
+        ensures value { result ≡ of.reckoning track.now.events }
+        ensures on_a_leg { result.leg_index < length result.legs }
     {
         Basis {
             leg_index: track.leg_index(),
             legs: &track.situation().legs,
-            anchor: newest_anchor(track.events()),
+            anchor,
         }
     }
 
@@ -49,7 +61,9 @@ impl<'a> Basis<'a> {
     pub(crate) fn after(anchor: Option<Anchor>, step: &'a Step<'_>) -> Basis<'a>
         requires newest { anchor ≡ of.anchor step.now.before }
         requires small { of.delays_of anchor ≤ last_minute }
-        ensures { result ≡ of.reckoning (after step.now) }
+        ensures value { result ≡ of.reckoning (after step.now) }
+        ensures on_a_leg { result.leg_index < length result.legs }
+        ensures admitted { refusal step.now.before step.now.event.by step.now.event.body ≡ None }
     {
         let next = step.situation();
         Basis {

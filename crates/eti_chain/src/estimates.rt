@@ -3,35 +3,54 @@ ghost use Rattle.journey.specs.declared.event.Event.{Event};
 ghost use Rattle.journey.specs.Journey.{after};
 ghost use Rattle.eti_chain.specs.Estimates as of;
 
-use crate::anchor::{Anchor, anchor_after};
+use crate::anchor::Anchor;
 use crate::basis::Basis;
 use journey::{Legs, Step, Track};
 use std::marker::Model;
 use taf_moment::Moment;
 
-/// When a wagon is expected at the end of its legs. None of its calls takes memory.
-#[derive(Debug, Drop)]
-pub struct Estimates {
+/// When a wagon is expected at the end of its legs, which are borrowed. None of its calls takes memory.
+#[derive(Drop)]
+pub struct Estimates<'a> {
     leg_index: usize,
-    legs: Legs,
+    legs: &'a Legs,
     anchor: Option<Anchor>,
     // The moment that was promised to the customer.
     commit: Moment,
 }
 
-impl Model for Estimates {
+impl<'a> Model for Estimates<'a> {
     ghost use Rattle.std.specs.Prelude.{Some};
-    ghost use Rattle.eti_chain.specs.Chains.{Chain, IsWithin, kept_as, reckoned_from};
+    ghost use Rattle.eti_chain.specs.Chains.{Chain, IsWithin, promised, reckoned_from};
 
     ghost Value = { Chain };
 
-    ghost view = { λ e. kept_as (reckoned_from e.leg_index e.legs e.anchor) (Some e.commit) };
+    ghost view = { λ e. promised (reckoned_from e.leg_index e.legs.now e.anchor) (Some e.commit) };
 
-    ghost invariant = { λ e. IsWithin (reckoned_from e.leg_index e.legs e.anchor) };
+    ghost invariant = { λ e. IsWithin (reckoned_from e.leg_index e.legs.now e.anchor) };
 }
 
-impl Estimates {
-    ghost use Rattle.eti_chain.specs.Chains.{IsWithin, chain};
+impl<'a> Estimates<'a> {
+    ghost use Rattle.std.specs.Prelude.{Some};
+    ghost use Rattle.eti_chain.specs.Chains.{IsWithin, chain, promised};
+
+    /// The estimates that are reckoned from this.
+    pub(crate) fn by(basis: Basis<'a>, commit: Moment) -> Estimates<'a>
+        requires { IsWithin basis }
+        ensures { result ≡ promised basis.entry (Some commit) }
+    {
+        let Basis {
+            leg_index,
+            legs,
+            anchor,
+        } = basis;
+        Estimates {
+            leg_index,
+            legs,
+            anchor,
+            commit,
+        }
+    }
 
     /// Whether no estimate of the track passes the last minute of the calendar.
     pub fn fits(track: &Track) -> bool
@@ -41,17 +60,11 @@ impl Estimates {
     }
 
     /// The estimates of a track. It walks the events.
-    pub fn of(track: &Track) -> Estimates
+    pub fn of(track: &'a Track) -> Estimates<'a>
         requires { of.fits track.now.events ≡ true }
         ensures { result ≡ chain track.now.events }
     {
-        let basis = Basis::of(track);
-        Estimates {
-            leg_index: basis.leg_index,
-            legs: basis.legs.copy(),
-            anchor: basis.anchor,
-            commit: track.plan().commit(),
-        }
+        Estimates::by(Basis::of(track), track.plan().commit())
     }
 
     /// Whether with the event of a step an estimate would pass the last minute of the calendar.
@@ -64,30 +77,12 @@ impl Estimates {
 
     /// The estimates of the track with the event of a step, which does not pass the calendar. It takes
     /// no walk.
-    pub fn followed(&self, step: &Step<'_>) -> Estimates
+    pub fn followed<'b>(&self, step: &'b Step<'_>) -> Estimates<'b>
         requires of_track { self.now ≡ chain step.now.before }
         requires fits { of.fits (after step.now) ≡ true }
         ensures { result ≡ chain (after step.now) }
     {
-        let next = step.situation();
-        Estimates {
-            leg_index: next.leg_index,
-            legs: next.legs.copy(),
-            anchor: anchor_after(self.anchor, step.event()),
-            commit: self.commit,
-        }
-    }
-
-    /// Goes from the estimates of a track to those of the track with the event of a step.
-    pub fn follow(&mut self, step: &Step<'_>)
-        requires of_track { self.old ≡ chain step.now.before }
-        requires fits { of.fits (after step.now) ≡ true }
-        ensures { self.new ≡ chain (after step.now) }
-    {
-        let next = step.situation();
-        self.leg_index = next.leg_index;
-        self.legs = next.legs.copy();
-        self.anchor = anchor_after(self.anchor, step.event());
+        Estimates::by(Basis::after(self.anchor, step), self.commit)
     }
 
     /// When the wagon is expected at the end of this leg: none without an event to count from,
@@ -126,7 +121,7 @@ impl Estimates {
     {
         Basis {
             leg_index: self.leg_index,
-            legs: &self.legs,
+            legs: self.legs,
             anchor: self.anchor,
         }
     }

@@ -7,23 +7,27 @@
 //! on top (`specs/Estimates.antt`). The estimate of the last leg is the estimated time of arrival, which is compared
 //! with the moment that was promised to the customer.
 //!
-//! [`Estimates`] are those of one track. They keep the newest anchor and the delays since, with the legs and the leg
-//! index, and contracts see them so, as the `chain` of the track's events (`specs/Chains.antt`).
+//! [`Estimates`] are those of one track, whose legs they borrow. Contracts see them as the `chain` of the track's
+//! events: the leg index, the legs, the newest anchor with the delays since, and the promised moment
+//! (`specs/Chains.antt`). [`Anchored`] is what is kept for them beside a track: the anchor and the promise alone.
 //!
-//! - [`Estimates::fits`] says whether no estimate of a track passes 2199-12-31T23:59Z, and [`Estimates::of`] reckons
-//!   them afresh.
-//! - [`Estimates::followed`] and [`Estimates::follow`] go from the estimates of a track to those of the track with the
-//!   event of a [`Step`](journey::Step). [`Estimates::would_pass_calendar`] says beforehand whether one would pass the
-//!   calendar; it copies no legs.
+//! - [`Estimates::fits`] says whether no estimate of a track passes 2199-12-31T23:59Z. [`Estimates::of`] and
+//!   [`Anchored::of`] walk its events.
+//! - [`Anchored::estimates`] gives the estimates of a track without a walk, and [`Anchored::put`] adds an event to the
+//!   track and goes on with it.
+//! - [`Estimates::followed`] goes from the estimates of a track to those of the track with the event of a
+//!   [`Step`](journey::Step). [`Estimates::would_pass_calendar`] says beforehand whether one would pass the calendar.
 //! - [`Estimates::estimate`], [`Estimates::eta`], [`Estimates::late`] and [`Estimates::late_by`] read them.
 //!
-//! Promised: each answer is that of the definitions over the track's events, and what `follow` gives is what `of` would
+//! Promised: each answer is that of the definitions over the track's events, and what `put` keeps is what `of` would
 //! give. No call takes memory. Sums are made in 128 bits: fewer than 2^63 events delay a wagon by at most 100,000 minutes
 //! each, and eight legs take less than 2^32 minutes each, so that no sum overflows.
 #![tactic(auto)]
 
 mod anchor;
+mod anchored;
 mod basis;
 mod estimates;
 
+pub use anchored::Anchored;
 pub use estimates::Estimates;

@@ -2,8 +2,6 @@
 ghost use Rattle.std.specs.Prelude.{◌≡◌, [], ◌∷◌, ◌++◌};
 ghost use Rattle.std.specs.List.{list_any};
 ghost use Rattle.trip_plan.specs.Rules.{has};
-ghost use Rattle.taf_messages.specs.declared.message.Message.{Message};
-ghost use Rattle.taf_messages.specs.declared.message.Body.TheVariants as body;
 ghost use Rattle.interchange.specs.Offers.{wagons_of};
 ghost use Rattle.hub_model.specs.Overtaking.{counted, share_wagon};
 ghost use Rattle.hub_tables.specs.Tabled.{known};
@@ -61,7 +59,7 @@ impl<'a> Counted<'a> {
 
     /// The wagons of an answer, and those of the offer that it answers.
     fn answered(tables: &'a Tables, answer: &'a TrainAnswer) -> Counted<'a>
-        ensures { (m : Message) → result ≡ counted (known tables.now) m (body.Answer answer.now) }
+        ensures { result ≡ answer.now.received ++ answer.now.refused ++ wagons_of ((known tables.now).offer answer.now.offerer answer.now.offer) }
     {
         Counted {
             named: answer.received.as_slice(),

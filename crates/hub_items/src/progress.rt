@@ -66,16 +66,22 @@ impl<'a> Next<'a> {
         self.wagon.track().situation().lead
     }
 
-    /// What the journey and the estimates come to with the event.
-    pub(crate) fn progress(&self) -> Progress<'_>
+    /// The step that the event makes.
+    pub(crate) fn step(&self) -> Step<'_>
         ensures { result ≡ self.now }
     {
-        let step = self.wagon.track().step(&self.event);
-        let estimates = self.wagon.estimates().followed(&step);
+        self.wagon.track().step(&self.event)
+    }
+
+    /// What the journey and the estimates come to with its step.
+    pub(crate) fn progress<'b>(&'b self, step: &'b Step<'b>) -> Progress<'b>
+        requires { step.now ≡ self.now }
+        ensures { result ≡ self.now }
+    {
         Progress {
             wagon: self.wagon,
             step,
-            estimates,
+            estimates: self.wagon.estimates().followed(step),
         }
     }
 }
@@ -84,9 +90,9 @@ impl<'a> Next<'a> {
 #[derive(Drop)]
 pub(crate) struct Progress<'a> {
     wagon: &'a Wagon,
-    step: Step<'a>,
+    step: &'a Step<'a>,
     // When the wagon is expected with the event.
-    estimates: Estimates,
+    estimates: Estimates<'a>,
 }
 
 impl<'a> Model for Progress<'a> {
@@ -95,9 +101,9 @@ impl<'a> Model for Progress<'a> {
 
     ghost Value = { Onward };
 
-    ghost view = { λ p. p.step };
+    ghost view = { λ p. p.step.now };
 
-    ghost invariant = { λ p. IsKept p.wagon.now p.step p.estimates };
+    ghost invariant = { λ p. IsKept p.wagon.now p.step.now p.estimates };
 }
 
 impl<'a> Progress<'a> {

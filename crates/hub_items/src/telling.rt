@@ -38,13 +38,15 @@ fn all_items(alloc: Global, tables: &Tables, message: &Message) -> Result<Vec<Ad
     match &message.body {
         Body::Movement(movement) => {
             let next = Next::of(tables, message, movement.wagon)?;
-            let progress = next.progress();
+            let step = next.step();
+            let progress = next.progress(&step);
             let told = told_of_movement(&progress, movement.what);
             items_of_one(alloc, message, told, &progress)
         }
         Body::EtiAsk { wagon } => {
             let next = Next::of(tables, message, *wagon)?;
-            let progress = next.progress();
+            let step = next.step();
+            let progress = next.progress(&step);
             items_of_one(alloc, message, progress.responsible(), &progress)
         }
         Body::Plan(_)
@@ -157,7 +159,8 @@ fn put_of_wagon(
         Body::Plan(plan) => put_alert_end(alerts, tables, plan.lead(), wagon),
         _ => {
             let next = Next::of(tables, message, wagon)?;
-            put_of_progress(alloc, items, alerts, &next.progress())
+            let step = next.step();
+            put_of_progress(alloc, items, alerts, &next.progress(&step))
         }
     }
 }

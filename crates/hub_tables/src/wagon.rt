@@ -5,7 +5,7 @@ ghost use Rattle.eti_chain.specs.Estimates.{fits};
 ghost use Rattle.eti_chain.specs.Chains.{chain};
 ghost use Rattle.hub_model.specs.Units.{is_on_plan};
 
-use eti_chain::Estimates;
+use eti_chain::{Anchored, Estimates};
 use journey::{Prepared, Track};
 use std::marker::Model;
 use trip_plan::Plan;
@@ -14,12 +14,12 @@ use wagon_number::WagonNumber;
 /// The most events of a journey that goes on: 2^62. Memory could not hold as many.
 const MOST_EVENTS: usize = 1 << 62;
 
-/// A wagon with its journey and its estimates.
+/// A wagon with its journey, of which no estimate passes the calendar.
 #[derive(Drop)]
 pub struct Wagon {
     track: Track,
-    // The estimates of the track.
-    estimates: Estimates,
+    // What is kept for the estimates of the track.
+    kept: Anchored,
 }
 
 impl Model for Wagon {
@@ -27,12 +27,13 @@ impl Model for Wagon {
 
     ghost Value = { Journey };
 
-    ghost use Rattle.std.specs.Prelude.{◌≡◌};
-    ghost use Rattle.eti_chain.specs.Chains.{chain};
+    ghost use Rattle.std.specs.Prelude.{◌≡◌, true};
+    ghost use Rattle.eti_chain.specs.Chains.{anchored};
+    ghost use Rattle.eti_chain.specs.Estimates.{fits};
 
     ghost view = { λ w. w.track };
 
-    ghost invariant = { λ w. w.estimates ≡ chain w.track.events };
+    ghost invariant = { λ w. (w.kept ≡ anchored w.track.events) × (fits w.track.events ≡ true) };
 }
 
 impl Wagon {
@@ -43,8 +44,8 @@ impl Wagon {
         ensures { result ≡ record { wagon = wagon; events = plan ∷ [] } }
     {
         let track = Track::begin(wagon, plan);
-        let estimates = Estimates::of(&track);
-        Wagon { track, estimates }
+        let kept = Anchored::of(&track);
+        Wagon { track, kept }
     }
 
     /// The journey.
@@ -55,10 +56,10 @@ impl Wagon {
     }
 
     /// When the wagon is expected.
-    pub fn estimates(&self) -> &Estimates
-        ensures { result.now ≡ chain self.now.events }
+    pub fn estimates(&self) -> Estimates<'_>
+        ensures { result ≡ chain self.now.events }
     {
-        &self.estimates
+        self.kept.estimates(&self.track)
     }
 
     /// Whether the journey begins with this plan; a consignment has one accepted plan.
@@ -82,9 +83,6 @@ impl Wagon {
         requires room { length self.old.events + 1 < 2 ^ 63 }
         ensures { self.new ≡ record self.old { events = self.old.events ++ event ∷ [] } }
     {
-        let step = self.track.step(event.event());
-        self.estimates.follow(&step);
-        let next = step.into_situation();
-        self.track.put(event, next);
+        self.kept.put(&mut self.track, event);
     }
 }

@@ -208,10 +208,6 @@ kept-push events s next e k r is =
       sound = rw is (sound-after s e k.sound admitted);
     }
 
--- the same where the situation is that of the events
-pub kept-put : (events : List Event) (s next : Situation) (e : Event) → IsKept events s → first_of (checks (situation events) e.by e.body) ≡ None → next ≡ situation (events ++ e ∷ []) → IsKept (events ++ e ∷ []) next
-kept-put events s next e k r is = kept-push events s next e k r (is ∙ situation-push events e ∙ ap (λ t. situation_after t e) (sym k.situation_is))
-
 -- an event that may come next has room for its legs
 pub room-kept : (events : List Event) (s : Situation) (e : Event) → IsKept events s → first_of (checks (situation events) e.by e.body) ≡ None → HasRoom s.leg_index e.body
 room-kept events s e k r = has_room s e.by e.body (ap (λ t. first_of (checks t e.by e.body)) k.situation_is ∙ r)

@@ -22,7 +22,7 @@
 //!   [`Track::events`] leads to a walk: stage, leg index, legs, responsible railway, place and checks take no more
 //!   than a look at it.
 //! - [`Step`] is a track with an event that it admits, and the situation that both lead to. [`Track::step`] makes it
-//!   once, for all that is asked of the event, and [`Track::put`] takes the situation from it.
+//!   once, for all that is asked of the event.
 //! - [`Legs`] are the one to eight legs of a wagon, kept in place.
 //!
 //! Promised: each answer is that of the definitions over the track's own events, for every journey. A wagon is

@@ -57,7 +57,7 @@ impl Situation {
     }
 
     /// Goes on by one event more.
-    fn advance(&mut self, event: &Event)
+    pub(crate) fn advance(&mut self, event: &Event)
         requires on_a_leg { self.old.leg_index < length self.old.legs }
         requires few_legs { length self.old.legs ≤ 8 }
         requires room { HasRoom self.old.leg_index event.now.body }

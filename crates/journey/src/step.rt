@@ -45,16 +45,4 @@ impl<'a> Step<'a> {
     {
         &self.situation
     }
-
-    /// The same, for the track that takes the event.
-    pub fn into_situation(self) -> Situation
-        ensures { result ≡ situation (after self.entry) }
-    {
-        let Step {
-            track: _,
-            event: _,
-            situation,
-        } = self;
-        situation
-    }
 }

@@ -84,16 +84,16 @@ impl Track {
         Ok(())
     }
 
-    /// Adds a prepared event that may come next, and leads to this situation. It takes no memory.
-    pub fn put(&mut self, event: Prepared, next: Situation)
+    /// Adds a prepared event that may come next. It takes no memory.
+    pub fn put(&mut self, event: Prepared)
         requires admitted { refusal self.old.events event.by event.body ≡ None }
-        requires leads_to { next ≡ situation (self.old.events ++ event ∷ []) }
         requires room { length self.old.events + 1 < 2 ^ 63 }
-        ensures { self.new ≡ record self.old { events = self.old.events ++ event ∷ [] } }
+        ensures grows { self.new ≡ record self.old { events = self.old.events ++ event ∷ [] } }
+        ensures on_a_leg { of.leg_index self.new.events < length (legs_of.legs self.new.events) }
     {
+        self.situation.advance(event.event());
         let mut node = event.into_list();
         let _ = self.events.append(&mut node);
-        self.situation = next;
     }
 
     pub fn wagon(&self) -> WagonNumber

@@ -20,7 +20,7 @@ use trip_plan::{Leg, Load, UnitLoad};
 use wagon_number::WagonNumber;
 
 /// What is shown of a wagon: its record, from its track and the track's estimates.
-pub fn record_of(alloc: Global, track: &Track, estimates: &Estimates) -> Result<Record, Memory>
+pub fn record_of(alloc: Global, track: &Track, estimates: &Estimates<'_>) -> Result<Record, Memory>
     requires { estimates.now ≡ chain track.now.events }
     ensures { IfOk result (λ r. records.record_of track.now.wagon track.now.events ≡ Some r) }
 {
@@ -97,7 +97,7 @@ fn leg_number(leg: usize) -> LegIndex
 fn estimates_of(
     alloc: Global,
     track: &Track,
-    estimates: &Estimates,
+    estimates: &Estimates<'_>,
 ) -> Result<EstimateList, AllocError>
     requires { estimates.now ≡ chain track.now.events }
     ensures { IfOk result (λ l. l ≡ of.estimates track.now.events) }

@@ -1,10 +1,10 @@
 //! Journeys from lines.
 ghost use Rattle.std.specs.Prelude.{◌≡◌, true, IfOk};
-ghost use Rattle.eti_chain.specs.Chains.{chain};
+ghost use Rattle.eti_chain.specs.Chains.{anchored, chain};
 ghost use Rattle.eti_chain.specs.Estimates.{fits};
 ghost use Rattle.journey.specs.Stages.{is_plan};
 
-use eti_chain::Estimates;
+use eti_chain::{Anchored, Estimates};
 use journey::{Event, EventBody, Prepared, Track};
 use std::alloc::Global;
 use std::test::Fail;
@@ -152,12 +152,13 @@ fn movement(kind: &str, fields: &[&str]) -> Result<MovementKind, Fail> {
     })
 }
 
-/// A track with its estimates.
+/// A track with what is kept for its estimates.
 #[derive(Drop)]
 pub(crate) struct Run {
     pub(crate) track: Track,
-    pub(crate) estimates: Estimates,
-    ghost follows: { estimates ≡ chain track.events },
+    kept: Anchored,
+    ghost follows: { kept ≡ anchored track.events },
+    ghost within: { fits track.events ≡ true },
 }
 
 impl Run {
@@ -169,8 +170,15 @@ impl Run {
         if !Estimates::fits(&track) {
             return Err(Fail::new("a plan that does not fit"));
         }
-        let estimates = Estimates::of(&track);
-        Ok(Run { track, estimates })
+        let kept = Anchored::of(&track);
+        Ok(Run { track, kept })
+    }
+
+    /// When the wagon is expected.
+    pub(crate) fn estimates(&self) -> Estimates<'_>
+        ensures { result ≡ chain self.now.track.events }
+    {
+        self.kept.estimates(&self.track)
     }
 
     /// Goes on with the event of a line, and tells what is seen then.
@@ -180,34 +188,33 @@ impl Run {
             return Ok(format!(in alloc; "{why:?}")?);
         }
         let step = self.track.step(&event);
-        if self.estimates.would_pass_calendar(&step) {
+        if self.estimates().would_pass_calendar(&step) {
             return Ok(format!(in alloc; "BeyondCalendar")?);
         }
-        let estimates = self.estimates.followed(&step);
-        self.track.add(event)?;
-        self.estimates = estimates;
+        if !self.put(event.prepared(alloc)?)? {
+            return Err(Fail::new("not as foretold"));
+        }
         self.seen(alloc)
     }
 
-    /// Goes on with a prepared event, and tells whether it leads to the situation that was foretold.
+    /// Goes on with a prepared event, and tells whether it leads to the stage and the estimate that were foretold.
     pub(crate) fn put(&mut self, next: Prepared) -> Result<bool, Fail> {
         let admitted = self.track.admits(next.event()).is_none();
         if !admitted || self.track.events().len() > 1000 {
             return Err(Fail::new("refused by a check"));
         }
         let step = self.track.step(next.event());
-        if self.estimates.would_pass_calendar(&step) {
+        if self.estimates().would_pass_calendar(&step) {
             return Err(Fail::new("past the calendar"));
         }
         let stage = step.situation().stage;
-        self.estimates.follow(&step);
-        let situation = step.into_situation();
-        self.track.put(next, situation);
-        Ok(stage == Some(self.track.stage()))
+        let eta = self.estimates().followed(&step).eta();
+        self.kept.put(&mut self.track, next);
+        Ok(stage == Some(self.track.stage()) && eta == self.estimates().eta())
     }
 
     pub(crate) fn record(&self, alloc: Global) -> Result<Record, Fail> {
-        Ok(record_of(alloc, &self.track, &self.estimates)?)
+        Ok(record_of(alloc, &self.track, &self.estimates())?)
     }
 
     fn seen(&self, alloc: Global) -> Result<String, Fail> {
@@ -221,10 +228,10 @@ impl Run {
             Some(railway) => seen.push_str(&format!(in alloc; " {railway}")?)?,
             None => seen.push_str(" ----")?,
         }
-        if let Some(at) = self.estimates.eta() {
+        if let Some(at) = self.estimates().eta() {
             seen.push_str(&format!(in alloc; " {at}")?)?;
         }
-        if let Some(minutes) = self.estimates.late_by() {
+        if let Some(minutes) = self.estimates().late_by() {
             seen.push_str(&format!(in alloc; " late by {minutes}")?)?;
         }
         Ok(seen)

@@ -307,7 +307,7 @@ fn twenty_thousand_delays(rt: HostRuntime) -> Result<(), Fail> {
         "Running 0 ------- R101 2025-03-15T12:20Z late by 19970"
     );
     assert_eq!(rt; run.track.events().len(), 20_003);
-    assert_eq!(rt; eta_afresh(&run.track), run.estimates.eta());
+    assert_eq!(rt; eta_afresh(&run.track), run.estimates().eta());
     Ok(())
 }
 
@@ -357,10 +357,10 @@ fn parts_of_a_track(rt: HostRuntime) -> Result<(), Fail> {
     assert_eq!(rt; track.leg(2), None);
     assert_eq!(rt; track.legs().last().copied(), second);
     assert!(rt; track.situation().is_on_its_way());
-    assert_eq!(rt; run.estimates.estimate(0), Some(moment(alloc, "11:00")?));
-    assert_eq!(rt; run.estimates.estimate(1), Some(moment(alloc, "15:00")?));
-    assert_eq!(rt; run.estimates.estimate(2), None);
-    assert!(rt; !run.estimates.late());
+    assert_eq!(rt; run.estimates().estimate(0), Some(moment(alloc, "11:00")?));
+    assert_eq!(rt; run.estimates().estimate(1), Some(moment(alloc, "15:00")?));
+    assert_eq!(rt; run.estimates().estimate(2), None);
+    assert!(rt; !run.estimates().late());
     Ok(())
 }
 
@@ -374,7 +374,7 @@ fn a_prepared_event(rt: HostRuntime) -> Result<(), Fail> {
     let next = event(alloc, "R101 2 10:40 yard_in AT00002")?.prepared(alloc)?;
     assert!(rt; run.put(next)?);
     assert_eq!(rt; run.track.stage(), Stage::InYard);
-    assert_eq!(rt; run.estimates.eta(), Some(moment(alloc, "15:00")?));
+    assert_eq!(rt; run.estimates().eta(), Some(moment(alloc, "15:00")?));
     Ok(())
 }
 

@@ -4,4 +4,4 @@ use Rattle.eti_chain.proofs.Chaining.{fits_by_reckoning}
 use Rattle.eti_chain.proofs.estimates.Estimates.fits.Goals as goal
 
 pub returns : goal.returns
-returns c = c.fits.ensures ∙ ap fits_in c.of.ensures ∙ fits_by_reckoning c.args.track.now.events
+returns c = c.fits.ensures ∙ ap fits_in c.of.ensures.value ∙ fits_by_reckoning c.args.track.now.events

@@ -8,4 +8,4 @@ pub after-requires-clause-newest : goal.after-requires-clause-newest
 after-requires-clause-newest c = ap (λ (k : Chain). k.reckoning.anchor) (c.self.view_is ∙ c.requires)
 
 pub returns : goal.returns
-returns c = ap not (c.fits.ensures ∙ ap fits_in c.after.ensures ∙ fits_by_reckoning (after c.args.step.now))
+returns c = ap not (c.fits.ensures ∙ ap fits_in c.after.ensures.value ∙ fits_by_reckoning (after c.args.step.now))

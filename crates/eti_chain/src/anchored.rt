@@ -1,0 +1,68 @@
+ghost use Rattle.std.specs.Prelude.{◌≡◌, ◌+◌, ◌<◌, ◌^◌, [], ◌∷◌, ◌++◌, length, true, None};
+ghost use Rattle.journey.specs.Checks.{refusal};
+ghost use Rattle.eti_chain.specs.Estimates as of;
+
+use crate::anchor::{Anchor, anchor_after};
+use crate::basis::Basis;
+use crate::estimates::Estimates;
+use journey::{Prepared, Track};
+use std::marker::Model;
+use taf_moment::Moment;
+
+/// What is kept for the estimates of a journey: its newest anchor with the delays since, and the moment that was
+/// promised to the customer. None of its calls takes memory.
+#[derive(Debug, Drop)]
+pub struct Anchored {
+    newest: Option<Anchor>,
+    commit: Moment,
+}
+
+impl Model for Anchored {
+    ghost use Rattle.std.specs.Prelude.{◌≤◌, Some};
+    ghost use Rattle.taf_moment.specs.Calendar.{last_minute};
+    ghost use Rattle.eti_chain.specs.Chains.{Anchored, anchored_by, delays_of};
+
+    ghost Value = { Anchored };
+
+    ghost view = { λ a. anchored_by a.newest (Some a.commit) };
+
+    ghost invariant = { λ a. delays_of a.newest ≤ last_minute };
+}
+
+impl Anchored {
+    ghost use Rattle.eti_chain.specs.Chains.{anchored, chain};
+
+    /// What is kept for a track, of which no estimate passes the calendar. It walks the events.
+    pub fn of(track: &Track) -> Anchored
+        requires { of.fits track.now.events ≡ true }
+        ensures { result ≡ anchored track.now.events }
+    {
+        Anchored {
+            newest: Basis::of(track).anchor,
+            commit: track.plan().commit(),
+        }
+    }
+
+    /// The estimates of the track that this is kept for. It takes no walk.
+    pub fn estimates<'a>(&self, track: &'a Track) -> Estimates<'a>
+        requires of_track { self.now ≡ anchored track.now.events }
+        requires fits { of.fits track.now.events ≡ true }
+        ensures { result ≡ chain track.now.events }
+    {
+        Estimates::by(Basis::with(self.newest, track), self.commit)
+    }
+
+    /// Adds a prepared event to the track that this is kept for, and goes on with it. The event may come next, and no
+    /// estimate passes the calendar with it.
+    pub fn put(&mut self, track: &mut Track, event: Prepared)
+        requires of_track { self.old ≡ anchored track.old.events }
+        requires admitted { refusal track.old.events event.by event.body ≡ None }
+        requires fits { of.fits (track.old.events ++ event ∷ []) ≡ true }
+        requires room { length track.old.events + 1 < 2 ^ 63 }
+        ensures track { track.new ≡ record track.old { events = track.old.events ++ event ∷ [] } }
+        ensures kept { self.new ≡ anchored (track.old.events ++ event ∷ []) }
+    {
+        self.newest = anchor_after(self.newest, event.event());
+        track.put(event);
+    }
+}
