@@ -116,9 +116,13 @@ fold-anchor before [] = ap anchor (sym (append-nil before))
 fold-anchor before (e ∷ events) =
     ap (λ a. fold anchor_after a events) (sym (anchor-push before e)) ∙ fold-anchor (before ++ e ∷ []) events ∙ ap anchor (append_assoc before (e ∷ []) events)
 
--- the anchor is found in one walk
-pub anchor_by_walk : (events : List Event) → fold anchor_after None events ≡ anchor events
-anchor_by_walk events = fold-anchor [] events
+-- the anchor of two parts is found in two walks
+pub anchor_by_parts : (before events : List Event) → fold anchor_after (anchor before) events ≡ anchor (before ++ events)
+anchor_by_parts = fold-anchor
+
+-- the anchor is found event by event
+pub anchor_pushed : (events : List Event) (e : Event) → anchor (events ++ e ∷ []) ≡ anchor_after (anchor events) e
+anchor_pushed = anchor-push
 
 -- ---- the estimates of the journey
 

@@ -1,16 +1,17 @@
-ghost use Rattle.std.specs.Prelude.{◌≡◌, ◌+◌, ◌<◌, ◌^◌, [], ◌∷◌, ◌++◌, length, true, None};
+ghost use Rattle.std.specs.Prelude.{◌≡◌, ◌+◌, ◌<◌, ◌^◌, [], ◌∷◌, ◌++◌, length, true, None, OnOk, OnErr};
 ghost use Rattle.journey.specs.Checks.{refusal};
 ghost use Rattle.eti_chain.specs.Estimates as of;
 
 use crate::anchor::{Anchor, anchor_after};
 use crate::basis::Basis;
 use crate::estimates::Estimates;
-use journey::{Prepared, Track};
+use journey::{Event, Prepared, Track};
 use std::marker::Model;
+use taf_codes::Memory;
 use taf_moment::Moment;
 
 /// What is kept for the estimates of a journey: its newest anchor with the delays since, and the moment that was
-/// promised to the customer. None of its calls takes memory.
+/// promised to the customer. Only [`Anchored::add`] takes memory.
 #[derive(Debug, Drop)]
 pub struct Anchored {
     newest: Option<Anchor>,
@@ -52,8 +53,24 @@ impl Anchored {
         Estimates::by(Basis::with(self.newest, track), self.commit)
     }
 
-    /// Adds a prepared event to the track that this is kept for, and goes on with it. The event may come next, and no
-    /// estimate passes the calendar with it.
+    /// Adds an event to the track that this is kept for, and goes on with it. The event may come next, and no estimate
+    /// passes the calendar with it. Where memory is refused, both are as they were.
+    pub fn add(&mut self, track: &mut Track, event: Event) -> Result<(), Memory>
+        requires of_track { self.old ≡ anchored track.old.events }
+        requires admitted { refusal track.old.events event.by event.body ≡ None }
+        requires fits { of.fits (track.old.events ++ event ∷ []) ≡ true }
+        ensures track { OnOk result (track.new ≡ record track.old { events = track.old.events ++ event ∷ [] }) }
+        ensures kept { OnOk result (self.new ≡ anchored (track.old.events ++ event ∷ [])) }
+        ensures same_track { OnErr result (track.new ≡ track.old) }
+        ensures same { OnErr result (self.new ≡ self.old) }
+    {
+        let newest = anchor_after(self.newest, &event);
+        track.add(event)?;
+        self.newest = newest;
+        Ok(())
+    }
+
+    /// Adds a prepared event in the same way. It takes no memory.
     pub fn put(&mut self, track: &mut Track, event: Prepared)
         requires of_track { self.old ≡ anchored track.old.events }
         requires admitted { refusal track.old.events event.by event.body ≡ None }

@@ -1,5 +1,5 @@
 //! What estimates are reckoned from.
-ghost use Rattle.std.specs.Prelude.{◌≡◌, ◌+◌, ◌<◌, ◌≤◌, ◌^◌, length, IfSome, None};
+ghost use Rattle.std.specs.Prelude.{◌≡◌, ◌+◌, ◌*◌, ◌<◌, ◌≤◌, ◌^◌, length, fold, IfSome, None};
 ghost use Rattle.std.specs.List.{sum_by};
 ghost use Rattle.taf_moment.specs.Calendar.{last_minute};
 ghost use Rattle.journey.specs.Checks.{refusal};
@@ -7,7 +7,7 @@ ghost use Rattle.journey.specs.Journey.{after};
 ghost use Rattle.eti_chain.specs.Chains as of;
 
 use crate::anchor::{Anchor, anchor_after};
-use journey::{Event, Legs, Step, Track};
+use journey::{Event, Events, Legs, Step, Track};
 use std::collections::LinkedList;
 use std::marker::Model;
 use taf_moment::Moment;
@@ -152,15 +152,38 @@ impl<'a> Basis<'a> {
     }
 }
 
-// The newest anchor of a journey, with the delays since. At most 2^63 events delay the wagon by at
+// The newest anchor of a journey, with the delays since. At most 2^64 events delay the wagon by at
 // most 100,000 minutes each.
-#[tactic(auto, using(crate::proofs::Chaining::anchor_by_walk))]
-fn newest_anchor(events: &LinkedList<Event>) -> Option<Anchor>
+#[tactic(auto, using(crate::proofs::Chaining::anchor_by_parts))]
+fn newest_anchor(events: &Events) -> Option<Anchor>
     ensures value { result ≡ of.anchor events.now }
     ensures small { of.delays_of result < 2 ^ 127 }
 {
+    let (row, joined) = events.parts();
+    anchor_behind(anchor_in_row(row), joined)
+}
+
+// The same of the events in a row.
+#[tactic(auto, using(crate::proofs::Chaining::anchor_pushed))]
+fn anchor_in_row(row: &[Event]) -> Option<Anchor>
+    ensures value { result ≡ of.anchor row.now }
+    ensures small { of.delays_of result ≤ 100000 * length row.now }
+{
     let mut found = None;
-    for event in events.iter() {
+    for event in row {
+        found = anchor_after(found, event);
+    }
+    found
+}
+
+// The newest anchor after more events.
+fn anchor_behind(before: Option<Anchor>, joined: &LinkedList<Event>) -> Option<Anchor>
+    requires { of.delays_of before < 2 ^ 126 }
+    ensures value { result ≡ fold of.anchor_after before joined.now }
+    ensures small { of.delays_of result < 2 ^ 127 }
+{
+    let mut found = before;
+    for event in joined.iter() {
         found = anchor_after(found, event);
     }
     found

@@ -12,7 +12,7 @@ ghost use Rattle.hub_model.specs.Answers.{accepted};
 ghost use Rattle.hub_tables.specs.Tabled.{IsAcceptable, goes_on, known, tabled};
 ghost use Rattle.hub_tables.specs.Taking.{GoesOn, Takes};
 
-use crate::enter::{enter, put_all, put_within};
+use crate::enter::{add, enter, put_all};
 use crate::tables::Tables;
 use interchange::Offer;
 use std::alloc::Global;
@@ -115,7 +115,7 @@ impl Tables {
         ensures err { OnErr result (self.new ≡ self.old) }
     {
         match alone(message) {
-            Some(wagon) => self.take_event(alloc, message, wagon),
+            Some(wagon) => self.take_event(message, wagon),
             None => {
                 let shares = self.next_shares(alloc, message)?;
                 put_all(&mut self.wagons, shares);
@@ -125,12 +125,7 @@ impl Tables {
     }
 
     /// The journey of the one wagon that the message names goes on.
-    fn take_event(
-        &mut self,
-        alloc: Global,
-        message: &Message,
-        wagon: WagonNumber,
-    ) -> Result<(), Memory>
+    fn take_event(&mut self, message: &Message, wagon: WagonNumber) -> Result<(), Memory>
         requires acceptable { IsAcceptable (known self.old) message.now }
         requires goes_on { goes_on message.now.body ≡ true }
         requires alone { named (known self.old).offer message.now ≡ wagon ∷ [] }
@@ -138,8 +133,8 @@ impl Tables {
         ensures offers { self.new.offers ≡ self.old.offers }
         ensures err { OnErr result (self.new ≡ self.old) }
     {
-        let share = self.next_share(alloc, message, wagon)?;
-        put_within(&mut self.wagons, wagon, share)?;
+        let share = self.next_share(message, wagon)?;
+        add(&mut self.wagons, wagon, share)?;
         Ok(())
     }
 

@@ -1,4 +1,4 @@
-//! Entries and events that are put into tables without memory.
+//! Entries and events that are put into tables.
 ghost use Rattle.std.specs.Prelude.{◌≡◌, ℕ, ◌≤◌, OnErr, OnOk, fold, length};
 ghost use Rattle.std.specs.Map.{keys_of, update_all};
 ghost use Rattle.indexmap.specs.IndexMap.{get, insert_all, spare};
@@ -7,7 +7,7 @@ ghost use Rattle.hub_tables.specs.Taking.{AreAdmitted, IsAdmitted, MayComeNext, 
 
 use crate::wagon::Wagon;
 use indexmap::IndexMap;
-use journey::Prepared;
+use journey::{Event, Prepared};
 use std::hash::Hash;
 use taf_codes::Memory;
 use wagon_number::WagonNumber;
@@ -53,12 +53,11 @@ pub(crate) fn put(wagons: &mut IndexMap<WagonNumber, Wagon>, wagon: WagonNumber,
     }
 }
 
-/// Puts a share at the end of its wagon's journey, if that has room for it. `Memory` where it has none: then all is as it
-/// was.
-pub(crate) fn put_within(
+/// Adds a share at the end of its wagon's journey. Where memory is refused, all is as it was.
+pub(crate) fn add(
     wagons: &mut IndexMap<WagonNumber, Wagon>,
     wagon: WagonNumber,
-    share: Prepared,
+    share: Event,
 ) -> Result<(), Memory>
     requires filed { AreFiled wagons.old.entries }
     requires next { MayComeNext (events_in wagons.old.entries wagon) share }
@@ -67,12 +66,13 @@ pub(crate) fn put_within(
     ensures keys { keys_of wagons.new.entries ≡ keys_of wagons.old.entries }
     ensures filed { AreFiled wagons.new.entries }
 {
-    let Some(found) = wagons.get_mut(&wagon) else {
-        unreachable!();
-    };
-    if !found.has_room() {
-        return Err(Memory);
+    match wagons.get_mut(&wagon) {
+        Some(found) => {
+            let Ok(()) = found.add(share) else {
+                return Err(Memory);
+            };
+            Ok(())
+        }
+        None => unreachable!(),
     }
-    found.put(share);
-    Ok(())
 }

@@ -176,12 +176,7 @@ impl Tables {
     }
 
     /// The share by which the journey of the one wagon that the message names goes on.
-    pub(crate) fn next_share(
-        &self,
-        alloc: Global,
-        message: &Message,
-        wagon: WagonNumber,
-    ) -> Result<Prepared, Memory>
+    pub(crate) fn next_share(&self, message: &Message, wagon: WagonNumber) -> Result<Event, Memory>
         requires acceptable { IsAcceptable (known self.now) message.now }
         requires goes_on { goes_on message.now.body ≡ true }
         requires alone { named (known self.now).offer message.now ≡ wagon ∷ [] }
@@ -189,7 +184,7 @@ impl Tables {
         ensures after { IfOk result (λ e. (w : ℕ) → put_on (events_in self.now.wagons) (wagon, e) w ≡ journey_after (known self.now) message.now w) }
     {
         let share = self.share(message, wagon)?;
-        Ok(share.prepared(alloc)?)
+        Ok(share)
     }
 
     /// Each of the wagons with a journey that begins with its share of the message.

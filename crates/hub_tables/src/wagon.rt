@@ -1,4 +1,4 @@
-ghost use Rattle.std.specs.Prelude.{◌≡◌, ◌<◌, ◌+◌, ◌^◌, [], ◌∷◌, ◌++◌, length, nat_lt, true, None};
+ghost use Rattle.std.specs.Prelude.{◌≡◌, ◌<◌, ◌+◌, ◌^◌, [], ◌∷◌, ◌++◌, length, nat_lt, true, None, OnOk, OnErr};
 ghost use Rattle.journey.specs.Stages.{is_plan};
 ghost use Rattle.journey.specs.Checks.{refusal};
 ghost use Rattle.eti_chain.specs.Estimates.{fits};
@@ -6,8 +6,9 @@ ghost use Rattle.eti_chain.specs.Chains.{chain};
 ghost use Rattle.hub_model.specs.Units.{is_on_plan};
 
 use eti_chain::{Anchored, Estimates};
-use journey::{Prepared, Track};
+use journey::{Event, Prepared, Track};
 use std::marker::Model;
+use taf_codes::Memory;
 use trip_plan::Plan;
 use wagon_number::WagonNumber;
 
@@ -76,7 +77,17 @@ impl Wagon {
         self.track.events().len() < MOST_EVENTS
     }
 
-    /// Goes on with the journey by an event that it admits.
+    /// Goes on with the journey by an event that it admits. Where memory is refused, all is as it was.
+    pub(crate) fn add(&mut self, event: Event) -> Result<(), Memory>
+        requires admitted { refusal self.old.events event.by event.body ≡ None }
+        requires fits { fits (self.old.events ++ event ∷ []) ≡ true }
+        ensures ok { OnOk result (self.new ≡ record self.old { events = self.old.events ++ event ∷ [] }) }
+        ensures err { OnErr result (self.new ≡ self.old) }
+    {
+        self.kept.add(&mut self.track, event)
+    }
+
+    /// Goes on with the journey by a prepared event that it admits. It takes no memory.
     pub(crate) fn put(&mut self, event: Prepared)
         requires admitted { refusal self.old.events event.by event.body ≡ None }
         requires fits { fits (self.old.events ++ event ∷ []) ≡ true }

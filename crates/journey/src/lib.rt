@@ -32,6 +32,7 @@
 mod checks;
 mod effects;
 mod event;
+mod events;
 mod legs;
 mod prepared;
 mod situation;
@@ -39,6 +40,7 @@ mod step;
 mod track;
 
 pub use event::{Event, EventBody};
+pub use events::Events;
 pub use legs::Legs;
 pub use prepared::Prepared;
 pub use situation::Situation;

@@ -1,11 +1,11 @@
 ghost use Rattle.std.specs.Prelude.{◌≡◌, ◌+◌, ◌<◌, ◌≤◌, ◌^◌, [], ◌∷◌, ◌++◌, length, true, Some, None, IfOk, OnOk, OnErr};
 
 use crate::event::{Event, EventBody};
+use crate::events::Events;
 use crate::prepared::Prepared;
 use crate::situation::Situation;
 use crate::step::Step;
 use std::alloc::Global;
-use std::collections::LinkedList;
 use std::marker::Model;
 use taf_codes::{Memory, Place, Railway};
 use taf_messages::{Stage, Why};
@@ -16,7 +16,7 @@ use wagon_number::WagonNumber;
 #[derive(Debug, Drop)]
 pub struct Track {
     wagon: WagonNumber,
-    events: LinkedList<Event>,
+    events: Events,
     // What the events come to.
     situation: Situation,
 }
@@ -60,7 +60,7 @@ impl Track {
         };
         Track {
             wagon,
-            events: event.into_list(),
+            events: Events::of(event),
             situation,
         }
     }
@@ -76,10 +76,11 @@ impl Track {
     pub fn add(&mut self, event: Event) -> Result<(), Memory>
         requires { refusal self.old.events event.by event.body ≡ None }
         ensures ok { OnOk result (self.new ≡ record self.old { events = self.old.events ++ event ∷ [] }) }
+        ensures on_a_leg { OnOk result (of.leg_index self.new.events < length (legs_of.legs self.new.events)) }
         ensures err { OnErr result (self.new ≡ self.old) }
     {
         let situation = self.situation.after(&event);
-        self.events.push_back(event)?;
+        self.events.push(event)?;
         self.situation = situation;
         Ok(())
     }
@@ -92,8 +93,7 @@ impl Track {
         ensures on_a_leg { of.leg_index self.new.events < length (legs_of.legs self.new.events) }
     {
         self.situation.advance(event.event());
-        let mut node = event.into_list();
-        let _ = self.events.append(&mut node);
+        self.events.join(event);
     }
 
     pub fn wagon(&self) -> WagonNumber
@@ -103,7 +103,7 @@ impl Track {
     }
 
     /// The events, oldest first.
-    pub fn events(&self) -> &LinkedList<Event>
+    pub fn events(&self) -> &Events
         ensures value { result.now ≡ self.now.events }
         ensures have_room { legs_of.HaveRoom 0 result.now }
     {
@@ -114,7 +114,7 @@ impl Track {
     pub fn plan(&self) -> &Plan
         ensures { of.plan self.now.events ≡ Some result.now }
     {
-        match self.events.front() {
+        match self.events.first() {
             Some(event) => match &event.body {
                 EventBody::Planned(plan) => plan,
                 _ => unreachable!(),

@@ -5,6 +5,9 @@ use Rattle.std.specs.Option.{option_to_list}
 use Rattle.std.specs.List.{range_with_len, cons_option}
 use Rattle.std.proofs.lemmas.List.Elements.{filter_map-append}
 use Rattle.taf_messages.specs.declared.record.EstimateAt.{EstimateAt}
+use Rattle.journey.specs.declared.event.Event.{Event}
+use Rattle.journey.specs.Legs.{HaveRoom, index_after}
+use Rattle.wimo.specs.Records.{record_event, record_events, leg_behind}
 
 -- an estimate of leg j
 abbrev pub at_leg : ℕ → ℕ → EstimateAt
@@ -25,3 +28,20 @@ found_more f n before after o h k e =
     let one = ap (λ x. cons_option x []) e ∙ filter_map-last o in
     k ∙ ap (λ l. l ++ option_to_list o) h ∙ ap (λ l. filter_map f (range_with_len 0 n) ++ l) (sym one) ∙
     sym (filter_map-append f (range_with_len 0 n) (n ∷ [])) ∙ ap (filter_map f) (sym (range_from 0 n n (omega arith)))
+
+-- ---- events in two parts
+
+-- what is shown of two parts
+pub events-append : (c : ℕ) (xs ys : List Event) → record_events c (xs ++ ys) ≡ record_events c xs ++ record_events (leg_behind c xs) ys
+events-append c [] ys = refl
+events-append c (e ∷ xs) ys = ap (λ l. record_event c e ∷ l) (events-append (index_after c e.body) xs ys)
+
+-- the first part has room for its legs
+pub room-first : (c : ℕ) (xs ys : List Event) → HaveRoom c (xs ++ ys) → HaveRoom c xs
+room-first c [] ys h = tt
+room-first c (e ∷ xs) ys h = (h.0, room-first (index_after c e.body) xs ys h.1)
+
+-- and so has the second
+pub room-behind : (c : ℕ) (xs ys : List Event) → HaveRoom c (xs ++ ys) → HaveRoom (leg_behind c xs) ys
+room-behind c [] ys h = h
+room-behind c (e ∷ xs) ys h = room-behind (index_after c e.body) xs ys h.1

@@ -1,14 +1,14 @@
-ghost use Rattle.std.specs.Prelude.{◌≡◌, ◌<◌, ◌≤◌, ◌+◌, length, bytes_eq, Some, IfOk};
+ghost use Rattle.std.specs.Prelude.{◌≡◌, ◌<◌, ◌≤◌, ◌+◌, ◌^◌, [], ◌∷◌, ◌++◌, length, bytes_eq, Some, IfOk, OnOk};
 ghost use Rattle.std.specs.List.{list_any};
 ghost use Rattle.journey.specs.Checks.{is_lead};
-ghost use Rattle.journey.specs.Legs.{HasRoom, HaveRoom};
+ghost use Rattle.journey.specs.Legs.{HasRoom, HaveRoom, index_after};
 ghost use Rattle.journey.specs.Situations.{situation};
 ghost use Rattle.eti_chain.specs.Chains.{chain};
 ghost use Rattle.eti_chain.specs.Estimates as of;
 ghost use Rattle.wimo.specs.Records as records;
 
 use eti_chain::Estimates;
-use journey::{Event, EventBody, Track};
+use journey::{Event, EventBody, Events, Track};
 use std::alloc::{AllocError, Global};
 use std::collections::LinkedList;
 use taf_codes::{Memory, Railway};
@@ -113,26 +113,70 @@ fn estimates_of(
 }
 
 // The events as they are shown.
-fn events_of(alloc: Global, events: &LinkedList<Event>) -> Result<RecordEvents, AllocError>
+fn events_of(alloc: Global, events: &Events) -> Result<RecordEvents, AllocError>
     requires { HaveRoom 0 events.now }
     ensures { IfOk result (λ l. l ≡ records.record_events 0 events.now) }
 {
-    let mut shown = Vec::new(alloc);
-    let mut current: usize = 0;
-    for event in events.iter() {
+    let (row, joined) = events.parts();
+    let shown = Vec::with_capacity(alloc, events.len())?;
+    let (shown, current) = show_row(shown, row)?;
+    show_joined(shown, current, joined)
+}
+
+// The first events as they are shown, put behind these, and the leg behind them.
+fn show_row(
+    before: Vec<RecordEvent>,
+    row: &[Event],
+) -> Result<(Vec<RecordEvent>, usize), AllocError>
+    requires { HaveRoom 0 row.now }
+    ensures shown { IfOk result (λ r. r.0.items ≡ before.items ++ records.record_events 0 row.now) }
+    ensures leg { IfOk result (λ r. r.1 ≡ records.leg_behind 0 row.now) }
+    ensures small { IfOk result (λ r. r.1 ≤ length row.now) }
+{
+    let mut shown = before;
+    let mut current = 0;
+    for event in row {
         let what = shown_as(current, &event.body);
-        shown.reserve(1)?;
-        shown.push_reserved(RecordEvent {
-            by: event.by,
-            no: event.no,
-            at: event.at,
-            what,
-        });
+        shown.push(recorded(event, what))?;
+        if let EventBody::Answered { received: true, .. } = event.body {
+            current += 1;
+        }
+    }
+    Ok((shown, current))
+}
+
+// More events, the first of which comes on this leg, put behind these.
+fn show_joined(
+    before: Vec<RecordEvent>,
+    first: usize,
+    joined: &LinkedList<Event>,
+) -> Result<RecordEvents, AllocError>
+    requires room { HaveRoom first joined.now }
+    requires small { first < 2 ^ 62 }
+    ensures { IfOk result (λ l. l ≡ before.items ++ records.record_events first joined.now) }
+{
+    let mut shown = before;
+    let mut current = first;
+    for event in joined.iter() {
+        let what = shown_as(current, &event.body);
+        shown.push(recorded(event, what))?;
         if let EventBody::Answered { received: true, .. } = event.body {
             current += 1;
         }
     }
     Ok(Listed::from_vec(shown))
+}
+
+// An event of which this is shown.
+fn recorded(event: &Event, what: Happened) -> RecordEvent
+    ensures { result ≡ record { by = event.now.by; no = event.now.no; at = event.now.at; what = what } }
+{
+    RecordEvent {
+        by: event.by,
+        no: event.no,
+        at: event.at,
+        what,
+    }
 }
 
 fn shown_as(current: usize, body: &EventBody) -> Happened

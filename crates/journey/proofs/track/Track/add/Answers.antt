@@ -1,4 +1,5 @@
-use Rattle.std.proofs.Common.{ap, ◌∙◌}
+use Rattle.std.proofs.Common.{length, ap, ◌∙◌}
+use Rattle.journey.specs.declared.situation.Situation.{Situation}
 use Rattle.journey.specs.Journey.{Journey}
 use Rattle.journey.specs.Checks.{refusal}
 use Rattle.journey.proofs.Sounding.{kept-push, room-kept}
@@ -9,8 +10,20 @@ after-situation-requires-clause-room c =
     let e = c.args.event in
     room-kept c.self.inside.events c.self.inside.situation e c.self.invariant (ap (λ (t : Journey). refusal t.events e.by e.body) c.self.view_is ∙ c.requires)
 
-pub invariant_of-self-2 : goal.invariant_of-self-2
-invariant_of-self-2 c =
+-- what is kept with the event
+kept : goal.invariant_of-self-2
+kept c =
     let e = c.args.event in
     let admitted = ap (λ (t : Journey). refusal t.events e.by e.body) c.self.view_is ∙ c.requires in
-    rw c.in_ok-push_back.ensures.items (kept-push c.self.inside.events c.self.inside.situation c.after-situation.result e c.self.invariant admitted c.after-situation.ensures)
+    rw c.in_ok-push.ensures.ok (kept-push c.self.inside.events c.self.inside.situation c.after-situation.result e c.self.invariant admitted c.after-situation.ensures)
+
+pub invariant_of-self-2 : goal.invariant_of-self-2
+invariant_of-self-2 = kept
+
+pub returns-clause-on_a_leg : goal.returns-clause-on_a_leg
+returns-clause-on_a_leg c =
+    let all = kept c in
+    let on_a_leg = all.sound.on_a_leg in
+    let legs_are = ap (λ (s : Situation). s.legs) all.situation_is in
+    let index_is = ap (λ (s : Situation). s.leg_index) all.situation_is in
+    rw (ap length legs_are, index_is) at on_a_leg

@@ -1,4 +1,4 @@
-use Rattle.std.proofs.Common.{rules, ◌≡◌, ◌++◌, ◌∷◌, [], length, ap, ◌∙◌}
+use Rattle.std.proofs.Common.{◌≡◌, length, ap, ◌∙◌}
 use Rattle.journey.specs.declared.situation.Situation.{Situation}
 use Rattle.journey.specs.Journey.{Journey}
 use Rattle.journey.specs.Checks.{refusal}
@@ -16,9 +16,8 @@ kept : goal.invariant_of-self
 kept c =
     let e = c.args.event in
     let admitted = ap (λ (t : Journey). refusal t.events e.by e.body) c.self.view_is ∙ c.requires.admitted in
-    let grown : c.append.new.self ≡ c.self.inside.events ++ e ∷ [] = search rules in
     let goes_on : c.advance.new.self ≡ situation_after c.self.inside.situation e = c.advance.ensures ∙ ap (situation_after c.self.inside.situation) c.event.ensures in
-    rw grown (kept-push c.self.inside.events c.self.inside.situation c.advance.new.self e c.self.invariant admitted goes_on)
+    rw c.join.ensures (kept-push c.self.inside.events c.self.inside.situation c.advance.new.self e c.self.invariant admitted goes_on)
 
 pub invariant_of-self : goal.invariant_of-self
 invariant_of-self = kept

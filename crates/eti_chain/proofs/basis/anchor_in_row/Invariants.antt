@@ -1,0 +1,9 @@
+use Rattle.std.proofs.Common.{◌≡◌, ◌*◌, ◌≤◌, take}
+use Rattle.eti_chain.specs.Chains as of
+use Rattle.eti_chain.proofs.basis.anchor_in_row.Given as goal
+
+abbrev pub invariant-loop-event : goal.invariant-loop-event
+invariant-loop-event l = record {
+  walked : l.found ≡ of.anchor (take l.event-index l.row);
+  small : of.delays_of l.found ≤ 100000 * l.event-index;
+}
