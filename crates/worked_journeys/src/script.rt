@@ -200,7 +200,7 @@ impl Run {
     /// Goes on with a prepared event, and tells whether it leads to the stage and the estimate that were foretold.
     pub(crate) fn put(&mut self, next: Prepared) -> Result<bool, Fail> {
         let admitted = self.track.admits(next.event()).is_none();
-        if !admitted || self.track.events().len() > 1000 {
+        if !admitted || self.track.events().len() >= 1 << 62 {
             return Err(Fail::new("refused by a check"));
         }
         let step = self.track.step(next.event());

@@ -217,12 +217,6 @@ fn copying_replies(rt: HostRuntime) -> Result<(), Fail> {
     Ok(())
 }
 
-// Copies take memory for lists alone: what a plan or a route says is shared.
-fn shares(line: &str) -> bool {
-    let lists = line.contains("wagons\":[") || line.contains("received");
-    line.contains("\"plan\"") || !lists
-}
-
 fn copies_message(ballast: &mut Ballast, message: &Message) -> Result<bool, Fail> {
     ballast.leave(0)?;
     let copied = copy(message).is_ok();
@@ -261,9 +255,8 @@ fn copying_messages(rt: HostRuntime) -> Result<(), Fail> {
     let alloc = rt.alloc();
     let mut ballast = Ballast::new(alloc)?;
     for line in MESSAGES.lines() {
-        let shares = shares(line);
         let copied = copied(alloc, &mut ballast, line)?;
-        assert_eq!(rt; copied, [shares, shares, shares], "{line}");
+        assert_eq!(rt; copied, [true, true, true], "{line}");
     }
     Ok(())
 }
