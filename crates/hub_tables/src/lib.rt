@@ -6,8 +6,9 @@
 //! says, and [`Tables::share`] what a message says of one of its wagons.
 //!
 //! [`Tables::accept`] takes a message that may be accepted (`IsAcceptable`), and what is known then is what `accepted` of
-//! `hub_model` says. First comes all that may be refused memory: each wagon's share in a node of its own, copies of a plan,
-//! room in each table. Then come steps that cannot fail. So where it answers [`Memory`](taf_codes::Memory), all is as it was.
+//! `hub_model` says. First comes all that may be refused memory: of several wagons each one's share in a node of its own,
+//! copies of a plan, room in each table. Then come steps that cannot fail, or the one step of a single wagon's journey, which
+//! changes nothing where it fails. So where it answers [`Memory`](taf_codes::Memory), all is as it was.
 #![tactic(auto)]
 
 mod accept;

@@ -18,6 +18,7 @@
 //!   [`Track::open`] begins it with a plan, [`Track::admits`] says why an event may not come next, and
 //!   [`Track::add`] adds one that may. Where memory is refused, a track is as it was.
 //! - [`Event::prepared`] gives an event memory of its own. [`Track::begin`] and [`Track::put`] then take none.
+//! - [`Events`] lie in a row, and behind it in a list, where those are that came with memory of their own.
 //! - [`Situation`] is what the events come to. A track keeps it beside them, so that no call but
 //!   [`Track::events`] leads to a walk: stage, leg index, legs, responsible railway, place and checks take no more
 //!   than a look at it.

@@ -7,7 +7,7 @@ use crate::message::Message;
 use crate::reply::Reply;
 use taf_codes::Memory;
 
-/// The same message. It shares what a plan or a route says.
+/// The same message. It shares what a plan, a route, an offer or an answer says.
 pub fn copy(message: &Message) -> Result<Message, Memory>
     ensures { IfOk result (λ copy. copy ≡ message.now) }
 {

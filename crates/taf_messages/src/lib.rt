@@ -19,11 +19,11 @@
 //!   [`OfferedWagons`]). [`Listed`] is a list that contracts see as its elements, [`Shared`] a value
 //!   that copies share and that contracts see as itself.
 //! - [`same`] is equality of sender, number and content. `==` of calls, items and replies is
-//!   equality, and copies equal their source; they share what a plan or a route says, and the
-//!   records and the items of a reply.
+//!   equality, and copies equal their source; they share what plans, routes, offers, answers and sub
+//!   notices say, and the records and the items of a reply.
 //!
-//! Only reading, writing and copying take memory. Where it is refused, the answer is
-//! `RecordFault::Memory` or `Memory`, and what a buffer held stays.
+//! Only reading and writing take memory. Where it is refused, the answer is `RecordFault::Memory` or
+//! `Memory`, and what a buffer held stays. A copy answers `Memory` where one value is shared too often.
 #![tactic(auto)]
 
 mod call;
