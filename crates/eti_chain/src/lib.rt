@@ -13,14 +13,14 @@
 //!
 //! - [`Estimates::fits`] says whether no estimate of a track passes 2199-12-31T23:59Z. [`Estimates::of`] and
 //!   [`Anchored::of`] walk its events.
-//! - [`Anchored::estimates`] gives the estimates of a track without a walk, and [`Anchored::put`] adds an event to the
-//!   track and goes on with it.
+//! - [`Anchored::estimates`] gives the estimates of a track without a walk. [`Anchored::add`] and [`Anchored::put`] add
+//!   an event to the track and go on with it.
 //! - [`Estimates::followed`] goes from the estimates of a track to those of the track with the event of a
 //!   [`Step`](journey::Step). [`Estimates::would_pass_calendar`] says beforehand whether one would pass the calendar.
 //! - [`Estimates::estimate`], [`Estimates::eta`], [`Estimates::late`] and [`Estimates::late_by`] read them.
 //!
-//! Promised: each answer is that of the definitions over the track's events, and what `put` keeps is what `of` would
-//! give. No call takes memory. Sums are made in 128 bits: fewer than 2^63 events delay a wagon by at most 100,000 minutes
+//! Promised: each answer is that of the definitions over the track's events, and what `add` and `put` keep is what `of` would
+//! give. Only `add` takes memory. Sums are made in 128 bits: fewer than 2^64 events delay a wagon by at most 100,000 minutes
 //! each, and eight legs take less than 2^32 minutes each, so that no sum overflows.
 #![tactic(auto)]
 
