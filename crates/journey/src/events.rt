@@ -7,6 +7,9 @@ use std::collections::LinkedList;
 use std::marker::Model;
 use taf_codes::Memory;
 
+// How many events a row has room for once it has one.
+const FIRST: usize = 16;
+
 /// The events of a journey, oldest first: most of them in a row, and behind it those that joined without memory.
 #[derive(Debug, Drop)]
 pub struct Events {
@@ -84,6 +87,9 @@ fn gather(row: &mut Vec<Event>, joined: &mut LinkedList<Event>) -> Result<(), Me
     ensures same { row.new.items ++ joined.new ≡ row.old.items ++ joined.old }
     ensures all { OnOk result (joined.new ≡ []) }
 {
+    if row.is_empty() {
+        row.reserve(FIRST)?;
+    }
     row.reserve(joined.len())?;
     while let Some(event) = joined.pop_front() {
         row.push_reserved(event);
