@@ -1,5 +1,6 @@
 pub mod SoFar
 pub mod Planned
+pub mod Silent
 pub mod Accepted
 pub mod Alerted
 pub mod Noticed

@@ -61,3 +61,16 @@ told_of_one s m w told p n is none wagon before behind =
     ap (λ xs. xs ++ estimate_items p.before (after p) p.wagon ++ alert_items p.before (after p) p.wagon) (one_noticed s m told is none) ∙
     ap (λ xs. notices s m ++ xs ++ alert_items p.before (after p) p.wagon) (of_one s m w p estimate_items n wagon before behind) ∙
     ap (λ xs. notices s m ++ flat_map (estimates_at s m) (named s.offer m) ++ xs) (of_one s m w p alert_items n wagon before behind)
+
+-- the same where nothing is told of the wagon's estimates
+pub told_alone : (s : Standing) (m : Message) (w : ℕ) (told : Option Railway) (p : Onward) → named s.offer m ≡ w ∷ [] →
+    notified s (journey_after s m) m.by m.body ≡ option_to_list told → sub_items m.by m.body ≡ [] →
+    p.wagon ≡ w → p.before ≡ s.journey w → after p ≡ journey_after s m w →
+    estimate_items p.before (after p) p.wagon ≡ [] → alert_items p.before (after p) p.wagon ≡ [] →
+    map (λ r. record { to = r; body = item.Notice m }) (option_to_list told) ≡ told_by s m
+told_alone s m w told p n is none wagon before behind no_estimates no_alerts =
+    sym (
+    ap (λ xs. to_each (option_to_list told) m ++ xs ++ alert_items p.before (after p) p.wagon) no_estimates ∙
+    ap (λ xs. to_each (option_to_list told) m ++ [] ++ xs) no_alerts ∙
+    append-nil (to_each (option_to_list told) m ++ []) ∙ append-nil (to_each (option_to_list told) m)) ∙
+    told_of_one s m w told p n is none wagon before behind

@@ -1,6 +1,9 @@
 -- A journey with one event more.
-use Rattle.std.specs.Prelude.{◌≡◌, ℕ, true, List, Option, None, option_map, option_to_list, filter, flat_map}
+use Rattle.std.specs.Prelude.{◌≡◌, ℕ, Bool, true, false, List, Option, None, option_map, option_to_list, filter, flat_map}
+use Rattle.taf_messages.specs.declared.movement.MovementKind.TheVariants.{YardArrival, YardDeparture}
 use Rattle.taf_messages.specs.declared.record.EstimateAt.{EstimateAt}
+use Rattle.journey.specs.declared.event.EventBody.{EventBody}
+use Rattle.journey.specs.declared.event.EventBody.TheVariants.{Moved, EstimateAsked, Offered, Withdrawn}
 use Rattle.journey.specs.Journey.{Journey, Onward, after}
 use Rattle.journey.specs.Checks.{refusal}
 use Rattle.eti_chain.specs.Chains.{Chain, chain}
@@ -18,6 +21,15 @@ pub record IsKept (j : Journey) (o : Onward) (c : Chain) : Type 0 where
   pub wagon_is : o.wagon ≡ j.wagon
   pub before_is : o.before ≡ j.events
   pub estimates_are : c ≡ chain (after o)
+
+-- an event that leaves the legs and the anchor of the estimates as they are, and delays nothing (4.2.6)
+abbrev pub keeps_estimates : EventBody → Bool
+keeps_estimates (Moved (YardArrival place)) = true
+keeps_estimates (Moved (YardDeparture place)) = true
+keeps_estimates EstimateAsked = true
+keeps_estimates (Offered place to) = true
+keeps_estimates (Withdrawn place) = true
+keeps_estimates _ = false
 
 -- the estimate of a leg with the event
 abbrev pub estimate_of : Onward → ℕ → Option EstimateAt

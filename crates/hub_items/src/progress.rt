@@ -1,19 +1,22 @@
 //! A journey with one event more.
-ghost use Rattle.std.specs.Prelude.{◌≡◌, ◌≤◌, ◌++◌, ◌∷◌, [], length, true, None, IfOk};
+ghost use Rattle.std.specs.Prelude.{◌≡◌, ℕ, ◌≤◌, ◌++◌, ◌∷◌, [], length, true, None, IfOk};
 ghost use Rattle.trip_plan.specs.Rules.{has};
 ghost use Rattle.journey.specs.Stages as stages;
 ghost use Rattle.journey.specs.Legs as legs_of;
 ghost use Rattle.eti_chain.specs.Estimates as of;
-ghost use Rattle.hub_model.specs.Standing.{named, journey_after};
+ghost use Rattle.hub_model.specs.Standing.{named, journey_after, said_of};
+ghost use Rattle.hub_model.specs.Items.{alert_items, estimate_items};
 ghost use Rattle.hub_tables.specs.Tabled.{IsAcceptable, known, goes_on};
+ghost use Rattle.hub_items.specs.Onward.{keeps_estimates};
+ghost use Rattle.journey.specs.declared.event.EventBody.TheVariants.{Moved};
 ghost use Rattle.journey.specs.Journey.{after};
 
 use eti_chain::Estimates;
 use hub_tables::{Tables, Wagon};
-use journey::{Event, Step};
+use journey::{Event, EventBody, Step};
 use std::marker::Model;
 use taf_codes::{Memory, Railway};
-use taf_messages::Message;
+use taf_messages::{Message, MovementKind};
 use taf_moment::Moment;
 use wagon_number::WagonNumber;
 
@@ -48,6 +51,7 @@ impl<'a> Next<'a> {
         ensures wagon { IfOk result (λ n. n.wagon ≡ wagon) }
         ensures before { IfOk result (λ n. n.before ≡ (known tables.now).journey wagon) }
         ensures after { IfOk result (λ n. after n ≡ journey_after (known tables.now) message.now wagon) }
+        ensures says { IfOk result (λ n. n.event.body ≡ said_of (known tables.now).offer message.now.by message.now.body wagon) }
     {
         let event = tables.share(message, wagon)?;
         match tables.wagon(wagon) {
@@ -64,6 +68,15 @@ impl<'a> Next<'a> {
         ensures { result ≡ legs_of.lead_of (after self.now) }
     {
         self.wagon.track().situation().lead
+    }
+
+    /// Whether the event leaves all estimates as they are. Nothing is told of them then.
+    pub(crate) fn keeps_estimates(&self) -> bool
+        ensures value { result ≡ keeps_estimates self.now.event.body }
+        ensures estimates { (w : ℕ) → result ≡ true → estimate_items self.now.before (after self.now) w ≡ [] }
+        ensures alerts { (w : ℕ) → result ≡ true → alert_items self.now.before (after self.now) w ≡ [] }
+    {
+        keeps_estimates(&self.event.body)
     }
 
     /// The step that the event makes.
@@ -84,6 +97,30 @@ impl<'a> Next<'a> {
             estimates: self.wagon.estimates().followed(step),
         }
     }
+}
+
+// Whether an event leaves all estimates as they are.
+fn keeps_estimates(says: &EventBody) -> bool
+    ensures { result ≡ keeps_estimates says.now }
+{
+    match says {
+        EventBody::Moved(what) => is_in_yard(*what),
+        EventBody::EstimateAsked | EventBody::Offered { .. } | EventBody::Withdrawn { .. } => true,
+        EventBody::Planned(_)
+        | EventBody::LegTimed { .. }
+        | EventBody::Answered { .. }
+        | EventBody::Rerouted(_) => false,
+    }
+}
+
+// A movement of a yard, which is on the way and no more.
+fn is_in_yard(what: MovementKind) -> bool
+    ensures { result ≡ keeps_estimates (Moved what) }
+{
+    matches!(
+        what,
+        MovementKind::YardArrival { .. } | MovementKind::YardDeparture { .. }
+    )
 }
 
 /// A wagon with an event, and what both come to.

@@ -2,6 +2,7 @@
 ghost use Rattle.std.specs.Prelude.{◌≡◌, ◌++◌, ◌∷◌, [], IfOk, OnOk, true, false, not, filter, map, flat_map, option_to_list, if◌then◌else◌, bytes_eq};
 ghost use Rattle.trip_plan.specs.Rules.{has};
 ghost use Rattle.eti_chain.specs.Estimates.{is_late};
+ghost use Rattle.taf_messages.specs.declared.message.Body.TheVariants as body;
 ghost use Rattle.hub_model.specs.Standing.{named, journey_after};
 ghost use Rattle.hub_model.specs.Items as of;
 ghost use Rattle.hub_tables.specs.Tabled.{IsAcceptable, known};
@@ -17,7 +18,7 @@ use hub_model::Addressed;
 use hub_tables::Tables;
 use std::alloc::Global;
 use taf_codes::{Memory, Railway};
-use taf_messages::{Body, ItemBody, Message, copy};
+use taf_messages::{Body, ItemBody, Message, Movement, copy};
 use wagon_number::WagonNumber;
 
 /// What an acceptable message has the railways told, in order; nothing goes to its own sender.
@@ -36,13 +37,7 @@ fn all_items(alloc: Global, tables: &Tables, message: &Message) -> Result<Vec<Ad
     ensures { IfOk result (λ v. v.items ≡ told_by (known tables.now) message.now) }
 {
     match &message.body {
-        Body::Movement(movement) => {
-            let next = Next::of(tables, message, movement.wagon)?;
-            let step = next.step();
-            let progress = next.progress(&step);
-            let told = told_of_movement(&progress, movement.what);
-            items_of_one(alloc, message, told, &progress)
-        }
+        Body::Movement(movement) => items_of_movement(alloc, tables, message, movement),
         Body::EtiAsk { wagon } => {
             let next = Next::of(tables, message, *wagon)?;
             let step = next.step();
@@ -58,6 +53,40 @@ fn all_items(alloc: Global, tables: &Tables, message: &Message) -> Result<Vec<Ad
     }
 }
 
+// The items of a movement. Where it changes no estimate, there is nothing but the lead's notice.
+fn items_of_movement(
+    alloc: Global,
+    tables: &Tables,
+    message: &Message,
+    movement: &Movement,
+) -> Result<Vec<Addressed>, Memory>
+    requires acceptable { IsAcceptable (known tables.now) message.now }
+    requires moves { message.now.body ≡ body.Movement movement.now }
+    ensures { IfOk result (λ v. v.items ≡ told_by (known tables.now) message.now) }
+{
+    let next = Next::of(tables, message, movement.wagon)?;
+    if next.keeps_estimates() {
+        return notice_alone(alloc, message, next.lead());
+    }
+    let step = next.step();
+    let progress = next.progress(&step);
+    let told = told_of_movement(&progress, movement.what);
+    items_of_one(alloc, message, told, &progress)
+}
+
+// The notice of the message for the railway, if there is one, and nothing else.
+fn notice_alone(
+    alloc: Global,
+    message: &Message,
+    told: Option<Railway>,
+) -> Result<Vec<Addressed>, Memory>
+    ensures { IfOk result (λ v. v.items ≡ map (λ r. record { to = r; body = ItemBody.Notice message.now }) (option_to_list told)) }
+{
+    let mut items = Vec::new(alloc);
+    put_notice(&mut items, message, told)?;
+    Ok(items)
+}
+
 // The items of a message on one wagon, of which at most one railway gets the notice.
 fn items_of_one(
     alloc: Global,
@@ -67,8 +96,7 @@ fn items_of_one(
 ) -> Result<Vec<Addressed>, Memory>
     ensures { IfOk result (λ v. v.items ≡ map (λ r. record { to = r; body = ItemBody.Notice message.now }) (option_to_list told) ++ of.estimate_items progress.now.before (after progress.now) progress.now.wagon ++ of.alert_items progress.now.before (after progress.now) progress.now.wagon) }
 {
-    let mut items = Vec::new(alloc);
-    put_notice(&mut items, message, told)?;
+    let mut items = notice_alone(alloc, message, told)?;
     put_estimates(&mut items, progress)?;
     put_alerts(alloc, &mut items, progress)?;
     Ok(items)
@@ -159,6 +187,9 @@ fn put_of_wagon(
         Body::Plan(plan) => put_alert_end(alerts, tables, plan.lead(), wagon),
         _ => {
             let next = Next::of(tables, message, wagon)?;
+            if next.keeps_estimates() {
+                return Ok(());
+            }
             let step = next.step();
             put_of_progress(alloc, items, alerts, &next.progress(&step))
         }

@@ -6,33 +6,20 @@ use Rattle.journey.specs.Stages.{responsible}
 use Rattle.std.specs.Prelude.{option_to_list}
 use Rattle.hub_model.specs.declared.addressed.Addressed.{Addressed}
 use Rattle.hub_model.specs.Standing.{wagons_in, journey_after}
-use Rattle.hub_model.specs.Items.{notified, sub_items, told_of_movement}
+use Rattle.hub_model.specs.Items.{notified, sub_items}
 use Rattle.hub_tables.specs.Tabled.{known}
 use Rattle.hub_items.proofs.Told.{told_of_one}
 use Rattle.hub_items.proofs.telling.all_items.Goals as goal
-
-pub returns-in_ok-next-in-Movement : goal.returns-in_ok-next-in-Movement
-returns-in_ok-next-in-Movement c =
-    let s = known c.args.tables.now in
-    let m = c.args.message.now in
-    let n = c.in_ok-next-in-Movement.ensures in
-    let same = c.progress-progress.ensures in
-    let behind = ap after same ∙ n.after in
-    let alone = ap (wagons_in s.offer m.by) c.in-Movement.is in
-    let told = ap (notified s (journey_after s m) m.by) c.in-Movement.is ∙ ap (λ (es : List Event). told_of_movement es c.in-Movement.movement.what) (sym behind) ∙ sym c.told_of_movement-told.ensures in
-    let none = ap (sub_items m.by) c.in-Movement.is in
-    subst (λ (more : List Addressed). IfOk c.items_of_one.result (λ v. v.items ≡ more))
-    (told_of_one s m _ _ _ alone told none (ap (λ (o : Onward). o.wagon) same ∙ n.wagon) (ap (λ (o : Onward). o.before) same ∙ n.before) behind) c.items_of_one.ensures
 
 pub returns-in_ok-next-in-EtiAsk : goal.returns-in_ok-next-in-EtiAsk
 returns-in_ok-next-in-EtiAsk c =
     let s = known c.args.tables.now in
     let m = c.args.message.now in
     let n = c.in_ok-next-in-EtiAsk.ensures in
-    let same = c.progress-progress-in-EtiAsk.ensures in
+    let same = c.progress-progress.ensures in
     let behind = ap after same ∙ n.after in
     let alone = ap (wagons_in s.offer m.by) c.in-EtiAsk.is in
     let told = ap (notified s (journey_after s m) m.by) c.in-EtiAsk.is ∙ ap (λ (es : List Event). option_to_list (responsible es)) (sym behind) ∙ ap option_to_list (sym c.responsible.ensures) in
     let none = ap (sub_items m.by) c.in-EtiAsk.is in
-    subst (λ (more : List Addressed). IfOk c.items_of_one-in-EtiAsk.result (λ v. v.items ≡ more))
-    (told_of_one s m _ _ _ alone told none (ap (λ (o : Onward). o.wagon) same ∙ n.wagon) (ap (λ (o : Onward). o.before) same ∙ n.before) behind) c.items_of_one-in-EtiAsk.ensures
+    subst (λ (more : List Addressed). IfOk c.items_of_one.result (λ v. v.items ≡ more))
+    (told_of_one s m _ _ _ alone told none (ap (λ (o : Onward). o.wagon) same ∙ n.wagon) (ap (λ (o : Onward). o.before) same ∙ n.before) behind) c.items_of_one.ensures

@@ -1,4 +1,4 @@
-use Rattle.std.proofs.Common.{◌≡◌, List, ◌∙◌, ap, sym, ◌++◌, append-nil, subst}
+use Rattle.std.proofs.Common.{◌≡◌, List, [], ◌∙◌, ap, sym, ◌++◌, append-nil, subst}
 use Rattle.std.specs.Prelude.{OnOk}
 use Rattle.std.proofs.lemmas.Result.{on_ok_weaker}
 use Rattle.journey.specs.Journey.{Onward, after}
@@ -14,8 +14,8 @@ returns-in-Plan-clause-estimates c =
     let none = planned_estimates (known c.args.tables.now) c.args.message.now c.in-Plan.plan c.args.wagon c.in-Plan.is c.requires.is_named in
     on_ok_weaker c.put_alert_end.result (λ told. sym (ap (λ more. before ++ more) none ∙ append-nil before)) c.put_alert_end.ensures
 
-pub returns-in_ok-next-in_default : goal.returns-in_ok-next-in_default
-returns-in_ok-next-in_default c =
+pub returns-else-keeps_estimates : goal.returns-else-keeps_estimates
+returns-else-keeps_estimates c =
     let n = c.in_ok-next-in_default.ensures in
     let same = c.progress.ensures in
     let before = ap (λ (o : Onward). o.before) same ∙ n.before in
@@ -25,4 +25,17 @@ returns-in_ok-next-in_default c =
     record {
       estimates = subst (λ (more : List Addressed). OnOk put.result (put.new.items.items ≡ c.args.items.now.items ++ more)) (λ i. estimate_items (before i) (behind i) (wagon i)) put.ensures.estimates;
       alerts = subst (λ (more : List Addressed). OnOk put.result (put.new.alerts.items ≡ c.args.alerts.now.items ++ more)) (λ i. alert_items (before i) (behind i) (wagon i)) put.ensures.alerts;
+    }
+
+nothing_more : (xs before : List Addressed) → xs ≡ [] → before ≡ before ++ xs
+nothing_more xs before e = sym (ap (λ ys. before ++ ys) e ∙ append-nil before)
+
+pub returns-then-keeps_estimates : goal.returns-then-keeps_estimates
+returns-then-keeps_estimates c =
+    let n = c.in_ok-next-in_default.ensures in
+    let k = c.keeps_estimates.ensures in
+    let kept = c.if-keeps_estimates.true in
+    record {
+      estimates = nothing_more _ c.args.items.now.items (sym (λ i. estimate_items (n.before i) (n.after i) c.args.wagon) ∙ k.estimates c.args.wagon kept);
+      alerts = nothing_more _ c.args.alerts.now.items (sym (λ i. alert_items (n.before i) (n.after i) c.args.wagon) ∙ k.alerts c.args.wagon kept);
     }
