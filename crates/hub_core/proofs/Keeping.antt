@@ -11,9 +11,6 @@ use Rattle.taf_messages.specs.declared.reply.Reply.TheVariants.{Items}
 use Rattle.outbox.specs.Kept.{Kept, first_items}
 use Rattle.outbox.proofs.NumberLemmas.{first_items-kept}
 use Rattle.outbox.specs.Keeping.{Keeps}
-use Rattle.std.specs.Map.{lookup}
-use Rattle.replay_numbers.specs.Names.{same_name}
-use Rattle.replay_numbers.specs.Notes.{Noted, position_of}
 use Rattle.hub_model.specs.declared.entry.Entry.{Entry}
 use Rattle.hub_model.specs.Standing.{Standing, Told, moment_in}
 use Rattle.hub_model.specs.Answers.{answer, after, standing_of}
@@ -106,7 +103,3 @@ kept_same history looked_up looked_up' position position' box box' tables positi
   boxes = λ r. subst (λ (k : Kept). Keeps k ((standing_of history).outbox r) ((standing_of history).acknowledged r)) (sym (boxes r)) (kept.boxes r);
   offers = kept.offers;
 }
-
--- positions go by the notes
-pub positions_by_notes : (a b : Noted) → b.notes ≡ a.notes → (by : Railway) (n : ℕ) → position_of b by n ≡ position_of a by n
-positions_by_notes a b same by n = ap (λ (notes : List ((Railway × ℕ) × ℕ)). lookup (λ name. same_name by n name.0 name.1) notes) same

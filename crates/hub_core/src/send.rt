@@ -1,9 +1,9 @@
 //! Messages: new ones, and those that were sent before.
-ghost use Rattle.std.specs.Prelude.{◌≡◌, ◌<◌, ◌^◌, ◌∷◌, [], ◌++◌, length, IfOk, OnOk, OnErr, Some, None};
+ghost use Rattle.std.specs.Prelude.{◌≡◌, ◌<◌, ◌^◌, ◌∷◌, [], ◌++◌, length, IfOk, OnOk, OnErr, Some, None, true};
 ghost use Rattle.taf_codes.specs.declared.code.Railway.{Railway};
 ghost use Rattle.outbox.specs.Kept.{kept_for};
 ghost use Rattle.taf_messages.specs.declared.call.Call.TheVariants as call;
-ghost use Rattle.replay_numbers.specs.Notes.{position_of};
+ghost use Rattle.replay_numbers.specs.Notes.{position_of, has_room};
 ghost use Rattle.hub_model.specs.Answers.{answer, verdict};
 ghost use Rattle.hub_model.specs.Standing.{moment_in};
 ghost use Rattle.hub_model.specs.Faults.{fault};
@@ -21,7 +21,7 @@ use hub_model::{Addressed, Entry, Fault, estimates_fit, offers_are_in_order};
 use hub_tables::Tables;
 use outbox::boxes_keep_the_lists;
 use std::alloc::Global;
-use taf_codes::Memory;
+use taf_codes::{Memory, Railway};
 use taf_messages::{Body, Call, Message, MessageNumber, Reply, Why, copy_reply, same};
 
 /// The reply to a message whose number its sender used before: the same reply again to the same
@@ -93,7 +93,7 @@ fn refuse(books: &mut Books, message: Message, found: Fault) -> Result<Reply, Me
     let no = message.no;
     let reply = verdict(no, Some(found));
     let told = copy_reply(&reply)?;
-    books.seen.reserve()?;
+    books.seen.reserve(by, no)?;
     books.history.reserve()?;
     let position = books.history.len() as u64;
     books.seen.note_reserved(by, no, position);
@@ -102,17 +102,22 @@ fn refuse(books: &mut Books, message: Message, found: Fault) -> Result<Reply, Me
 }
 
 /// Makes room for one entry more, its name and these items. Nothing that is looked up changes.
-fn make_room(books: &mut Books, items: &[Addressed]) -> Result<(), Memory>
+fn make_room(
+    books: &mut Books,
+    by: Railway,
+    no: MessageNumber,
+    items: &[Addressed],
+) -> Result<(), Memory>
     ensures entries { books.new.history.entries ≡ books.old.history.entries }
     ensures tables { books.new.tables ≡ books.old.tables }
-    ensures notes { books.new.seen.notes ≡ books.old.seen.notes }
+    ensures positions { position_of books.new.seen ≡ position_of books.old.seen }
     ensures boxes { (r : Railway) → kept_for books.new.outboxes r ≡ kept_for books.old.outboxes r }
     ensures ready { OnOk result (AreReady books.new.outboxes (2 ^ 62) (length items.now) items.now) }
     ensures room { OnOk result (0 < books.new.history.spare) }
-    ensures names { OnOk result (0 < books.new.seen.spare) }
+    ensures name { OnOk result (has_room books.new.seen by no ≡ true) }
 {
     make_room_for(&mut books.outboxes, items)?;
-    books.seen.reserve()?;
+    books.seen.reserve(by, no)?;
     books.history.reserve()?;
     Ok(())
 }
@@ -146,7 +151,7 @@ fn accept(alloc: Global, books: &mut Books, message: Message) -> Result<Reply, M
     let by = message.by;
     let no = message.no;
     let items = few_items(alloc, &books.tables, &message)?;
-    make_room(books, &items)?;
+    make_room(books, by, no, &items)?;
     books.tables.accept(alloc, &message)?;
     deliver(&mut books.outboxes, items);
     let position = books.history.len() as u64;

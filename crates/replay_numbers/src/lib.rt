@@ -4,12 +4,17 @@
 //! once more under the same name, and by [`Seen`] the hub finds the position at which the name was sent first. So a look-up
 //! takes the same time however long the history is.
 //!
-//! In contracts a value is the list of its notes, oldest first, and `spare`, the number of names that can be noted without
-//! memory. What must not fail is done in two steps: [`Seen::reserve`] first, which may be refused, and
+//! Railways mostly count their messages on, so the positions of a railway lie in a row that begins at its first number. A
+//! number that comes before, or is far behind the row's end, lies aside.
+//!
+//! In contracts a value is known by `position_of`, the position that was noted for a name, and by `has_room`, whether a name
+//! can be noted without memory. What must not fail is done in two steps: [`Seen::reserve`] first, which may be refused, and
 //! [`Seen::note_reserved`], which may not.
 #![tactic(auto)]
 
+mod railways;
 mod seen;
+mod sent;
 #[cfg(test)]
 mod tests;
 

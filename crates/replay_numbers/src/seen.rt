@@ -1,8 +1,9 @@
-ghost use Rattle.std.specs.Prelude.{◌≡◌, ℕ, ◌+◌, ◌<◌, ◌≤◌, [], ◌∷◌, ◌++◌, Some, None, OnOk, OnErr, IsOk, if◌then◌else◌};
+ghost use Rattle.std.specs.Prelude.{◌≡◌, ℕ, true, Some, None, OnOk, OnErr, IsOk, if◌then◌else◌};
 ghost use Rattle.taf_codes.specs.declared.code.Railway.{Railway};
 ghost use Rattle.replay_numbers.specs.Names.{same_name};
-ghost use Rattle.replay_numbers.specs.Notes.{position_of};
+ghost use Rattle.replay_numbers.specs.Notes.{position_of, has_room};
 
+use crate::railways::{self, Railways};
 use indexmap::IndexMap;
 use std::alloc::Global;
 use std::marker::Model;
@@ -12,25 +13,24 @@ use taf_messages::MessageNumber;
 /// The position of the first send of each name.
 #[derive(Drop)]
 pub struct Seen {
-    positions: IndexMap<(Railway, MessageNumber), u64>,
+    railways: Railways,
 }
 
 impl Model for Seen {
-    ghost use Rattle.indexmap.specs.IndexMap.{spare};
     ghost use Rattle.replay_numbers.specs.Notes.{Noted};
 
     ghost Value = { Noted };
 
-    ghost view = { λ seen. record { notes = seen.positions.entries; spare = spare seen.positions } };
+    ghost view = { λ seen. seen.railways.entries };
 }
 
 impl Seen {
     /// No note. Takes no memory.
     pub fn new(alloc: Global) -> Seen
-        ensures { result.notes ≡ [] }
+        ensures { position_of result ≡ (λ by n. None) }
     {
         Seen {
-            positions: IndexMap::new(alloc),
+            railways: IndexMap::new(alloc),
         }
     }
 
@@ -38,41 +38,36 @@ impl Seen {
     pub fn find(&self, by: Railway, number: MessageNumber) -> Option<u64>
         ensures { result ≡ position_of self.now by number }
     {
-        self.positions.get(&(by, number)).copied()
+        railways::find(&self.railways, by, number.get())
     }
 
-    /// Makes room for one note more, where there is none.
-    pub fn reserve(&mut self) -> Result<(), Memory>
-        ensures notes { self.new.notes ≡ self.old.notes }
-        ensures room { self.old.spare ≤ self.new.spare }
-        ensures ok { OnOk result (0 < self.new.spare) }
-        ensures succeeds { 0 < self.old.spare → IsOk result }
+    /// Makes room for a name, where there is none. What was noted stays, also where memory is refused.
+    pub fn reserve(&mut self, by: Railway, number: MessageNumber) -> Result<(), Memory>
+        ensures positions { position_of self.new ≡ position_of self.old }
+        ensures stay_roomy { (also : Railway) (n : ℕ) → has_room self.old also n ≡ true → has_room self.new also n ≡ true }
+        ensures ok { OnOk result (has_room self.new by number ≡ true) }
+        ensures succeeds { has_room self.old by number ≡ true → IsOk result }
     {
-        self.positions.reserve(1)?;
-        Ok(())
+        railways::reserve(&mut self.railways, by, number.get())
     }
 
-    /// Notes the position of a name that is new, for which there is room.
+    /// Notes the position of a name that is new, for which there is room. Takes no memory.
     pub fn note_reserved(&mut self, by: Railway, number: MessageNumber, position: u64)
-        requires room { 0 < self.old.spare }
+        requires room { has_room self.old by number ≡ true }
         requires new { position_of self.old by number ≡ None }
-        ensures notes { self.new.notes ≡ self.old.notes ++ ((by, number), position) ∷ [] }
-        ensures finds { (also : Railway) (other : ℕ) → position_of self.new also other ≡ (if same_name by number also other then Some position else position_of self.old also other) }
-        ensures room_left { self.old.spare ≤ self.new.spare + 1 }
+        ensures { (also : Railway) (other : ℕ) → position_of self.new also other ≡ (if same_name by number also other then Some position else position_of self.old also other) }
     {
-        let _before = self.positions.insert((by, number), position).unwrap();
+        railways::note(&mut self.railways, by, number.get(), position);
     }
 
     /// Notes the position of a name that is new. Where memory is refused, the notes stay.
     pub fn note(&mut self, by: Railway, number: MessageNumber, position: u64) -> Result<(), Memory>
         requires { position_of self.old by number ≡ None }
-        ensures notes { OnOk result (self.new.notes ≡ self.old.notes ++ ((by, number), position) ∷ []) }
         ensures finds { OnOk result ((also : Railway) (other : ℕ) → position_of self.new also other ≡ (if same_name by number also other then Some position else position_of self.old also other)) }
-        ensures room_left { self.old.spare ≤ self.new.spare + 1 }
-        ensures succeeds { 0 < self.old.spare → IsOk result }
-        ensures err { OnErr result (self.new.notes ≡ self.old.notes) }
+        ensures succeeds { has_room self.old by number ≡ true → IsOk result }
+        ensures err { OnErr result (position_of self.new ≡ position_of self.old) }
     {
-        self.reserve()?;
+        self.reserve(by, number)?;
         self.note_reserved(by, number, position);
         Ok(())
     }

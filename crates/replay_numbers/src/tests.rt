@@ -31,12 +31,36 @@ fn first_sends_are_found(rt: HostRuntime) -> Result<(), Fail> {
     assert_eq!(rt; seen.find(sender, one), Some(0));
     assert_eq!(rt; seen.find(sender, two), None);
     assert_eq!(rt; seen.find(other, one), None);
-    seen.reserve()?;
+    seen.reserve(other, one)?;
     if seen.find(other, one).is_none() {
         seen.note_reserved(other, one, 7);
     }
     assert_eq!(rt; seen.find(other, one), Some(7));
     assert_eq!(rt; seen.find(sender, one), Some(0));
+    Ok(())
+}
+
+#[test]
+fn numbers_with_gaps_are_found(rt: HostRuntime) -> Result<(), Fail> {
+    let sender = Railway::read("R100")?;
+    let sent: [u64; 10] = [5, 2, 6, 9, 7, 70, 1000, 999_999_999_999, 71, 1];
+    let mut seen = Seen::new(rt.alloc());
+    for (position, number) in sent.iter().enumerate() {
+        if let Some(number) = MessageNumber::new(*number) {
+            note_new(&mut seen, sender, number, position as u64)?;
+        }
+    }
+    for number in 1..1100u64 {
+        let noted = sent.iter().position(|one| *one == number);
+        let found = MessageNumber::new(number).and_then(|number| seen.find(sender, number));
+        assert_eq!(rt;
+            found,
+            noted.map(|position| position as u64),
+            "number {number}"
+        );
+    }
+    let last = MessageNumber::new(999_999_999_999).and_then(|number| seen.find(sender, number));
+    assert_eq!(rt; last, Some(7));
     Ok(())
 }
 

@@ -5,6 +5,7 @@ use Rattle.taf_messages.specs.declared.reply.Reply.TheVariants.{Accepted}
 use Rattle.history_pages.specs.Paged.{Paged}
 use Rattle.replay_numbers.specs.Names.{same_name}
 use Rattle.replay_numbers.specs.Notes.{position_of}
+use Rattle.taf_codes.specs.declared.code.Railway.{Railway}
 use Rattle.outbox.specs.Kept.{Kept, kept_for, pushed}
 use Rattle.hub_model.specs.declared.entry.Entry.{Entry}
 use Rattle.hub_model.specs.declared.addressed.Addressed.{Addressed}
@@ -12,7 +13,7 @@ use Rattle.hub_model.specs.Items.{items_to}
 use Rattle.hub_model.specs.Answers.{accepted}
 use Rattle.hub_tables.specs.Tabled.{Filings, known, tabled}
 use Rattle.hub_core.specs.Books.{AreKept}
-use Rattle.hub_core.proofs.Keeping.{kept_same, positions_by_notes}
+use Rattle.hub_core.proofs.Keeping.{kept_same}
 use Rattle.hub_core.proofs.Sends.{new_answer, kept_accepted}
 use Rattle.hub_core.proofs.send.accept.Goals as goal
 
@@ -23,7 +24,7 @@ returns-in_err-make_room-clause-kept c =
     let r = c.in_err-make_room.ensures in
     subst (λ (es : List Entry). AreKept es (known n.tables) (position_of n.seen) (kept_for n.outboxes)) (sym r.entries)
     (kept_same b.history.entries (known b.tables) (known n.tables) (position_of b.seen) (position_of n.seen) (kept_for b.outboxes) (kept_for n.outboxes)
-    (ap known r.tables) (positions_by_notes b.seen n.seen r.notes) r.boxes c.requires.kept)
+    (ap known r.tables) (λ by k i. r.positions i by k) r.boxes c.requires.kept)
 
 pub returns-in_err-accept-clause-kept : goal.returns-in_err-accept-clause-kept
 returns-in_err-accept-clause-kept c =
@@ -32,7 +33,7 @@ returns-in_err-accept-clause-kept c =
     let r = c.in_ok-make_room.ensures in
     subst (λ (es : List Entry). AreKept es (known c.accept.new.self) (position_of n.seen) (kept_for n.outboxes)) (sym r.entries)
     (kept_same b.history.entries (known b.tables) (known c.accept.new.self) (position_of b.seen) (position_of n.seen) (kept_for b.outboxes) (kept_for n.outboxes)
-    (c.in_err-accept.ensures.err ∙ ap known r.tables) (positions_by_notes b.seen n.seen r.notes) r.boxes c.requires.kept)
+    (c.in_err-accept.ensures.err ∙ ap known r.tables) (λ by k i. r.positions i by k) r.boxes c.requires.kept)
 
 pub returns-clause-kept : goal.returns-clause-kept
 returns-clause-kept c =
@@ -50,9 +51,9 @@ returns-clause-kept c =
     (kept_accepted b.history.entries m (known b.tables) (position_of b.seen) (kept_for b.outboxes) c.requires.kept c.requires.room c.requires.dated c.requires.new
     c.boxes_keep_the_lists.ensures.push (known c.accept.new.self) (position_of c.note_reserved.new.self) (kept_for c.deliver.new.outboxes) c.requires.acceptable.sound
     (c.in_ok-accept.ensures.ok ∙ ap (λ (t : Filings). tabled (accepted (known t) m)) r.tables)
-    (λ by k. c.note_reserved.ensures.finds by k ∙
+    (λ by k. c.note_reserved.ensures by k ∙
     ap (λ (p : ℕ). cond (same_name m.by m.no by k) (Some p) (position_of n.seen by k)) len ∙
-    ap (λ (o : Option ℕ). cond (same_name m.by m.no by k) (Some (length b.history.entries)) o) (positions_by_notes b.seen n.seen r.notes by k))
+    ap (λ (o : Option ℕ). cond (same_name m.by m.no by k) (Some (length b.history.entries)) o) (λ i. r.positions i by k))
     (λ q. c.deliver.ensures q ∙
     ap (λ (k : Kept). pushed k (items_to q c.in_ok-items.items.items)) (r.boxes q) ∙
     ap (λ (is : List Addressed). pushed (kept_for b.outboxes q) (items_to q is)) c.in_ok-items.ensures.items))
@@ -62,3 +63,7 @@ returns-clause-answered c =
     let b = c.args.books.now in
     c.verdict-2.ensures ∙
     new_answer b.history.entries c.args.message (known b.tables) (position_of b.seen) (kept_for b.outboxes) c.requires.kept c.requires.room c.requires.dated c.requires.new None c.requires.acceptable.sound
+
+pub note_reserved-requires-clause-new : goal.note_reserved-requires-clause-new
+note_reserved-requires-clause-new c =
+    ap (λ (found : Railway → ℕ → Option ℕ). found c.args.message.by c.args.message.no) c.in_ok-make_room.ensures.positions ∙ c.requires.new

@@ -1,5 +1,4 @@
-use Rattle.std.proofs.Common.{◌≡◌, ℕ, List, [], ◌∷◌, ◌++◌, Some, cond, length, ap, ◌∙◌, sym, subst}
-use Rattle.std.specs.Map.{lookup}
+use Rattle.std.proofs.Common.{◌≡◌, ℕ, List, [], ◌∷◌, ◌++◌, Option, Some, cond, length, ap, ◌∙◌, sym, subst}
 use Rattle.taf_codes.specs.declared.code.Railway.{Railway}
 use Rattle.taf_messages.specs.declared.call.Call.TheVariants.{Send}
 use Rattle.taf_messages.specs.declared.reply.Reply.{Reply}
@@ -25,12 +24,16 @@ returns-clause-kept c =
     let len : c.len-position.result ≡ length b.history.entries = c.len-position.ensures.value ∙ ap length c.in_ok-reserve-2.ensures.entries in
     subst (λ (es : List Entry). AreKept es (known b.tables) (position_of c.note_reserved.new.self) (kept_for b.outboxes)) (sym entered)
     (kept_refused b.history.entries m (known b.tables) (position_of b.seen) (kept_for b.outboxes) c.requires.kept c.requires.room c.requires.dated c.requires.new c.args.found (position_of c.note_reserved.new.self) c.requires.fault
-    (λ by n. c.note_reserved.ensures.finds by n ∙
+    (λ by n. c.note_reserved.ensures by n ∙
     ap (λ (k : ℕ). cond (same_name m.by m.no by n) (Some k) (position_of c.reserve.new.self by n)) len ∙
-    ap (λ (ns : List ((Railway × ℕ) × ℕ)). cond (same_name m.by m.no by n) (Some (length b.history.entries)) (lookup (λ name. same_name by n name.0 name.1) ns)) c.in_ok-reserve.ensures.notes))
+    ap (λ (found : Railway → ℕ → Option ℕ). cond (same_name m.by m.no by n) (Some (length b.history.entries)) (found by n)) c.reserve.ensures.positions))
 
 pub returns-clause-answered : goal.returns-clause-answered
 returns-clause-answered c =
     let b = c.args.books.now in
     c.in_ok-told.ensures ∙ c.verdict-reply.ensures ∙
     new_answer b.history.entries c.args.message (known b.tables) (position_of b.seen) (kept_for b.outboxes) c.requires.kept c.requires.room c.requires.dated c.requires.new (Some c.args.found) c.requires.fault
+
+pub note_reserved-requires-clause-new : goal.note_reserved-requires-clause-new
+note_reserved-requires-clause-new c =
+    ap (λ (found : Railway → ℕ → Option ℕ). found c.args.message.by c.args.message.no) c.reserve.ensures.positions ∙ c.requires.new

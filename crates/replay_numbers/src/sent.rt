@@ -1,0 +1,124 @@
+//! What one railway sent.
+ghost use Rattle.std.specs.Prelude.{◌≡◌, ℕ, ◌==◌, ◌-◌, ◌<◌, ◌≤◌, true, Some, None, nat_le, nat_lt, ◌&&◌, ◌+◌, length, slice_get, OnOk, IsOk, if◌then◌else◌};
+ghost use Rattle.std.specs.Option.{option_flatten};
+ghost use Rattle.replay_numbers.specs.Notes.{in_row, position_in, has_place, has_room_in};
+
+use indexmap::IndexMap;
+use std::alloc::Global;
+use std::marker::Model;
+use taf_codes::Memory;
+
+// How many places behind the row's end a number may have for the row to go on up to it.
+const NEAR: u64 = 4;
+
+/// The position of the first send of each number of a railway. Railways count on, so most numbers lie in a row.
+#[derive(Drop)]
+pub(crate) struct Sent {
+    // The number at which the row begins.
+    first: u64,
+    // At each number its position.
+    row: Vec<Option<u64>>,
+    // The positions of numbers that came before the row began or were far behind it.
+    aside: IndexMap<u64, u64>,
+}
+
+impl Model for Sent {
+    ghost use Rattle.indexmap.specs.IndexMap.{spare};
+    ghost use Rattle.replay_numbers.specs.Notes.{SentState};
+
+    ghost Value = { SentState };
+
+    ghost view = { λ s. record { first = s.first; row = s.row.items; aside = s.aside.entries; spare = spare s.aside } };
+}
+
+impl Sent {
+    /// No number, and a row that begins at this one. Takes no memory.
+    pub(crate) fn new(alloc: Global, first: u64) -> Sent
+        ensures { (n : ℕ) → position_in result n ≡ None }
+    {
+        Sent {
+            first,
+            row: Vec::new(alloc),
+            aside: IndexMap::new(alloc),
+        }
+    }
+
+    /// The position that was noted for a number, if there is one.
+    pub(crate) fn find(&self, number: u64) -> Option<u64>
+        ensures { result ≡ position_in self.now number }
+    {
+        match self.in_row(number) {
+            Some(position) => Some(position),
+            None => self.aside.get(&number).copied(),
+        }
+    }
+
+    // The position that lies in the row at a number.
+    fn in_row(&self, number: u64) -> Option<u64>
+        ensures { result ≡ in_row self.now number }
+    {
+        if number < self.first {
+            return None;
+        }
+        self.row
+            .get((number - self.first) as usize)
+            .copied()
+            .flatten()
+    }
+
+    // Whether a number has a place in the row.
+    fn has_place(&self, number: u64) -> bool
+        ensures { result ≡ has_place self.now number }
+    {
+        self.first <= number && number - self.first < self.row.len() as u64
+    }
+
+    /// Makes room for a number, where there is none.
+    pub(crate) fn reserve(&mut self, number: u64) -> Result<(), Memory>
+        ensures positions { (n : ℕ) → position_in self.new n ≡ position_in self.old n }
+        ensures stay_roomy { (n : ℕ) → has_room_in self.old n ≡ true → has_room_in self.new n ≡ true }
+        ensures ok { OnOk result (has_room_in self.new number ≡ true) }
+        ensures succeeds { has_room_in self.old number ≡ true → IsOk result }
+    {
+        if self.has_place(number) {
+            return Ok(());
+        }
+        if self.is_near(number) && lengthen(&mut self.row, (number - self.first) as usize).is_ok() {
+            return Ok(());
+        }
+        self.aside.reserve(1)?;
+        Ok(())
+    }
+
+    // Whether a number comes soon behind the row.
+    fn is_near(&self, number: u64) -> bool
+        ensures { result ≡ (nat_le self.now.first number && nat_lt (number - self.now.first) (length self.now.row + 4)) }
+    {
+        self.first <= number && number - self.first < self.row.len() as u64 + NEAR
+    }
+
+    /// Notes the position of a number that is new, for which there is room.
+    pub(crate) fn put(&mut self, number: u64, position: u64)
+        requires room { has_room_in self.old number ≡ true }
+        requires new { position_in self.old number ≡ None }
+        ensures { (n : ℕ) → position_in self.new n ≡ (if number == n then Some position else position_in self.old n) }
+    {
+        if self.has_place(number) {
+            self.row[(number - self.first) as usize] = Some(position);
+        } else {
+            let _before = self.aside.insert(number, position).unwrap();
+        }
+    }
+}
+
+// Lets a row go on up to a number.
+fn lengthen(row: &mut Vec<Option<u64>>, number: usize) -> Result<(), Memory>
+    ensures positions { (n : ℕ) → option_flatten (slice_get row.new.items n) ≡ option_flatten (slice_get row.old.items n) }
+    ensures longer { length row.old.items ≤ length row.new.items }
+    ensures ok { OnOk result (number < length row.new.items) }
+{
+    'places: while row.len() <= number {
+        row.push(None)?;
+    }
+    Ok(())
+}
