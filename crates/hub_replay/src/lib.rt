@@ -5,7 +5,7 @@
 //! lead to is defined in `specs/Outcomes.antt`, and what a line says in `specs/Lines.antt`.
 //!
 //! Lines are heard in spans: while those of a span are answered, a thread of its own hears those of the next, where the
-//! reader gave as many. Of what was read at once the first span has about 32,768 bytes, and each other twice as many as the
+//! reader gave as many. Of what was read at once the first span has about 8,192 bytes, and each other twice as many as the
 //! one before, up to 524,288. The hub is called by the one thread that calls [`run`], in the order of the lines.
 //!
 //! Of the input no more than 1,114,112 bytes are held at once, beside what the lines of two spans say, and of the output

@@ -9,15 +9,17 @@ use crate::desk::Desk;
 use crate::fault::RunFault;
 use crate::heard::{Heard, LONGEST, hear};
 use crate::newline::next_newline;
+use crate::span::Spares;
 use crate::telling::{hear_lines, tell_and_hear};
 use crate::turn::{flush, turn};
 use hub_core::Hub;
+use std::mem::replace;
 use std::thread::Threads;
 use taf_codes::Sink;
 use taf_messages::CallReader;
 
 // How many bytes of lines are heard before the first is answered.
-const FIRST: usize = 32_768;
+const FIRST: usize = 8_192;
 
 // How many bytes of lines are heard at once at most.
 const MOST: usize = 524_288;
@@ -50,6 +52,7 @@ pub(crate) fn take_lines<W: Sink>(
     writer: &mut W,
     hub: &mut Hub,
     desk: &mut Desk,
+    spares: &mut Spares,
     piece: &[u8],
     start: usize,
     seen: usize,
@@ -66,7 +69,13 @@ pub(crate) fn take_lines<W: Sink>(
     ensures counted { IfOk result (λ end. tally desk.new.counts + 2 * start ≤ tally desk.old.counts + 2 * end) }
 {
     let mut size = FIRST;
-    let mut span = hear_lines(desk.alloc, &piece[start..], seen - start, size)?;
+    let mut span = hear_lines(
+        desk.alloc,
+        &mut spares.take(),
+        &piece[start..],
+        seen - start,
+        size,
+    )?;
     let mut from = start;
     'spans: while span.end > 0 {
         size = twice(size);
@@ -77,13 +86,15 @@ pub(crate) fn take_lines<W: Sink>(
             hub,
             desk,
             &mut span.heard,
+            &mut spares.take(),
             &piece[next..],
             size,
         );
         told?;
-        span = ahead?;
+        spares.put(replace(&mut span, ahead?).heard);
         from = next;
     }
+    spares.put(span.heard);
     Ok(from)
 }
 
@@ -101,6 +112,7 @@ pub(crate) fn take_piece<W: Sink>(
     writer: &mut W,
     hub: &mut Hub,
     desk: &mut Desk,
+    spares: &mut Spares,
     piece: &[u8],
     seen: usize,
     skipping: bool,
@@ -123,7 +135,7 @@ pub(crate) fn take_piece<W: Sink>(
         });
     };
     let place = if skipping { start } else { seen };
-    let end = take_lines(rt, writer, hub, desk, piece, start, place)?;
+    let end = take_lines(rt, writer, hub, desk, spares, piece, start, place)?;
     if piece.len() - end <= LONGEST {
         return Ok(Rest {
             start: end,

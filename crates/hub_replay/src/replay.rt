@@ -10,6 +10,7 @@ use crate::counts::Counts;
 use crate::desk::Desk;
 use crate::fault::RunFault;
 use crate::pieces::{finish, take_piece};
+use crate::span::Spares;
 use crate::turn::flush;
 use hub_core::Hub;
 use std::alloc::Global;
@@ -65,6 +66,7 @@ pub fn run<R: Source, W: Sink>(
         × ComesOf fault (R.failures reader.old) (R.failures reader.new) (W.failures writer.old) (W.failures writer.new) (length read)) }
 {
     let mut desk = Desk::new(alloc);
+    let mut spares = Spares::new(alloc);
     let Ok(mut room) = vec![in alloc; 0u8; ROOM] else {
         return Err(RunFault::Memory);
     };
@@ -89,7 +91,16 @@ pub fn run<R: Source, W: Sink>(
         }
         total += count as u64;
         let end = held + count;
-        let rest = match take_piece(rt, writer, hub, &mut desk, &room[..end], held, skipping) {
+        let rest = match take_piece(
+            rt,
+            writer,
+            hub,
+            &mut desk,
+            &mut spares,
+            &room[..end],
+            held,
+            skipping,
+        ) {
             Ok(rest) => rest,
             Err(fault) => return Err(fault),
         };

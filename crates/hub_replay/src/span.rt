@@ -6,21 +6,55 @@ ghost use Rattle.hub_replay.specs.Spans.{IsSpan};
 use crate::heard::{Heard, hear};
 use crate::newline::next_newline;
 use std::alloc::Global;
+use std::collections::VecDeque;
+use std::mem::replace;
 use taf_codes::Memory;
 use taf_messages::CallReader;
 
 /// What lines in a row say, and where the last of them ends.
 #[derive(Drop)]
 pub(crate) struct Span {
-    pub(crate) heard: Vec<Heard>,
+    pub(crate) heard: VecDeque<Heard>,
     /// In bytes, with the newline.
     pub(crate) end: usize,
 }
 
-/// What the first lines of the bytes say: those that begin among the first so many bytes. No newline comes before
-/// `seen`.
+/// Lists for what lines say, kept for their memory. What they hold counts for nothing.
+#[derive(Drop)]
+pub(crate) struct Spares {
+    alloc: Global,
+    first: VecDeque<Heard>,
+    second: VecDeque<Heard>,
+}
+
+impl Spares {
+    /// Lists without memory.
+    pub(crate) fn new(alloc: Global) -> Spares {
+        Spares {
+            alloc,
+            first: VecDeque::new(alloc),
+            second: VecDeque::new(alloc),
+        }
+    }
+
+    /// The list that was put last, or one without memory.
+    pub(crate) fn take(&mut self) -> VecDeque<Heard> {
+        let second = replace(&mut self.second, VecDeque::new(self.alloc));
+        replace(&mut self.first, second)
+    }
+
+    /// Keeps a list, which is the next one that is taken.
+    pub(crate) fn put(&mut self, list: VecDeque<Heard>) {
+        let first = replace(&mut self.first, list);
+        self.second = first;
+    }
+}
+
+/// What the first lines of the bytes say, in this list: those that begin among the first so many bytes. No newline
+/// comes before `seen`.
 pub(crate) fn hear_span(
     alloc: Global,
+    list: &mut VecDeque<Heard>,
     bytes: &[u8],
     seen: usize,
     most: usize,
@@ -31,14 +65,15 @@ pub(crate) fn hear_span(
     ensures { IfOk result (λ span. IsSpan bytes.now span) }
 {
     let mut reader = CallReader::new(alloc);
-    let mut heard = Vec::new(alloc);
+    let mut heard = replace(list, VecDeque::new(alloc));
+    heard.clear();
     let mut from = 0;
     let mut place = seen;
     'lines: while from < most {
         let Some(end) = next_newline(bytes, place) else {
             return Ok(Span { heard, end: from });
         };
-        heard.push(hear(&mut reader, &bytes[from..end])?)?;
+        heard.push_back(hear(&mut reader, &bytes[from..end])?)?;
         from = end + 1;
         place = from;
     }

@@ -11,16 +11,17 @@ use crate::span::{Span, hear_span};
 use crate::turn::{turn, write_much};
 use hub_core::Hub;
 use std::alloc::Global;
-use std::mem::replace;
+use std::collections::VecDeque;
 use std::thread::{Threads, join_mut};
 use taf_codes::{Memory, Sink};
 
 // From so many bytes on the next lines are heard in a thread of their own.
 const MANY: usize = 16_384;
 
-/// What the lines say that begin among the first so many bytes. No newline comes before `seen`.
+/// What the lines say that begin among the first so many bytes, in this list. No newline comes before `seen`.
 pub(crate) fn hear_lines(
     alloc: Global,
+    list: &mut VecDeque<Heard>,
     bytes: &[u8],
     seen: usize,
     most: usize,
@@ -31,7 +32,7 @@ pub(crate) fn hear_lines(
     ensures ok { IfOk result (λ span. IsSpan bytes.now span) }
     ensures err { IfErr result (λ f. f ≡ RunFault.Memory) }
 {
-    match hear_span(alloc, bytes, seen, most) {
+    match hear_span(alloc, list, bytes, seen, most) {
         Ok(span) => Ok(span),
         Err(Memory) => Err(RunFault::Memory),
     }
@@ -42,7 +43,7 @@ fn tell<W: Sink>(
     writer: &mut W,
     hub: &mut Hub,
     desk: &mut Desk,
-    heard: &mut Vec<Heard>,
+    heard: &mut VecDeque<Heard>,
 ) -> Result<(), RunFault>
     requires few { tally desk.old.counts + 2 * length heard.old.items < 2 ^ 62 }
     requires told { All CanBeTold heard.old.items }
@@ -52,8 +53,7 @@ fn tell<W: Sink>(
     ensures kept { OnOk result (W.failures writer.new ≡ W.failures writer.old) }
     ensures counted { OnOk result (tally desk.new.counts ≤ tally desk.old.counts + 2 * length heard.old.items) }
 {
-    let heard = replace(heard, Vec::new(desk.alloc));
-    for line in heard {
+    while let Some(line) = heard.pop_front() {
         turn(writer, hub, desk, line)?;
         write_much(writer, desk)?;
     }
@@ -61,13 +61,14 @@ fn tell<W: Sink>(
 }
 
 /// Answers what lines say, in turn, while another thread hears the next lines: those that begin among the first so many
-/// bytes of `next`. Where these are few, they are heard after it.
+/// bytes of `next`. Where these are few, they are heard after it. What they say is put in the list.
 pub(crate) fn tell_and_hear<W: Sink>(
     rt: &impl Threads,
     writer: &mut W,
     hub: &mut Hub,
     desk: &mut Desk,
-    heard: &mut Vec<Heard>,
+    heard: &mut VecDeque<Heard>,
+    list: &mut VecDeque<Heard>,
     next: &[u8],
     most: usize,
 ) -> (Result<(), RunFault>, Result<Span, RunFault>)
@@ -85,11 +86,11 @@ pub(crate) fn tell_and_hear<W: Sink>(
     let alloc = desk.alloc;
     if next.len() < MANY {
         let told = tell(writer, hub, desk, heard);
-        return (told, hear_lines(alloc, next, 0, most));
+        return (told, hear_lines(alloc, list, next, 0, most));
     }
     let (ahead, told) = join_mut(
         rt,
-        &mut || hear_lines(alloc, next, 0, most),
+        &mut || hear_lines(alloc, list, next, 0, most),
         &mut || tell(writer, hub, desk, heard),
     );
     (told, ahead)

@@ -1,4 +1,4 @@
-use Rattle.std.proofs.Common.{◌+◌, ◌-◌, ◌≤◌, ◌++◌, [], ℕ, List, arith, refl, ◌∙◌, drop, take, length, subst, length-drop}
+use Rattle.std.proofs.Common.{◌+◌, ◌-◌, ◌≤◌, ◌++◌, [], ℕ, List, arith, refl, sym, ◌∙◌, drop, take, length, subst, length-drop}
 use Rattle.std.proofs.lemmas.List.{drop-drop, take_all}
 use Rattle.hub_replay.specs.declared.span.Span.{Span}
 use Rattle.hub_replay.specs.Lines.{IsTaken}
@@ -34,8 +34,8 @@ returns-in_err-told-clause-err g c =
     let stops = rw (c.in_err-told.was) at c.tell_and_hear-told.ensures.err in
     Stops-err _ (heard_taken _ _ _ t) (Stops-more _ (Stops-after i.6.2 stops))
 
-pub returns-in_err-span-2-clause-err : goal.returns-in_err-span-2-clause-err
-returns-in_err-span-2-clause-err g c =
+pub returns-in_err-ahead-clause-err : goal.returns-in_err-ahead-clause-err
+returns-in_err-ahead-clause-err g c =
     let i = c.spans.invariant in
     let t = IsTaken-append _ _ _ i.6.0 c.spans.span.heard.items i.6.1 i.3.says in
     let goes = rw (c.in_ok-told.was) at c.tell_and_hear-told.ensures.ok in
@@ -51,12 +51,12 @@ spans-preserved g c =
     let goes = rw (c.in_ok-told.was) at c.tell_and_hear-told.ensures.ok in
     let counted = rw (c.in_ok-told.was) at c.tell_and_hear-told.ensures.counted in
     let kept = rw (c.in_ok-told.was) at c.tell_and_hear-told.ensures.kept in
-    let span = rw (c.in_ok-span-2.was) at c.tell_and_hear-told.ensures.next in
+    let span = rw (c.in_ok-ahead.was) at c.tell_and_hear-told.ensures.next in
     let size = length-drop c.spans.from piece in (
       omega (arith, i.0),
       omega (arith, i.1, i.3.bounds, size),
       c.twice-size.ensures,
-      from_place piece next _ span,
+      subst (λ s. IsSpan (drop next piece) s) (sym c.replace.ensures.after) (from_place piece next _ span),
       omega (arith, i.4, i.3.few, counted),
       kept ∙ i.5,
       (hs, subst (λ r. IsTaken (drop c.args.start piece) hs r) (drop-drop c.spans.span.end c.spans.from piece) t, Goes-append i.6.2 goes),

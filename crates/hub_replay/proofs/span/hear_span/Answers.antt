@@ -23,7 +23,7 @@ lines-preserved c =
     let n = c.in-Some.ensures in
     let h = c.in_ok-hear.field-0 in
     let whole : unbroken (slice_range c.args.bytes.now c.lines.from c.in-Some.end) ≡ true = unbroken_slices c.args.bytes.now c.lines.from c.lines.place c.in-Some.end i.order n.0 i.seen n.3 in
-    let more = c.in_ok-push.ensures.items in
+    let more = c.in_ok-push_back.ensures.items in
     record {
       order = omega arith;
       bounds = omega (arith, n.1);
