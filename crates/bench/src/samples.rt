@@ -4,8 +4,7 @@ ghost use Rattle.std.specs.Prelude.{◌≡◌, length, IfOk};
 use anyhow::{Result, bail};
 use std::alloc::Global;
 use taf_messages::{
-    Body, Call, Delay, Item, ItemBody, ItemList, LegIndex, Listed, Message, MessageNumber,
-    read_call,
+    Body, Call, Delay, Item, ItemBody, ItemList, LegIndex, Listed, MessageNumber, read_call,
 };
 use taf_moment::Moment;
 use trip_plan::Plan;
@@ -31,13 +30,12 @@ pub fn departures(alloc: Global, count: u64) -> Result<Vec<String>>
 
 /// A plan of two wagons on two legs.
 pub fn plan(alloc: Global) -> Result<Plan> {
-    match read_call(alloc, PLAN.as_bytes())? {
-        Call::Send(
-            Message {
-                body: Body::Plan(plan),
-                ..
-            },
-        ) => Ok(plan),
+    let call = read_call(alloc, PLAN.as_bytes())?;
+    let Call::Send(message) = &call else {
+        bail!("the sample is no message");
+    };
+    match &message.get().body {
+        Body::Plan(plan) => Ok(plan.copy()?),
         _ => bail!("the sample is no plan"),
     }
 }

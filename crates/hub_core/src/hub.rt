@@ -103,7 +103,9 @@ impl Hub {
         ensures { result ≡ are_apart (standing_of self.now) call.now other.now }
     {
         match (call, other) {
-            (Call::Send(message), Call::Send(also)) => apart(&self.books.tables, message, also),
+            (Call::Send(message), Call::Send(also)) => {
+                apart(&self.books.tables, message.get(), also.get())
+            }
             _ => false,
         }
     }

@@ -22,7 +22,7 @@ use hub_tables::Tables;
 use outbox::boxes_keep_the_lists;
 use std::alloc::Global;
 use taf_codes::{Memory, Railway};
-use taf_messages::{Body, Call, Message, MessageNumber, Reply, Why, copy_reply, same};
+use taf_messages::{Body, Call, Message, MessageNumber, Reply, Shared, Why, copy_reply, same};
 
 /// The reply to a message whose number its sender used before: the same reply again to the same
 /// message, and a refusal to another one.
@@ -37,7 +37,7 @@ fn repeat_reply(books: &Books, position: u64, message: &Message) -> Result<Reply
     };
     match &entry.call {
         Call::Send(first) => {
-            if same(first, message) {
+            if same(first.get(), message) {
                 copy_reply(&entry.reply)
             } else {
                 Ok(Reply::Refused {
@@ -68,7 +68,7 @@ fn verdict(no: MessageNumber, fault: Option<Fault>) -> Reply
 }
 
 /// The entry of a send.
-fn entry_of(message: Message, reply: Reply) -> Entry
+fn entry_of(message: Shared<Message>, reply: Reply) -> Entry
     ensures { result ≡ record { call = call.Send message; reply = reply } }
 {
     Entry {
@@ -78,7 +78,7 @@ fn entry_of(message: Message, reply: Reply) -> Entry
 }
 
 /// Takes a new message that has a fault.
-fn refuse(books: &mut Books, message: Message, found: Fault) -> Result<Reply, Memory>
+fn refuse(books: &mut Books, message: Shared<Message>, found: Fault) -> Result<Reply, Memory>
     requires kept { IsKept books.old }
     requires room { length books.old.history.entries < 1000000 }
     requires new { position_of books.old.seen message.by message.no ≡ None }
@@ -89,8 +89,9 @@ fn refuse(books: &mut Books, message: Message, found: Fault) -> Result<Reply, Me
     ensures grows { IfOk result (λ r. books.new.history.entries ≡ books.old.history.entries ++ record { call = call.Send message; reply = r } ∷ []) }
     ensures err { OnErr result (books.new.history.entries ≡ books.old.history.entries) }
 {
-    let by = message.by;
-    let no = message.no;
+    let said = message.get();
+    let by = said.by;
+    let no = said.no;
     let reply = verdict(no, Some(found));
     let told = copy_reply(&reply)?;
     books.seen.reserve(by, no)?;
@@ -123,7 +124,11 @@ fn make_room(
 }
 
 /// The items of an acceptable message.
-fn few_items(alloc: Global, tables: &Tables, message: &Message) -> Result<Vec<Addressed>, Memory>
+fn few_items(
+    alloc: Global,
+    tables: &Tables,
+    message: &Shared<Message>,
+) -> Result<Vec<Addressed>, Memory>
     requires { IsAcceptable (known tables.now) message.now }
     ensures items { IfOk result (λ items. items.items ≡ items_of (known tables.now) message.now) }
     ensures few { IfOk result (λ items. length items.items < 2 ^ 62) }
@@ -136,7 +141,7 @@ fn few_items(alloc: Global, tables: &Tables, message: &Message) -> Result<Vec<Ad
 }
 
 /// Takes a new message that may be accepted: all that can be refused memory comes first, and then what cannot.
-fn accept(alloc: Global, books: &mut Books, message: Message) -> Result<Reply, Memory>
+fn accept(alloc: Global, books: &mut Books, message: Shared<Message>) -> Result<Reply, Memory>
     requires kept { IsKept books.old }
     requires room { length books.old.history.entries < 1000000 }
     requires new { position_of books.old.seen message.by message.no ≡ None }
@@ -148,11 +153,12 @@ fn accept(alloc: Global, books: &mut Books, message: Message) -> Result<Reply, M
     ensures err { OnErr result (books.new.history.entries ≡ books.old.history.entries) }
 {
     boxes_keep_the_lists();
-    let by = message.by;
-    let no = message.no;
+    let said = message.get();
+    let by = said.by;
+    let no = said.no;
     let items = few_items(alloc, &books.tables, &message)?;
     make_room(books, by, no, &items)?;
-    books.tables.accept(alloc, &message)?;
+    books.tables.accept(alloc, said)?;
     deliver(&mut books.outboxes, items);
     let position = books.history.len() as u64;
     books.seen.note_reserved(by, no, position);
@@ -176,7 +182,7 @@ fn note_moment(message: &Message)
 }
 
 /// Takes a message whose name is new.
-fn take_new(alloc: Global, books: &mut Books, message: Message) -> Result<Reply, Memory>
+fn take_new(alloc: Global, books: &mut Books, message: Shared<Message>) -> Result<Reply, Memory>
     requires kept { IsKept books.old }
     requires room { length books.old.history.entries < 1000000 }
     requires new { position_of books.old.seen message.by message.no ≡ None }
@@ -188,14 +194,14 @@ fn take_new(alloc: Global, books: &mut Books, message: Message) -> Result<Reply,
 {
     estimates_fit();
     offers_are_in_order();
-    match fault(alloc, &books.tables, &message)? {
+    match fault(alloc, &books.tables, message.get())? {
         Some(found) => refuse(books, message, found),
         None => accept(alloc, books, message),
     }
 }
 
 /// Takes a message that was sent before, and gives the reply that it got then.
-fn take_again(books: &mut Books, position: u64, message: Message) -> Result<Reply, Memory>
+fn take_again(books: &mut Books, position: u64, message: Shared<Message>) -> Result<Reply, Memory>
     requires kept { IsKept books.old }
     requires room { length books.old.history.entries < 1000000 }
     requires noted { position_of books.old.seen message.by message.no ≡ Some position }
@@ -205,12 +211,16 @@ fn take_again(books: &mut Books, position: u64, message: Message) -> Result<Repl
     ensures grows { IfOk result (λ r. books.new.history.entries ≡ books.old.history.entries ++ record { call = call.Send message; reply = r } ∷ []) }
     ensures err { OnErr result (books.new.history.entries ≡ books.old.history.entries) }
 {
-    let reply = repeat_reply(books, position, &message)?;
+    let reply = repeat_reply(books, position, message.get())?;
     enter(books, Call::Send(message), reply)
 }
 
 /// Takes a message, new or sent before.
-pub fn take_send(alloc: Global, books: &mut Books, message: Message) -> Result<Reply, Memory>
+pub fn take_send(
+    alloc: Global,
+    books: &mut Books,
+    message: Shared<Message>,
+) -> Result<Reply, Memory>
     requires kept { IsKept books.old }
     requires room { length books.old.history.entries < 1000000 }
     ensures kept { IsKept books.new }
@@ -218,8 +228,9 @@ pub fn take_send(alloc: Global, books: &mut Books, message: Message) -> Result<R
     ensures grows { IfOk result (λ r. books.new.history.entries ≡ books.old.history.entries ++ record { call = call.Send message; reply = r } ∷ []) }
     ensures err { OnErr result (books.new.history.entries ≡ books.old.history.entries) }
 {
-    note_moment(&message);
-    match books.seen.find(message.by, message.no) {
+    let said = message.get();
+    note_moment(said);
+    match books.seen.find(said.by, said.no) {
         Some(position) => take_again(books, position, message),
         None => take_new(alloc, books, message),
     }

@@ -53,24 +53,24 @@ of_one s m w p f n wagon before behind =
     sym (append-nil (f (s.journey w) (journey_after s m w) w)) ∙ ap (λ ws. flat_map (λ v. f (s.journey v) (journey_after s m v) v) ws) (sym n)
 
 -- a message on one wagon has its notice, if it has one, told to one railway
-pub told_of_one : (s : Standing) (m : Message) (w : ℕ) (told : Option Railway) (p : Onward) → named s.offer m ≡ w ∷ [] →
+pub told_of_one : (s : Standing) (m copy : Message) (w : ℕ) (told : Option Railway) (p : Onward) → copy ≡ m → named s.offer m ≡ w ∷ [] →
     notified s (journey_after s m) m.by m.body ≡ option_to_list told → sub_items m.by m.body ≡ [] →
     p.wagon ≡ w → p.before ≡ s.journey w → after p ≡ journey_after s m w →
-    map (λ r. record { to = r; body = item.Notice m }) (option_to_list told) ++ estimate_items p.before (after p) p.wagon ++ alert_items p.before (after p) p.wagon ≡ told_by s m
-told_of_one s m w told p n is none wagon before behind =
-    ap (λ xs. xs ++ estimate_items p.before (after p) p.wagon ++ alert_items p.before (after p) p.wagon) (one_noticed s m told is none) ∙
+    map (λ r. record { to = r; body = item.Notice copy }) (option_to_list told) ++ estimate_items p.before (after p) p.wagon ++ alert_items p.before (after p) p.wagon ≡ told_by s m
+told_of_one s m copy w told p same n is none wagon before behind =
+    ap (λ xs. xs ++ estimate_items p.before (after p) p.wagon ++ alert_items p.before (after p) p.wagon) (ap (to_each (option_to_list told)) same ∙ one_noticed s m told is none) ∙
     ap (λ xs. notices s m ++ xs ++ alert_items p.before (after p) p.wagon) (of_one s m w p estimate_items n wagon before behind) ∙
     ap (λ xs. notices s m ++ flat_map (estimates_at s m) (named s.offer m) ++ xs) (of_one s m w p alert_items n wagon before behind)
 
 -- the same where nothing is told of the wagon's estimates
-pub told_alone : (s : Standing) (m : Message) (w : ℕ) (told : Option Railway) (p : Onward) → named s.offer m ≡ w ∷ [] →
+pub told_alone : (s : Standing) (m copy : Message) (w : ℕ) (told : Option Railway) (p : Onward) → copy ≡ m → named s.offer m ≡ w ∷ [] →
     notified s (journey_after s m) m.by m.body ≡ option_to_list told → sub_items m.by m.body ≡ [] →
     p.wagon ≡ w → p.before ≡ s.journey w → after p ≡ journey_after s m w →
     estimate_items p.before (after p) p.wagon ≡ [] → alert_items p.before (after p) p.wagon ≡ [] →
-    map (λ r. record { to = r; body = item.Notice m }) (option_to_list told) ≡ told_by s m
-told_alone s m w told p n is none wagon before behind no_estimates no_alerts =
+    map (λ r. record { to = r; body = item.Notice copy }) (option_to_list told) ≡ told_by s m
+told_alone s m copy w told p same n is none wagon before behind no_estimates no_alerts =
     sym (
-    ap (λ xs. to_each (option_to_list told) m ++ xs ++ alert_items p.before (after p) p.wagon) no_estimates ∙
-    ap (λ xs. to_each (option_to_list told) m ++ [] ++ xs) no_alerts ∙
-    append-nil (to_each (option_to_list told) m ++ []) ∙ append-nil (to_each (option_to_list told) m)) ∙
-    told_of_one s m w told p n is none wagon before behind
+    ap (λ xs. to_each (option_to_list told) copy ++ xs ++ alert_items p.before (after p) p.wagon) no_estimates ∙
+    ap (λ xs. to_each (option_to_list told) copy ++ [] ++ xs) no_alerts ∙
+    append-nil (to_each (option_to_list told) copy ++ []) ∙ append-nil (to_each (option_to_list told) copy)) ∙
+    told_of_one s m copy w told p same n is none wagon before behind

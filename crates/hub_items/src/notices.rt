@@ -11,15 +11,17 @@ use hub_model::Addressed;
 use hub_tables::Tables;
 use std::alloc::Global;
 use taf_codes::{Memory, Railway};
-use taf_messages::{Body, ItemBody, Message, Shared, SubNotice, TrainAnswer, copy};
+use taf_messages::{Body, ItemBody, Message, Shared, SubNotice, TrainAnswer};
 
 /// The notices of a message, and the sub notice.
 pub(crate) fn notices(
     alloc: Global,
     tables: &Tables,
     message: &Message,
+    notice: &Shared<Message>,
 ) -> Result<Vec<Addressed>, Memory>
     requires acceptable { IsAcceptable (known tables.now) message.now }
+    requires same { notice.now ≡ message.now }
     requires many { tells_one message.now.body ≡ false }
     ensures { IfOk result (λ v. v.items ≡ of.notices (known tables.now) message.now) }
 {
@@ -28,7 +30,7 @@ pub(crate) fn notices(
     let mut items = Vec::new(alloc);
     put_each(
         &mut items,
-        &ItemBody::Notice(copy(message)?),
+        &ItemBody::Notice(notice.clone()?),
         railways.as_slice(),
     )?;
     put_sub_notice(alloc, &mut items, message.by, &message.body)?;

@@ -18,38 +18,49 @@ use hub_model::Addressed;
 use hub_tables::Tables;
 use std::alloc::Global;
 use taf_codes::{Memory, Railway};
-use taf_messages::{Body, ItemBody, Message, Movement, copy};
+use taf_messages::{Body, ItemBody, Message, Movement, Shared};
 use wagon_number::WagonNumber;
 
 /// What an acceptable message has the railways told, in order; nothing goes to its own sender.
-pub fn items(alloc: Global, tables: &Tables, message: &Message) -> Result<Vec<Addressed>, Memory>
+pub fn items(
+    alloc: Global,
+    tables: &Tables,
+    message: &Shared<Message>,
+) -> Result<Vec<Addressed>, Memory>
     requires { IsAcceptable (known tables.now) message.now }
     ensures { IfOk result (λ v. v.items ≡ of.items_of (known tables.now) message.now) }
 {
-    let mut items = all_items(alloc, tables, message)?;
-    keep_others(&mut items, message.by);
+    let said = message.get();
+    let mut items = all_items(alloc, tables, said, message)?;
+    keep_others(&mut items, said.by);
     Ok(items)
 }
 
-// The items of an acceptable message, with those for its own sender.
-fn all_items(alloc: Global, tables: &Tables, message: &Message) -> Result<Vec<Addressed>, Memory>
-    requires { IsAcceptable (known tables.now) message.now }
+// The items of an acceptable message, with those for its own sender. Its notices share it.
+fn all_items(
+    alloc: Global,
+    tables: &Tables,
+    message: &Message,
+    notice: &Shared<Message>,
+) -> Result<Vec<Addressed>, Memory>
+    requires acceptable { IsAcceptable (known tables.now) message.now }
+    requires same { notice.now ≡ message.now }
     ensures { IfOk result (λ v. v.items ≡ told_by (known tables.now) message.now) }
 {
     match &message.body {
-        Body::Movement(movement) => items_of_movement(alloc, tables, message, movement),
+        Body::Movement(movement) => items_of_movement(alloc, tables, message, notice, movement),
         Body::EtiAsk { wagon } => {
             let next = Next::of(tables, message, *wagon)?;
             let step = next.step();
             let progress = next.progress(&step);
-            items_of_one(alloc, message, progress.responsible(), &progress)
+            items_of_one(alloc, notice, progress.responsible(), &progress)
         }
         Body::Plan(_)
         | Body::LegTime { .. }
         | Body::Offer(_)
         | Body::Answer(_)
         | Body::Withdraw { .. }
-        | Body::Reroute { .. } => items_of_many(alloc, tables, message),
+        | Body::Reroute { .. } => items_of_many(alloc, tables, message, notice),
     }
 }
 
@@ -58,45 +69,47 @@ fn items_of_movement(
     alloc: Global,
     tables: &Tables,
     message: &Message,
+    notice: &Shared<Message>,
     movement: &Movement,
 ) -> Result<Vec<Addressed>, Memory>
     requires acceptable { IsAcceptable (known tables.now) message.now }
+    requires same { notice.now ≡ message.now }
     requires moves { message.now.body ≡ body.Movement movement.now }
     ensures { IfOk result (λ v. v.items ≡ told_by (known tables.now) message.now) }
 {
     let next = Next::of(tables, message, movement.wagon)?;
     if next.keeps_estimates() {
-        return notice_alone(alloc, message, next.lead());
+        return notice_alone(alloc, notice, next.lead());
     }
     let step = next.step();
     let progress = next.progress(&step);
     let told = told_of_movement(&progress, movement.what);
-    items_of_one(alloc, message, told, &progress)
+    items_of_one(alloc, notice, told, &progress)
 }
 
 // The notice of the message for the railway, if there is one, and nothing else.
 fn notice_alone(
     alloc: Global,
-    message: &Message,
+    notice: &Shared<Message>,
     told: Option<Railway>,
 ) -> Result<Vec<Addressed>, Memory>
-    ensures { IfOk result (λ v. v.items ≡ map (λ r. record { to = r; body = ItemBody.Notice message.now }) (option_to_list told)) }
+    ensures { IfOk result (λ v. v.items ≡ map (λ r. record { to = r; body = ItemBody.Notice notice.now }) (option_to_list told)) }
 {
     let mut items = Vec::new(alloc);
-    put_notice(&mut items, message, told)?;
+    put_notice(&mut items, notice, told)?;
     Ok(items)
 }
 
 // The items of a message on one wagon, of which at most one railway gets the notice.
 fn items_of_one(
     alloc: Global,
-    message: &Message,
+    notice: &Shared<Message>,
     told: Option<Railway>,
     progress: &Progress<'_>,
 ) -> Result<Vec<Addressed>, Memory>
-    ensures { IfOk result (λ v. v.items ≡ map (λ r. record { to = r; body = ItemBody.Notice message.now }) (option_to_list told) ++ of.estimate_items progress.now.before (after progress.now) progress.now.wagon ++ of.alert_items progress.now.before (after progress.now) progress.now.wagon) }
+    ensures { IfOk result (λ v. v.items ≡ map (λ r. record { to = r; body = ItemBody.Notice notice.now }) (option_to_list told) ++ of.estimate_items progress.now.before (after progress.now) progress.now.wagon ++ of.alert_items progress.now.before (after progress.now) progress.now.wagon) }
 {
-    let mut items = notice_alone(alloc, message, told)?;
+    let mut items = notice_alone(alloc, notice, told)?;
     put_estimates(&mut items, progress)?;
     put_alerts(alloc, &mut items, progress)?;
     Ok(items)
@@ -105,13 +118,13 @@ fn items_of_one(
 // Adds the notice of the message for the railway, if there is one.
 fn put_notice(
     items: &mut Vec<Addressed>,
-    message: &Message,
+    notice: &Shared<Message>,
     told: Option<Railway>,
 ) -> Result<(), Memory>
-    ensures { OnOk result (items.new.items ≡ items.old.items ++ map (λ r. record { to = r; body = ItemBody.Notice message.now }) (option_to_list told)) }
+    ensures { OnOk result (items.new.items ≡ items.old.items ++ map (λ r. record { to = r; body = ItemBody.Notice notice.now }) (option_to_list told)) }
 {
     if let Some(to) = told {
-        let body = ItemBody::Notice(copy(message)?);
+        let body = ItemBody::Notice(notice.clone()?);
         items.push(Addressed { to, body })?;
     }
     Ok(())
@@ -122,13 +135,15 @@ fn items_of_many(
     alloc: Global,
     tables: &Tables,
     message: &Message,
+    notice: &Shared<Message>,
 ) -> Result<Vec<Addressed>, Memory>
     requires acceptable { IsAcceptable (known tables.now) message.now }
+    requires same { notice.now ≡ message.now }
     requires many { tells_one message.now.body ≡ false }
     ensures { IfOk result (λ v. v.items ≡ told_by (known tables.now) message.now) }
 {
     let wagons = tables.named(alloc, message)?;
-    let mut items = notices(alloc, tables, message)?;
+    let mut items = notices(alloc, tables, message, notice)?;
     let mut alerts = Vec::new(alloc);
     put_of_wagons(
         alloc,

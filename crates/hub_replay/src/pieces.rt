@@ -22,7 +22,7 @@ use taf_messages::CallReader;
 const FIRST: usize = 8_192;
 
 // How many bytes of lines are heard at once at most.
-const MOST: usize = 524_288;
+const MOST: usize = 1_048_576;
 
 /// What is left of a piece: where it begins, and whether the rest of its line is skipped.
 #[derive(Clone, Copy)]
@@ -100,8 +100,8 @@ pub(crate) fn take_lines<W: Sink>(
 
 // Twice as many bytes, up to the most that are heard at once.
 fn twice(size: usize) -> usize
-    requires { (0 < size) × (size ≤ 524288) }
-    ensures { (0 < result) × (result ≤ 524288) }
+    requires { (0 < size) × (size ≤ 1048576) }
+    ensures { (0 < result) × (result ≤ 1048576) }
 {
     (size * 2).min(MOST)
 }

@@ -18,10 +18,10 @@ use std::thread::Threads;
 use taf_codes::{Sink, Source};
 
 // How many bytes are asked for at once.
-const PIECE: usize = 1_048_576;
+const PIECE: usize = 4_194_304;
 
 // The longest beginning of a line that is kept, and a piece.
-const ROOM: usize = 1_114_112;
+const ROOM: usize = 4_259_840;
 
 /// How many bytes of a reader are read at most.
 pub const MOST_BYTES: u64 = 1 << 40;
@@ -118,9 +118,9 @@ fn pull_piece<R: Source>(
     held: usize,
     most: u64,
 ) -> Result<usize, RunFault>
-    requires room { held + 1048576 ≤ length room.old }
+    requires room { held + 4194304 ≤ length room.old }
     requires some { 0 < most }
-    ensures bounds { IfOk result (λ n. (n ≤ 1048576) × (n ≤ most)) }
+    ensures bounds { IfOk result (λ n. (n ≤ 4194304) × (n ≤ most)) }
     ensures bytes { IfOk result (λ n. Consumes (R.remaining reader.old) (R.remaining reader.new) (slice_range room.new held (held + n))) }
     ensures end { IfOk result (λ n. n ≡ 0 → IsAtEnd (R.remaining reader.new)) }
     ensures kept { take held room.new ≡ take held room.old }

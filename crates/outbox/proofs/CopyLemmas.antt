@@ -1,12 +1,11 @@
 -- What is cloned is equal to its source.
 use Rattle.std.proofs.Common.{rules, ◌≡◌, ap}
-use Rattle.taf_messages.proofs.CloneLemmas.{message_copied}
 use Rattle.taf_messages.specs.declared.item.ItemBody.{ItemBody}
 use Rattle.taf_messages.specs.declared.item.ItemBody.TheVariants as body
 use Rattle.taf_messages.specs.contracts.item.ItemBodyClone.TheImpl as ItemBodyClone
 
 pub body_copied : (a b : ItemBody) → ItemBodyClone.ghosts.is_clone a b → b ≡ a
-body_copied (body.Notice m) (body.Notice n) h = ap body.Notice (message_copied m n h)
+body_copied (body.Notice m) (body.Notice n) h = ap body.Notice h
 body_copied (body.Sub s) (body.Sub t) h = search rules
 body_copied (body.Eti wagon leg at) (body.Eti v k t) h = cc
 body_copied (body.Eta wagon at) (body.Eta v t) h = cc

@@ -14,15 +14,14 @@ pub fn copy(message: &Message) -> Result<Message, Memory>
     Ok(message.clone()?)
 }
 
-/// The same call.
-#[tactic(auto, using(crate::proofs::CloneLemmas::call_copied))]
+/// The same call. It shares the message.
 pub fn copy_call(call: &Call) -> Result<Call, Memory>
     ensures { IfOk result (λ copy. copy ≡ call.now) }
 {
     Ok(call.clone()?)
 }
 
-/// The same item.
+/// The same item. It shares the message or the sub notice.
 pub fn copy_item(item: &Item) -> Result<Item, Memory>
     ensures { IfOk result (λ copy. copy ≡ item.now) }
 {

@@ -17,7 +17,7 @@ pub struct Item {
 /// What a railway is told.
 #[derive(Clone, Debug, PartialEq, Eq, Drop)]
 pub enum ItemBody {
-    Notice(Message),
+    Notice(Shared<Message>),
     Sub(Shared<SubNotice>),
     Eti {
         wagon: WagonNumber,

@@ -19,8 +19,9 @@
 //!   [`OfferedWagons`]). [`Listed`] is a list that contracts see as its elements, [`Shared`] a value
 //!   that copies share and that contracts see as itself.
 //! - [`same`] is equality of sender, number and content. `==` of calls, items and replies is
-//!   equality, and copies equal their source; they share what plans, routes, offers, answers and sub
-//!   notices say, and the records and the items of a reply.
+//!   equality, and copies equal their source. The copy of a call or of an item shares its message,
+//!   and a message's own copy what a plan, a route, an offer or an answer says; the copy of a reply
+//!   shares its records and its items.
 //!
 //! Only reading and writing take memory. Where it is refused, the answer is `RecordFault::Memory` or
 //! `Memory`, and what a buffer held stays. A copy answers `Memory` where one value is shared too often.

@@ -61,7 +61,7 @@ impl Object for Item {
         match &self.body {
             ItemBody::Notice(message) => {
                 put_field(out, "item", &self.number)?;
-                put_field(out, "message", message)?;
+                put_field(out, "message", message.get())?;
                 put_field(out, "type", &"notice")?;
                 Ok(())
             }

@@ -148,7 +148,10 @@ fn read_record(fields: Fields) -> Result<Call, RecordFault>
         return Err(RecordFault::BadJson);
     }
     match fields.kind()? {
-        Kind::Send(name) => Ok(Call::Send(read_message(fields, name)?)),
+        Kind::Send(name) => {
+            let message = read_message(fields, name)?;
+            Ok(Call::Send(Shared::new(fields.alloc, message)?))
+        }
         Kind::Ask => Ok(Call::Ask {
             by: fields.read(Field::From)?,
             wagon: fields.read(Field::Wagon)?,

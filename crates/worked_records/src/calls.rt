@@ -13,10 +13,10 @@ use taf_messages::{
 use trip_plan::{Leg, Load, Plan, Route, UnitLoad};
 
 // A movement of the first wagon.
-fn moved(by: &str, no: u64, time: &str, what: MovementKind) -> Result<Call, Fail> {
+fn moved(alloc: Global, by: &str, no: u64, time: &str, what: MovementKind) -> Result<Call, Fail> {
     let wagon = wagon(ONE)?;
     let at = moment(time)?;
-    send(by, no, Body::Movement(Movement { wagon, at, what }))
+    send(alloc, by, no, Body::Movement(Movement { wagon, at, what }))
 }
 
 #[test]
@@ -25,27 +25,45 @@ fn movements(rt: HostRuntime) -> Result<(), Fail> {
     is_call(
         alloc,
         r#"{"kind":"release","from":"R100","no":2,"wagon":"218124712173","at":"2025-03-01T05:30Z"}"#,
-        moved("R100", 2, "2025-03-01T05:30Z", MovementKind::Release),
+        moved(alloc, "R100", 2, "2025-03-01T05:30Z", MovementKind::Release),
     )?;
     is_call(
         alloc,
         r#"{"kind":"depart","from":"R101","no":1,"wagon":"218124712173","at":"2025-03-01T06:00Z"}"#,
-        moved("R101", 1, "2025-03-01T06:00Z", MovementKind::Departure),
+        moved(
+            alloc,
+            "R101",
+            1,
+            "2025-03-01T06:00Z",
+            MovementKind::Departure,
+        ),
     )?;
     is_call(
         alloc,
         r#"{"kind":"eti","from":"R101","no":3,"wagon":"218124712173","at":"2025-03-01T11:10Z"}"#,
-        moved("R101", 3, "2025-03-01T11:10Z", MovementKind::Estimate),
+        moved(
+            alloc,
+            "R101",
+            3,
+            "2025-03-01T11:10Z",
+            MovementKind::Estimate,
+        ),
     )?;
     is_call(
         alloc,
         r#"{"kind":"arrival","from":"R102","no":5,"wagon":"218124712173","at":"2025-03-01T15:00Z"}"#,
-        moved("R102", 5, "2025-03-01T15:00Z", MovementKind::Arrival),
+        moved(alloc, "R102", 5, "2025-03-01T15:00Z", MovementKind::Arrival),
     )?;
     is_call(
         alloc,
         r#"{"kind":"delivery","from":"R102","no":6,"wagon":"218124712173","at":"2025-03-01T15:20Z"}"#,
-        moved("R102", 6, "2025-03-01T15:20Z", MovementKind::Delivery),
+        moved(
+            alloc,
+            "R102",
+            6,
+            "2025-03-01T15:20Z",
+            MovementKind::Delivery,
+        ),
     )
 }
 
@@ -58,6 +76,7 @@ fn movements_that_say_more(rt: HostRuntime) -> Result<(), Fail> {
         alloc,
         r#"{"kind":"yard_in","from":"R101","no":2,"wagon":"218124712173","at":"2025-03-01T10:40Z","place":"AT00002"}"#,
         moved(
+            alloc,
             "R101",
             2,
             "2025-03-01T10:40Z",
@@ -68,6 +87,7 @@ fn movements_that_say_more(rt: HostRuntime) -> Result<(), Fail> {
         alloc,
         r#"{"kind":"yard_out","from":"R102","no":4,"wagon":"218124712173","at":"2025-03-01T11:30Z","place":"AT00002"}"#,
         moved(
+            alloc,
             "R102",
             4,
             "2025-03-01T11:30Z",
@@ -78,6 +98,7 @@ fn movements_that_say_more(rt: HostRuntime) -> Result<(), Fail> {
         alloc,
         r#"{"kind":"exception","from":"R101","no":2,"wagon":"218124712173","at":"2025-03-01T07:00Z","delay":45}"#,
         moved(
+            alloc,
             "R101",
             2,
             "2025-03-01T07:00Z",
@@ -95,12 +116,13 @@ fn times_of_legs(rt: HostRuntime) -> Result<(), Fail> {
     is_call(
         alloc,
         r#"{"kind":"eti_ask","from":"R100","no":3,"wagon":"218124712173"}"#,
-        send("R100", 3, Body::EtiAsk { wagon }),
+        send(alloc, "R100", 3, Body::EtiAsk { wagon }),
     )?;
     is_call(
         alloc,
         r#"{"kind":"leg_time","from":"R102","no":1,"wagon":"218124712173","leg":1,"minutes":200}"#,
         send(
+            alloc,
             "R102",
             1,
             Body::LegTime {
@@ -127,20 +149,20 @@ fn offer(alloc: Global) -> Result<Call, Fail> {
         to,
         wagons,
     };
-    send("R101", 6, Body::Offer(Shared::new(alloc, offer)?))
+    send(alloc, "R101", 6, Body::Offer(Shared::new(alloc, offer)?))
 }
 
-fn withdrawal() -> Result<Call, Fail> {
+fn withdrawal(alloc: Global) -> Result<Call, Fail> {
     let at = moment("2025-03-01T11:00Z")?;
     let offer = within(6)?;
-    send("R101", 7, Body::Withdraw { at, offer })
+    send(alloc, "R101", 7, Body::Withdraw { at, offer })
 }
 
 fn reroute(alloc: Global) -> Result<Call, Fail> {
     let wagon = wagon(ONE)?;
     let leg = leg("R103", "AT00002", "CH00004", 180)?;
     let route = Route::new(alloc, &[leg])?;
-    send("R100", 3, Body::Reroute { wagon, route })
+    send(alloc, "R100", 3, Body::Reroute { wagon, route })
 }
 
 #[test]
@@ -154,7 +176,7 @@ fn offers_and_reroutings(rt: HostRuntime) -> Result<(), Fail> {
     is_call(
         alloc,
         r#"{"kind":"withdraw","from":"R101","no":7,"at":"2025-03-01T11:00Z","offer":6}"#,
-        withdrawal(),
+        withdrawal(alloc),
     )?;
     is_call(
         alloc,
@@ -191,7 +213,7 @@ fn answer(
         refused,
         manager,
     };
-    send("R102", no, Body::Answer(Shared::new(alloc, answer)?))
+    send(alloc, "R102", no, Body::Answer(Shared::new(alloc, answer)?))
 }
 
 // An answer may name no manager.
@@ -253,7 +275,7 @@ fn plan(alloc: Global, unit: Option<UnitCode>) -> Result<Call, Fail> {
             )?
         }
     };
-    send("R100", 1, Body::Plan(plan))
+    send(alloc, "R100", 1, Body::Plan(plan))
 }
 
 // Lines of the plan without units, and then with one.

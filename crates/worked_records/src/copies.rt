@@ -14,7 +14,7 @@ fn equal_messages(rt: HostRuntime) -> Result<(), Fail> {
     let messages = messages(rt.alloc())?;
     for (i, first) in messages.iter().enumerate() {
         for (j, second) in messages.iter().enumerate() {
-            assert_eq!(rt; same(first, second), i == j, "{i} and {j}");
+            assert_eq!(rt; same(first.get(), second.get()), i == j, "{i} and {j}");
         }
     }
     Ok(())
@@ -23,7 +23,7 @@ fn equal_messages(rt: HostRuntime) -> Result<(), Fail> {
 #[test]
 fn copies_of_messages(rt: HostRuntime) -> Result<(), Fail> {
     for message in messages(rt.alloc())? {
-        assert!(rt; same(&copy(&message)?, &message));
+        assert!(rt; same(&copy(message.get())?, message.get()));
         let call = Call::Send(message);
         assert!(rt; same_call(&copy_call(&call)?, &call));
     }

@@ -241,7 +241,7 @@ fn copies_item(ballast: &mut Ballast, item: &Item) -> Result<bool, Fail> {
 // Whether the message of this line, its notice and its call are copied where no memory is left.
 fn copied(alloc: Global, ballast: &mut Ballast, line: &str) -> Result<[bool; 3], Fail> {
     let message = message(alloc, line)?;
-    let first = copies_message(ballast, &message)?;
+    let first = copies_message(ballast, message.get())?;
     let body = ItemBody::Notice(message);
     let item = Item { number: 1, body };
     let second = copies_item(ballast, &item)?;

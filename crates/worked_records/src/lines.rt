@@ -2,7 +2,7 @@
 use crate::parts::message;
 use std::alloc::Global;
 use std::test::Fail;
-use taf_messages::Message;
+use taf_messages::{Message, Shared};
 
 /// A plan of the first two wagons over two legs.
 pub(crate) const PLAN: &str =
@@ -36,7 +36,7 @@ pub(crate) const MESSAGES: &str =
 {"kind":"reroute","from":"R100","no":3,"wagon":"218124712173","legs":[{"ru":"R103","origin":"AT00002","target":"CH00004","minutes":180}]}"#;
 
 /// The messages of these lines.
-pub(crate) fn messages(alloc: Global) -> Result<Vec<Message>, Fail> {
+pub(crate) fn messages(alloc: Global) -> Result<Vec<Shared<Message>>, Fail> {
     let mut messages = Vec::new(alloc);
     for line in MESSAGES.lines() {
         messages.push(message(alloc, line)?)?;

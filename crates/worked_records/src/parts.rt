@@ -2,7 +2,7 @@
 use std::alloc::Global;
 use std::test::Fail;
 use taf_codes::{ConsignmentId, Place, Railway};
-use taf_messages::{Body, Call, Message, Within, read_call};
+use taf_messages::{Body, Call, Message, Shared, Within, read_call};
 use taf_moment::Moment;
 use wagon_number::WagonNumber;
 
@@ -51,14 +51,15 @@ pub(crate) fn wagons(alloc: Global, texts: &[&str]) -> Result<Vec<WagonNumber>, 
 }
 
 /// The call of sending a message.
-pub(crate) fn send(by: &str, no: u64, body: Body) -> Result<Call, Fail> {
+pub(crate) fn send(alloc: Global, by: &str, no: u64, body: Body) -> Result<Call, Fail> {
     let by = railway(by)?;
     let no = within(no)?;
-    Ok(Call::Send(Message { by, no, body }))
+    let message = Shared::new(alloc, Message { by, no, body })?;
+    Ok(Call::Send(message))
 }
 
 /// The message that the line sends.
-pub(crate) fn message(alloc: Global, line: &str) -> Result<Message, Fail> {
+pub(crate) fn message(alloc: Global, line: &str) -> Result<Shared<Message>, Fail> {
     match read_call(alloc, line.as_bytes())? {
         Call::Send(message) => Ok(message),
         _ => Err(Fail::new("no message")),

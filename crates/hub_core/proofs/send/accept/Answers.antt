@@ -1,5 +1,6 @@
 use Rattle.std.proofs.Common.{◌≡◌, ℕ, List, [], ◌∷◌, ◌++◌, Option, Some, None, cond, length, ap, ◌∙◌, sym, subst}
 use Rattle.taf_messages.specs.declared.call.Call.TheVariants.{Send}
+use Rattle.taf_messages.specs.declared.message.Message.{Message}
 use Rattle.taf_messages.specs.declared.reply.Reply.{Reply}
 use Rattle.taf_messages.specs.declared.reply.Reply.TheVariants.{Accepted}
 use Rattle.history_pages.specs.Paged.{Paged}
@@ -39,19 +40,21 @@ pub returns-clause-kept : goal.returns-clause-kept
 returns-clause-kept c =
     let b = c.args.books.now in
     let m = c.args.message in
+    let same = c.get-said.ensures in
     let n = c.make_room.new.books in
     let r = c.in_ok-make_room.ensures in
     let entry : Reply → Entry = λ reply. record { call = Send m; reply = reply } in
     let entered : c.push_reserved.new.self.entries ≡ b.history.entries ++ entry (Accepted m.no) ∷ [] =
     ap (λ (p : Paged Entry). p.entries) c.push_reserved.ensures ∙
-    ap (λ (e : Entry). n.history.entries ++ e ∷ []) (c.entry_of.ensures ∙ ap entry c.verdict.ensures) ∙
+    ap (λ (e : Entry). n.history.entries ++ e ∷ []) (c.entry_of.ensures ∙ ap entry (c.verdict.ensures ∙ ap (λ (x : Message). Accepted x.no) same)) ∙
     ap (λ (es : List Entry). es ++ entry (Accepted m.no) ∷ []) r.entries in
     let len : c.len-position.result ≡ length b.history.entries = c.len-position.ensures.value ∙ ap length r.entries in
     subst (λ (es : List Entry). AreKept es (known c.accept.new.self) (position_of c.note_reserved.new.self) (kept_for c.deliver.new.outboxes)) (sym entered)
     (kept_accepted b.history.entries m (known b.tables) (position_of b.seen) (kept_for b.outboxes) c.requires.kept c.requires.room c.requires.dated c.requires.new
     c.boxes_keep_the_lists.ensures.push (known c.accept.new.self) (position_of c.note_reserved.new.self) (kept_for c.deliver.new.outboxes) c.requires.acceptable.sound
-    (c.in_ok-accept.ensures.ok ∙ ap (λ (t : Filings). tabled (accepted (known t) m)) r.tables)
+    (c.in_ok-accept.ensures.ok ∙ ap (λ (x : Message). tabled (accepted (known n.tables) x)) same ∙ ap (λ (t : Filings). tabled (accepted (known t) m)) r.tables)
     (λ by k. c.note_reserved.ensures by k ∙
+    ap (λ (x : Message). cond (same_name x.by x.no by k) (Some c.len-position.result) (position_of n.seen by k)) same ∙
     ap (λ (p : ℕ). cond (same_name m.by m.no by k) (Some p) (position_of n.seen by k)) len ∙
     ap (λ (o : Option ℕ). cond (same_name m.by m.no by k) (Some (length b.history.entries)) o) (λ i. r.positions i by k))
     (λ q. c.deliver.ensures q ∙
@@ -61,9 +64,10 @@ returns-clause-kept c =
 pub returns-clause-answered : goal.returns-clause-answered
 returns-clause-answered c =
     let b = c.args.books.now in
-    c.verdict-2.ensures ∙
+    c.verdict-2.ensures ∙ ap (λ (x : Message). Accepted x.no) c.get-said.ensures ∙
     new_answer b.history.entries c.args.message (known b.tables) (position_of b.seen) (kept_for b.outboxes) c.requires.kept c.requires.room c.requires.dated c.requires.new None c.requires.acceptable.sound
 
 pub note_reserved-requires-clause-new : goal.note_reserved-requires-clause-new
 note_reserved-requires-clause-new c =
-    ap (λ (found : Railway → ℕ → Option ℕ). found c.args.message.by c.args.message.no) c.in_ok-make_room.ensures.positions ∙ c.requires.new
+    let said = c.get-said.result.now in
+    ap (λ (found : Railway → ℕ → Option ℕ). found said.by said.no) c.in_ok-make_room.ensures.positions ∙ ap (λ (x : Message). position_of c.args.books.now.seen x.by x.no) c.get-said.ensures ∙ c.requires.new

@@ -1,6 +1,7 @@
 use Rattle.std.proofs.Common.{◌≡◌, ℕ, List, [], ◌∷◌, ◌++◌, Option, Some, cond, length, ap, ◌∙◌, sym, subst}
 use Rattle.taf_codes.specs.declared.code.Railway.{Railway}
 use Rattle.taf_messages.specs.declared.call.Call.TheVariants.{Send}
+use Rattle.taf_messages.specs.declared.message.Message.{Message}
 use Rattle.taf_messages.specs.declared.reply.Reply.{Reply}
 use Rattle.history_pages.specs.Paged.{Paged}
 use Rattle.replay_numbers.specs.Names.{same_name}
@@ -17,23 +18,26 @@ pub returns-clause-kept : goal.returns-clause-kept
 returns-clause-kept c =
     let b = c.args.books.now in
     let m = c.args.message in
+    let same = c.get-said.ensures in
     let entry : Reply → Entry = λ r. record { call = Send m; reply = r } in
     let entered : c.push_reserved.new.self.entries ≡ b.history.entries ++ entry (verdict m.no (Some c.args.found)) ∷ [] =
-    ap (λ (p : Paged Entry). p.entries) c.push_reserved.ensures ∙ ap (λ (e : Entry). c.reserve-2.new.self.entries ++ e ∷ []) (c.entry_of.ensures ∙ ap entry c.verdict-reply.ensures) ∙
+    ap (λ (p : Paged Entry). p.entries) c.push_reserved.ensures ∙ ap (λ (e : Entry). c.reserve-2.new.self.entries ++ e ∷ []) (c.entry_of.ensures ∙ ap entry (c.verdict-reply.ensures ∙ ap (λ (x : Message). verdict x.no (Some c.args.found)) same)) ∙
     ap (λ (es : List Entry). es ++ entry (verdict m.no (Some c.args.found)) ∷ []) c.in_ok-reserve-2.ensures.entries in
     let len : c.len-position.result ≡ length b.history.entries = c.len-position.ensures.value ∙ ap length c.in_ok-reserve-2.ensures.entries in
     subst (λ (es : List Entry). AreKept es (known b.tables) (position_of c.note_reserved.new.self) (kept_for b.outboxes)) (sym entered)
     (kept_refused b.history.entries m (known b.tables) (position_of b.seen) (kept_for b.outboxes) c.requires.kept c.requires.room c.requires.dated c.requires.new c.args.found (position_of c.note_reserved.new.self) c.requires.fault
     (λ by n. c.note_reserved.ensures by n ∙
+    ap (λ (x : Message). cond (same_name x.by x.no by n) (Some c.len-position.result) (position_of c.reserve.new.self by n)) same ∙
     ap (λ (k : ℕ). cond (same_name m.by m.no by n) (Some k) (position_of c.reserve.new.self by n)) len ∙
     ap (λ (found : Railway → ℕ → Option ℕ). cond (same_name m.by m.no by n) (Some (length b.history.entries)) (found by n)) c.reserve.ensures.positions))
 
 pub returns-clause-answered : goal.returns-clause-answered
 returns-clause-answered c =
     let b = c.args.books.now in
-    c.in_ok-told.ensures ∙ c.verdict-reply.ensures ∙
+    c.in_ok-told.ensures ∙ c.verdict-reply.ensures ∙ ap (λ (x : Message). verdict x.no (Some c.args.found)) c.get-said.ensures ∙
     new_answer b.history.entries c.args.message (known b.tables) (position_of b.seen) (kept_for b.outboxes) c.requires.kept c.requires.room c.requires.dated c.requires.new (Some c.args.found) c.requires.fault
 
 pub note_reserved-requires-clause-new : goal.note_reserved-requires-clause-new
 note_reserved-requires-clause-new c =
-    ap (λ (found : Railway → ℕ → Option ℕ). found c.args.message.by c.args.message.no) c.reserve.ensures.positions ∙ c.requires.new
+    let said = c.get-said.result.now in
+    ap (λ (found : Railway → ℕ → Option ℕ). found said.by said.no) c.reserve.ensures.positions ∙ ap (λ (x : Message). position_of c.args.books.now.seen x.by x.no) c.get-said.ensures ∙ c.requires.new

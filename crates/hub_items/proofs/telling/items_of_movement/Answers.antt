@@ -25,7 +25,7 @@ returns-then-keeps_estimates c =
     let told = ap (notified s (journey_after s m) m.by) is ∙ ap (λ (es : List Event). told_of_movement es what) (sym n.after) ∙ lead_told (after c.in_ok-next.next) what kept ∙ ap option_to_list (sym c.lead.ensures) in
     let none = ap (sub_items m.by) is in
     subst (λ (more : List Addressed). IfOk c.notice_alone.result (λ v. v.items ≡ more))
-    (told_alone s m _ _ _ alone told none n.wagon n.before n.after (k.estimates _ c.if-keeps_estimates.true) (k.alerts _ c.if-keeps_estimates.true)) c.notice_alone.ensures
+    (told_alone s m _ _ _ _ c.requires.same alone told none n.wagon n.before n.after (k.estimates _ c.if-keeps_estimates.true) (k.alerts _ c.if-keeps_estimates.true)) c.notice_alone.ensures
 
 pub returns : goal.returns
 returns c =
@@ -39,4 +39,4 @@ returns c =
     let told = ap (notified s (journey_after s m) m.by) is ∙ ap (λ (es : List Event). told_of_movement es c.args.movement.now.what) (sym behind) ∙ sym c.told_of_movement-told.ensures in
     let none = ap (sub_items m.by) is in
     subst (λ (more : List Addressed). IfOk c.items_of_one.result (λ v. v.items ≡ more))
-    (told_of_one s m _ _ _ alone told none (ap (λ (o : Onward). o.wagon) same ∙ n.wagon) (ap (λ (o : Onward). o.before) same ∙ n.before) behind) c.items_of_one.ensures
+    (told_of_one s m _ _ _ _ c.requires.same alone told none (ap (λ (o : Onward). o.wagon) same ∙ n.wagon) (ap (λ (o : Onward). o.before) same ∙ n.before) behind) c.items_of_one.ensures

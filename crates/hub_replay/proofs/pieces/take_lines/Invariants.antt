@@ -9,7 +9,7 @@ use Rattle.hub_replay.proofs.pieces.take_lines.Given as goal
 abbrev pub invariant-spans : goal.invariant-spans
 invariant-spans g l =
     (l.start ≤ l.from) × (l.from ≤ length l.piece)
-    × ((0 < l.size) × (l.size ≤ 524288))
+    × ((0 < l.size) × (l.size ≤ 1048576))
     × IsSpan (drop l.from l.piece) l.span
     × (tally l.desk.counts + 2 * l.start ≤ tally l.initial.desk.counts + 2 * l.from)
     × (g.W.Sink.failures l.writer ≡ g.W.Sink.failures l.initial.writer)

@@ -8,7 +8,7 @@ use Rattle.hub_replay.proofs.replay.run.Given as goal
 -- what was read is answered up to the beginning of a line that is kept
 abbrev pub invariant-pieces : goal.invariant-pieces
 invariant-pieces g l =
-    (l.held ≤ 65536) × (length l.room ≡ 1114112) × (l.total ≤ 2 ^ 40)
+    (l.held ≤ 65536) × (length l.room ≡ 4259840) × (l.total ≤ 2 ^ 40)
     × (tally l.desk.counts + 2 * l.held ≤ 2 * l.total)
     × (g.R.Source.failures l.reader ≡ g.R.Source.failures l.initial.reader)
     × (g.W.Sink.failures l.writer ≡ g.W.Sink.failures l.initial.writer)

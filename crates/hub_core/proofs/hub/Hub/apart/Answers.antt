@@ -1,6 +1,5 @@
 use Rattle.std.proofs.Common.{List, ap, ◌∙◌, sym}
 use Rattle.hub_model.specs.declared.entry.Entry.{Entry}
-use Rattle.hub_model.specs.Standing.{Standing}
 use Rattle.hub_model.specs.Overtaking.{is_apart}
 use Rattle.hub_model.specs.Answers.{standing_of}
 use Rattle.hub_core.specs.Apart.{are_apart}
@@ -11,6 +10,6 @@ returns-in-Send-Send c =
     let m = c.in-Send-Send.message in
     let n = c.in-Send-Send.also in
     c.apart.ensures ∙
-    ap (λ (t : Standing). is_apart t m n) c.self.invariant.tables ∙
+    (λ i. is_apart (c.self.invariant.tables i) (c.get.ensures i) (c.get-in-Send-Send.ensures i)) ∙
     ap (λ (history : List Entry). is_apart (standing_of history) m n) c.self.view_is ∙
     (λ i. are_apart (standing_of c.args.self.now) (sym c.in-Send-Send.is-0 i) (sym c.in-Send-Send.is-1 i))
