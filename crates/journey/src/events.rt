@@ -1,8 +1,11 @@
-ghost use Rattle.std.specs.Prelude.{◌≡◌, ◌+◌, ◌<◌, ◌^◌, [], ◌∷◌, ◌++◌, length, OnOk, OnErr, slice_get};
+ghost use Rattle.std.specs.Prelude.{◌≡◌, ◌+◌, ◌<◌, ◌≤◌, ◌^◌, [], ◌∷◌, ◌++◌, length, OnOk, OnErr, slice_get};
 ghost use Rattle.std.specs.Option.{option_copied};
+ghost use Rattle.journey.specs.Legs.{HasRoom};
+ghost use Rattle.journey.specs.Situations.{situation_after};
 
 use crate::event::Event;
 use crate::prepared::Prepared;
+use crate::situation::Situation;
 use std::collections::LinkedList;
 use std::marker::Model;
 use taf_codes::Memory;
@@ -62,13 +65,20 @@ impl Events {
         (self.row.as_slice(), &self.joined)
     }
 
-    /// Adds an event. Where memory is refused, the events are as they were.
-    pub(crate) fn push(&mut self, event: Event) -> Result<(), Memory>
-        ensures ok { OnOk result (self.new ≡ self.old ++ event ∷ []) }
+    /// Adds the next event, by which the situation goes on in place. Where memory is refused, both are as they were.
+    pub(crate) fn push(&mut self, next: Event, situation: &mut Situation) -> Result<(), Memory>
+        requires on_a_leg { situation.old.leg_index < length situation.old.legs }
+        requires few_legs { length situation.old.legs ≤ 8 }
+        requires room { HasRoom situation.old.leg_index next.body }
+        ensures ok { OnOk result (self.new ≡ self.old ++ next ∷ []) }
+        ensures goes_on { OnOk result (situation.new ≡ situation_after situation.old next) }
         ensures err { OnErr result (self.new ≡ self.old) }
+        ensures stays { OnErr result (situation.new ≡ situation.old) }
     {
         gather(&mut self.row, &mut self.joined)?;
-        self.row.push(event)?;
+        self.row.reserve(1)?;
+        situation.advance(&next);
+        self.row.push_reserved(next);
         Ok(())
     }
 

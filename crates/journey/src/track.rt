@@ -79,9 +79,7 @@ impl Track {
         ensures on_a_leg { OnOk result (of.leg_index self.new.events < length (legs_of.legs self.new.events)) }
         ensures err { OnErr result (self.new ≡ self.old) }
     {
-        let situation = self.situation.after(&event);
-        self.events.push(event)?;
-        self.situation = situation;
+        self.events.push(event, &mut self.situation)?;
         Ok(())
     }
 

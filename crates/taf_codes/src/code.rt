@@ -1,16 +1,18 @@
 //! Codes of a fixed length.
-ghost use Rattle.std.specs.Prelude.{◌≡◌, ℕ, List, Some, true};
+ghost use Rattle.std.specs.Prelude.{◌≡◌, ℕ, List, [], ◌∷◌, Some, true};
 ghost use Rattle.std.specs.Fmt.{styled_text};
+ghost use Rattle.std.proofs.Common.{rules};
 ghost use Rattle.taf_codes.specs.Codes.{is_place, is_railway, is_unit_code, place_code_of, railway_of, unit_of};
 
 use crate::fault::{BadCode, UnitFault};
 use crate::text::{are_code_letters, are_letters_then_digits, ascii_text, bytes_of};
 use crate::unit_digit::ends_in_check_digit;
 use std::fmt;
+use std::hash::{Hash, Hasher};
 use std::marker::Model;
 
 /// The code of a railway or of an infrastructure manager: four characters of A to Z and 0 to 9.
-#[derive(Clone, Copy, Debug, PartialEq, Eq, PartialOrd, Ord, Hash)]
+#[derive(Clone, Copy, Debug, PartialEq, Eq, PartialOrd, Ord)]
 pub struct Railway {
     letters: [u8; 4],
 }
@@ -43,6 +45,17 @@ impl Railway {
         ensures code { is_railway self.now ≡ true }
     {
         ascii_text(&self.letters)
+    }
+}
+
+/// Hashed as a whole: tables look railways up more often than all else.
+impl Hash for Railway {
+    ghost hash_input = { λ railway. railway ∷ [] };
+
+    ghost respects_eq = { Prim.search rules };
+
+    fn hash<H: Hasher>(&self, state: &mut H) {
+        state.write(&self.letters);
     }
 }
 

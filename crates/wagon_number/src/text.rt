@@ -32,6 +32,6 @@ impl NumberText {
     pub fn as_str(&self) -> &str
         ensures { result.now ≡ self.now }
     {
-        str::from_utf8(&self.letters).unwrap()
+        unsafe { str::from_utf8_unchecked(&self.letters) }
     }
 }

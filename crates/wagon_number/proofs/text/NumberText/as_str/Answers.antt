@@ -1,6 +1,5 @@
-use Rattle.std.proofs.Common.{rules}
 use Rattle.std.proofs.lemmas.Str.{IsUtf8-from_ascii}
 use Rattle.wagon_number.proofs.text.NumberText.as_str.Goals as goal
 
-pub unwrap-requires : goal.unwrap-requires
-unwrap-requires c = let text = IsUtf8-from_ascii _ c.self.invariant in search rules
+pub from_utf8_unchecked-requires : goal.from_utf8_unchecked-requires
+from_utf8_unchecked-requires c = IsUtf8-from_ascii _ c.self.invariant
