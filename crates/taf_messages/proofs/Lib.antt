@@ -13,3 +13,5 @@ pub mod SpeltLemmas
 pub mod KeptLemmas
 pub mod SentLemmas
 pub mod FlatLemmas
+pub mod PlainLemmas
+pub mod WritingLemmas

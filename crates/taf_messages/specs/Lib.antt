@@ -12,3 +12,4 @@ pub mod Kept
 pub mod Laws
 pub mod Flat
 pub mod FoundIn
+pub mod Writing

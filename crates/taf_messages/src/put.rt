@@ -1,7 +1,8 @@
 //! Values as JSON, appended to a writer.
-ghost use Rattle.std.specs.Prelude.{◌≡◌, OnOk, map};
+ghost use Rattle.std.specs.Prelude.{◌≡◌, OnOk, map, true};
 ghost use Rattle.serde_json.specs.Data.{Data, boolean};
 ghost use Rattle.taf_messages.specs.Texts.{Fields, item_tokens, fields, Adds, AddsData, AddsField, AddsFields, AddsFieldIf, list_of, listed, or_null, text, whole};
+ghost use Rattle.taf_messages.specs.Writing.{is_plain};
 ghost use Rattle.taf_messages.specs.Shapes.{at_text, load_text, leg_fields, leg_data, unit_fields, unit_data, wagon_text};
 
 use crate::listed::Listed;
@@ -27,6 +28,7 @@ pub(crate) trait Json {
 impl Json for u8 {
     ghost shape = { whole };
 
+    #[inline]
     fn put(&self, out: &mut Writer) -> Result<(), AllocError> {
         out.u64(u64::from(*self))
     }
@@ -35,6 +37,7 @@ impl Json for u8 {
 impl Json for u32 {
     ghost shape = { whole };
 
+    #[inline]
     fn put(&self, out: &mut Writer) -> Result<(), AllocError> {
         out.u64(u64::from(*self))
     }
@@ -43,6 +46,7 @@ impl Json for u32 {
 impl Json for u64 {
     ghost shape = { whole };
 
+    #[inline]
     fn put(&self, out: &mut Writer) -> Result<(), AllocError> {
         out.u64(*self)
     }
@@ -51,6 +55,7 @@ impl Json for u64 {
 impl<const LOW: u64, const HIGH: u64> Json for Within<LOW, HIGH> {
     ghost shape = { whole };
 
+    #[inline]
     fn put(&self, out: &mut Writer) -> Result<(), AllocError> {
         out.u64(self.get())
     }
@@ -59,22 +64,17 @@ impl<const LOW: u64, const HIGH: u64> Json for Within<LOW, HIGH> {
 impl Json for bool {
     ghost shape = { boolean };
 
+    #[inline]
     fn put(&self, out: &mut Writer) -> Result<(), AllocError> {
         out.boolean(*self)
-    }
-}
-
-impl Json for &str {
-    ghost shape = { λ s. text s.now };
-
-    fn put(&self, out: &mut Writer) -> Result<(), AllocError> {
-        out.string(self)
     }
 }
 
 impl Json for Railway {
     ghost shape = { text };
 
+    #[inline]
+    #[tactic(auto, using(crate::proofs::PlainLemmas::railway_is_plain))]
     fn put(&self, out: &mut Writer) -> Result<(), AllocError> {
         out.string(self.as_str())
     }
@@ -83,6 +83,8 @@ impl Json for Railway {
 impl Json for Place {
     ghost shape = { text };
 
+    #[inline]
+    #[tactic(auto, using(crate::proofs::PlainLemmas::place_is_plain))]
     fn put(&self, out: &mut Writer) -> Result<(), AllocError> {
         out.string(self.as_str())
     }
@@ -91,6 +93,8 @@ impl Json for Place {
 impl Json for ConsignmentId {
     ghost shape = { text };
 
+    #[inline]
+    #[tactic(auto, using(crate::proofs::PlainLemmas::name_is_plain))]
     fn put(&self, out: &mut Writer) -> Result<(), AllocError> {
         out.string(self.as_str())
     }
@@ -99,6 +103,8 @@ impl Json for ConsignmentId {
 impl Json for TrainId {
     ghost shape = { text };
 
+    #[inline]
+    #[tactic(auto, using(crate::proofs::PlainLemmas::name_is_plain))]
     fn put(&self, out: &mut Writer) -> Result<(), AllocError> {
         out.string(self.as_str())
     }
@@ -107,6 +113,8 @@ impl Json for TrainId {
 impl Json for UnitCode {
     ghost shape = { text };
 
+    #[inline]
+    #[tactic(auto, using(crate::proofs::PlainLemmas::unit_is_plain))]
     fn put(&self, out: &mut Writer) -> Result<(), AllocError> {
         out.string(self.as_str())
     }
@@ -115,6 +123,8 @@ impl Json for UnitCode {
 impl Json for WagonNumber {
     ghost shape = { wagon_text };
 
+    #[inline]
+    #[tactic(auto, using(crate::proofs::PlainLemmas::number_is_plain))]
     fn put(&self, out: &mut Writer) -> Result<(), AllocError> {
         out.string(self.text().as_str())
     }
@@ -123,6 +133,8 @@ impl Json for WagonNumber {
 impl Json for Moment {
     ghost shape = { at_text };
 
+    #[inline]
+    #[tactic(auto, using(crate::proofs::PlainLemmas::moment_is_plain))]
     fn put(&self, out: &mut Writer) -> Result<(), AllocError> {
         out.string(self.text().as_str())
     }
@@ -131,6 +143,7 @@ impl Json for Moment {
 impl Json for Load {
     ghost shape = { load_text };
 
+    #[inline]
     fn put(&self, out: &mut Writer) -> Result<(), AllocError> {
         match self {
             Load::Loaded => out.string("loaded"),
@@ -245,7 +258,9 @@ impl Json for UnitLoad {
 }
 
 /// Appends a member of an object.
+#[inline(always)]
 pub(crate) fn put_field<T: Json>(out: &mut Writer, name: &str, value: &T) -> Result<(), AllocError>
+    requires { is_plain name.now ≡ true }
     ensures ok { OnOk result (AddsField out.old out.new name.now (T.shape value.now)) }
     ensures before { out.new.before ≡ out.old.before }
 {
@@ -253,12 +268,26 @@ pub(crate) fn put_field<T: Json>(out: &mut Writer, name: &str, value: &T) -> Res
     value.put(out)
 }
 
+/// Appends a member of an object that is a plain text.
+#[inline(always)]
+pub(crate) fn put_text(out: &mut Writer, name: &str, said: &str) -> Result<(), AllocError>
+    requires name { is_plain name.now ≡ true }
+    requires text { is_plain said.now ≡ true }
+    ensures ok { OnOk result (AddsField out.old out.new name.now (text said.now)) }
+    ensures before { out.new.before ≡ out.old.before }
+{
+    out.key(name)?;
+    out.string(said)
+}
+
 /// Appends a member of an object, where there is one.
+#[inline(always)]
 pub(crate) fn put_field_if<T: Json>(
     out: &mut Writer,
     name: &str,
     value: &Option<T>,
 ) -> Result<(), AllocError>
+    requires { is_plain name.now ≡ true }
     ensures ok { OnOk result (AddsFieldIf T.shape out.old out.new name.now value.now) }
     ensures before { out.new.before ≡ out.old.before }
 {
@@ -274,6 +303,7 @@ pub(crate) fn put_list_if<T: Json>(
     name: &str,
     items: &[T],
 ) -> Result<(), AllocError>
+    requires { is_plain name.now ≡ true }
     ensures ok { OnOk result (AddsFieldIf (list_of T.shape) out.old out.new name.now (listed items.now)) }
     ensures before { out.new.before ≡ out.old.before }
 {

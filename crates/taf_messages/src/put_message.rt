@@ -1,7 +1,7 @@
 //! Messages as JSON: a message's own record.
 ghost use Rattle.std.specs.Prelude.{◌≡◌, OnOk};
-ghost use Rattle.taf_messages.specs.Names.{movement_name};
-ghost use Rattle.taf_messages.specs.Texts.{AddsFields};
+ghost use Rattle.taf_messages.specs.Names.{body_name, movement_name};
+ghost use Rattle.taf_messages.specs.Texts.{AddsFields, text};
 ghost use Rattle.taf_messages.specs.Shapes as shape;
 
 use crate::kind::{BodyName, MovementName};
@@ -57,6 +57,26 @@ impl MovementKind {
     }
 }
 
+impl Json for BodyName {
+    ghost shape = { λ name. text (body_name name) };
+
+    #[inline]
+    #[tactic(auto, using(crate::proofs::PlainLemmas::body_is_plain))]
+    fn put(&self, out: &mut Writer) -> Result<(), AllocError> {
+        out.string(self.name())
+    }
+}
+
+impl Json for MovementName {
+    ghost shape = { λ name. text (movement_name name) };
+
+    #[inline]
+    #[tactic(auto, using(crate::proofs::PlainLemmas::movement_is_plain))]
+    fn put(&self, out: &mut Writer) -> Result<(), AllocError> {
+        out.string(self.name())
+    }
+}
+
 impl Json for Message {
     ghost shape = { shape.message_data };
 
@@ -75,7 +95,7 @@ impl Object for Message {
             Body::Movement(movement) => put_movement(out, self.by, self.no, movement),
             Body::EtiAsk { wagon } => {
                 put_field(out, "from", &self.by)?;
-                put_field(out, "kind", &BodyName::EtiAsk.name())?;
+                put_field(out, "kind", &BodyName::EtiAsk)?;
                 put_field(out, "no", &self.no)?;
                 put_field(out, "wagon", wagon)?;
                 Ok(())
@@ -90,14 +110,14 @@ impl Object for Message {
             Body::Withdraw { at, offer } => {
                 put_field(out, "at", at)?;
                 put_field(out, "from", &self.by)?;
-                put_field(out, "kind", &BodyName::Withdraw.name())?;
+                put_field(out, "kind", &BodyName::Withdraw)?;
                 put_field(out, "no", &self.no)?;
                 put_field(out, "offer", offer)?;
                 Ok(())
             }
             Body::Reroute { wagon, route } => {
                 put_field(out, "from", &self.by)?;
-                put_field(out, "kind", &BodyName::Reroute.name())?;
+                put_field(out, "kind", &BodyName::Reroute)?;
                 put_field(out, "legs", &route.legs())?;
                 put_field(out, "no", &self.no)?;
                 put_field(out, "wagon", wagon)?;
@@ -125,7 +145,7 @@ fn put_first_plan_fields(out: &mut Writer, by: Railway, plan: &Plan) -> Result<(
     put_field(out, "commit", &plan.commit())?;
     put_field(out, "consignment", &plan.consignment())?;
     put_field(out, "from", &by)?;
-    put_field(out, "kind", &BodyName::Plan.name())?;
+    put_field(out, "kind", &BodyName::Plan)?;
     put_field(out, "legs", &plan.legs())?;
     Ok(())
 }
@@ -154,7 +174,7 @@ fn put_leg_time(
     ensures before { out.new.before ≡ out.old.before }
 {
     put_field(out, "from", &message.by)?;
-    put_field(out, "kind", &BodyName::LegTime.name())?;
+    put_field(out, "kind", &BodyName::LegTime)?;
     put_field(out, "leg", &leg)?;
     put_field(out, "minutes", &minutes)?;
     put_field(out, "no", &message.no)?;
@@ -175,7 +195,7 @@ fn put_movement(
     put_field(out, "at", &movement.at)?;
     put_field_if(out, "delay", &movement.what.delay())?;
     put_field(out, "from", &by)?;
-    put_field(out, "kind", &movement.what.name().name())?;
+    put_field(out, "kind", &movement.what.name())?;
     put_field(out, "no", &no)?;
     put_field_if(out, "place", &movement.what.place())?;
     put_field(out, "wagon", &movement.wagon)?;
@@ -194,7 +214,7 @@ fn put_offer(
 {
     put_field(out, "at", &offer.at)?;
     put_field(out, "from", &by)?;
-    put_field(out, "kind", &BodyName::Offer.name())?;
+    put_field(out, "kind", &BodyName::Offer)?;
     put_field(out, "no", &no)?;
     put_field(out, "place", &offer.place)?;
     put_field(out, "to", &offer.to)?;
@@ -215,7 +235,7 @@ fn put_answer(
 {
     put_field(out, "at", &answer.at)?;
     put_field(out, "from", &by)?;
-    put_field(out, "kind", &BodyName::Answer.name())?;
+    put_field(out, "kind", &BodyName::Answer)?;
     put_field_if(out, "manager", &answer.manager)?;
     put_field(out, "no", &no)?;
     put_field(out, "offer", &answer.offer)?;

@@ -1,7 +1,8 @@
 //! Records of wagons as JSON (4.2.11).
 ghost use Rattle.std.specs.Prelude.{◌≡◌, OnOk};
-ghost use Rattle.taf_messages.specs.Texts.{AddsFields};
+ghost use Rattle.taf_messages.specs.Texts.{AddsFields, text};
 ghost use Rattle.taf_messages.specs.RecordShapes as shape;
+ghost use Rattle.taf_messages.specs.RecordShapes.{stage_name, status_name};
 
 use crate::event::{Happened, RecordEvent};
 use crate::kind::BodyName;
@@ -13,8 +14,6 @@ use std::alloc::AllocError;
 use taf_codes::Place;
 
 impl Stage {
-    ghost use Rattle.taf_messages.specs.RecordShapes.{stage_name};
-
     /// The name of the stage in records.
     pub fn name(self) -> &'static str
         ensures { result.now ≡ stage_name self }
@@ -32,8 +31,6 @@ impl Stage {
 }
 
 impl Status {
-    ghost use Rattle.taf_messages.specs.RecordShapes.{status_name};
-
     /// The name of the status in records.
     pub fn name(self) -> &'static str
         ensures { result.now ≡ status_name self }
@@ -114,6 +111,24 @@ impl Happened {
     }
 }
 
+impl Json for Stage {
+    ghost shape = { λ stage. text (stage_name stage) };
+
+    #[tactic(auto, using(crate::proofs::PlainLemmas::stage_is_plain))]
+    fn put(&self, out: &mut Writer) -> Result<(), AllocError> {
+        out.string(self.name())
+    }
+}
+
+impl Json for Status {
+    ghost shape = { λ status. text (status_name status) };
+
+    #[tactic(auto, using(crate::proofs::PlainLemmas::status_is_plain))]
+    fn put(&self, out: &mut Writer) -> Result<(), AllocError> {
+        out.string(self.name())
+    }
+}
+
 impl Json for RecordEvent {
     ghost shape = { shape.event_data };
 
@@ -130,7 +145,7 @@ impl Object for RecordEvent {
         put_field_if(out, "at", &self.at)?;
         put_field(out, "by", &self.by)?;
         put_field_if(out, "delay", &self.what.delay())?;
-        put_field(out, "kind", &self.what.kind().name())?;
+        put_field(out, "kind", &self.what.kind())?;
         put_field_if(out, "leg", &self.what.leg())?;
         put_field_if(out, "minutes", &self.what.minutes())?;
         put_field(out, "no", &self.no)?;
@@ -210,8 +225,8 @@ fn put_last_fields(out: &mut Writer, shown: &Record) -> Result<(), AllocError>
     ensures ok { OnOk result (AddsFields out.old out.new (shape.last_record_fields shown.now)) }
     ensures before { out.new.before ≡ out.old.before }
 {
-    put_field(out, "stage", &shown.stage.name())?;
-    put_field(out, "status", &shown.status.name())?;
+    put_field(out, "stage", &shown.stage)?;
+    put_field(out, "status", &shown.status)?;
     put_list_if(out, "units", shown.units.as_slice())?;
     put_field(out, "wagon", &shown.wagon)?;
     Ok(())

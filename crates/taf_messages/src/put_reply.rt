@@ -1,12 +1,15 @@
 //! Replies, items and faults of records as JSON.
 ghost use Rattle.std.specs.Prelude.{◌≡◌, OnOk};
-ghost use Rattle.taf_messages.specs.Texts.{AddsFields};
+ghost use Rattle.taf_messages.specs.Names.{field_name};
+ghost use Rattle.taf_messages.specs.Texts.{AddsFields, text};
 ghost use Rattle.taf_messages.specs.ReplyShapes as shape;
+ghost use Rattle.taf_messages.specs.ReplyShapes.{why_name};
 
 use crate::fault::RecordFault;
+use crate::field::Field;
 use crate::item::{Item, ItemBody, SubNotice};
 use crate::number::LegIndex;
-use crate::put::{Json, Object, put_field, put_field_if, put_object};
+use crate::put::{Json, Object, put_field, put_field_if, put_object, put_text};
 use crate::reply::{Reply, Why};
 use crate::writer::Writer;
 use std::alloc::AllocError;
@@ -14,8 +17,6 @@ use taf_moment::Moment;
 use wagon_number::WagonNumber;
 
 impl Why {
-    ghost use Rattle.taf_messages.specs.ReplyShapes.{why_name};
-
     /// The name of the refusal in replies.
     pub fn name(self) -> &'static str
         ensures { result.now ≡ why_name self }
@@ -45,6 +46,24 @@ impl Why {
     }
 }
 
+impl Json for Why {
+    ghost shape = { λ why. text (why_name why) };
+
+    #[tactic(auto, using(crate::proofs::PlainLemmas::why_is_plain))]
+    fn put(&self, out: &mut Writer) -> Result<(), AllocError> {
+        out.string(self.name())
+    }
+}
+
+impl Json for Field {
+    ghost shape = { λ field. text (field_name field) };
+
+    #[tactic(auto, using(crate::proofs::PlainLemmas::field_is_plain))]
+    fn put(&self, out: &mut Writer) -> Result<(), AllocError> {
+        out.string(self.name())
+    }
+}
+
 impl Json for Item {
     ghost shape = { shape.item_data };
 
@@ -62,7 +81,7 @@ impl Object for Item {
             ItemBody::Notice(message) => {
                 put_field(out, "item", &self.number)?;
                 put_field(out, "message", message.get())?;
-                put_field(out, "type", &"notice")?;
+                put_text(out, "type", "notice")?;
                 Ok(())
             }
             ItemBody::Sub(sub) => put_sub(out, self.number, sub.get()),
@@ -70,20 +89,20 @@ impl Object for Item {
             ItemBody::Eta { wagon, at } => {
                 put_field(out, "at", at)?;
                 put_field(out, "item", &self.number)?;
-                put_field(out, "type", &"eta")?;
+                put_text(out, "type", "eta")?;
                 put_field(out, "wagon", wagon)?;
                 Ok(())
             }
             ItemBody::AlertBegins { wagon, late_by } => {
                 put_field(out, "item", &self.number)?;
                 put_field(out, "late_by", late_by)?;
-                put_field(out, "type", &"alert_begins")?;
+                put_text(out, "type", "alert_begins")?;
                 put_field(out, "wagon", wagon)?;
                 Ok(())
             }
             ItemBody::AlertEnds { wagon } => {
                 put_field(out, "item", &self.number)?;
-                put_field(out, "type", &"alert_ends")?;
+                put_text(out, "type", "alert_ends")?;
                 put_field(out, "wagon", wagon)?;
                 Ok(())
             }
@@ -101,7 +120,7 @@ fn put_sub(out: &mut Writer, number: u64, sub: &SubNotice) -> Result<(), AllocEr
     put_field(out, "item", &number)?;
     put_field(out, "offer", &sub.offer)?;
     put_field(out, "offerer", &sub.offerer)?;
-    put_field(out, "type", &"sub")?;
+    put_text(out, "type", "sub")?;
     put_field(out, "wagons", &sub.wagons)?;
     Ok(())
 }
@@ -120,7 +139,7 @@ fn put_eti(
     put_field(out, "at", &at)?;
     put_field(out, "item", &number)?;
     put_field(out, "leg", &leg)?;
-    put_field(out, "type", &"eti")?;
+    put_text(out, "type", "eti")?;
     put_field(out, "wagon", &wagon)?;
     Ok(())
 }
@@ -141,7 +160,7 @@ impl Object for Reply {
         match self {
             Reply::Accepted { no } => {
                 put_field(out, "no", no)?;
-                put_field(out, "reply", &"accepted")?;
+                put_text(out, "reply", "accepted")?;
                 Ok(())
             }
             Reply::Refused {
@@ -152,29 +171,29 @@ impl Object for Reply {
             } => {
                 put_field_if(out, "last", last)?;
                 put_field_if(out, "no", no)?;
-                put_field(out, "reply", &"refused")?;
+                put_text(out, "reply", "refused")?;
                 put_field_if(out, "wagon", wagon)?;
-                put_field(out, "why", &why.name())?;
+                put_field(out, "why", why)?;
                 Ok(())
             }
             Reply::One(shown) => {
                 put_field(out, "record", shown.get())?;
-                put_field(out, "reply", &"record")?;
+                put_text(out, "reply", "record")?;
                 Ok(())
             }
             Reply::Many(shown) => {
                 put_field(out, "records", shown.get())?;
-                put_field(out, "reply", &"records")?;
+                put_text(out, "reply", "records")?;
                 Ok(())
             }
             Reply::Items(items) => {
                 put_field(out, "items", items.get())?;
-                put_field(out, "reply", &"items")?;
+                put_text(out, "reply", "items")?;
                 Ok(())
             }
             Reply::Acknowledged(item) => {
                 put_field(out, "acknowledged", item)?;
-                put_field(out, "reply", &"acknowledged")?;
+                put_text(out, "reply", "acknowledged")?;
                 Ok(())
             }
         }
@@ -195,21 +214,21 @@ impl Object for RecordFault {
     #[tactic(auto, unfolding(crate::specs::ReplyShapes::fault_fields))]
     fn put_members(&self, out: &mut Writer) -> Result<(), AllocError> {
         match self {
-            RecordFault::BadJson => put_field(out, "fault", &"bad_json"),
-            RecordFault::BadKind => put_field(out, "fault", &"bad_kind"),
+            RecordFault::BadJson => put_text(out, "fault", "bad_json"),
+            RecordFault::BadKind => put_text(out, "fault", "bad_kind"),
             RecordFault::MissingField(field) => {
-                put_field(out, "fault", &"missing_field")?;
-                put_field(out, "field", &field.name())?;
+                put_text(out, "fault", "missing_field")?;
+                put_field(out, "field", field)?;
                 Ok(())
             }
             RecordFault::BadField(field) => {
-                put_field(out, "fault", &"bad_field")?;
-                put_field(out, "field", &field.name())?;
+                put_text(out, "fault", "bad_field")?;
+                put_field(out, "field", field)?;
                 Ok(())
             }
             RecordFault::BadPlan(code) => {
                 put_field(out, "code", code)?;
-                put_field(out, "fault", &"bad_plan")?;
+                put_text(out, "fault", "bad_plan")?;
                 Ok(())
             }
             RecordFault::Memory => Ok(()),

@@ -1,32 +1,37 @@
-//! A writer of JSON whose numbers are whole ones of 64 bits.
-ghost use Rattle.std.specs.Prelude.{◌≡◌, ◌++◌, [], decimal};
-ghost use Rattle.json.specs.Print.{print};
+//! A writer of JSON whose texts need no escape and whose numbers are whole ones of 64 bits.
+ghost use Rattle.std.specs.Prelude.{◌≡◌, ◌∷◌, ◌++◌, [], cond, decimal, length, take, true, OnOk, OnErr};
+ghost use Rattle.json.specs.Print.{print, separator, token_text, ends};
+ghost use Rattle.json.specs.Reads.{token_of};
 ghost use Rattle.json.specs.Token as token;
-ghost use Rattle.json.specs.Written.{Writes};
-ghost use Rattle.taf_messages.specs.Texts.{AreSmall};
+ghost use Rattle.taf_messages.specs.Texts.{AreSmall, IsSmallToken};
+ghost use Rattle.taf_messages.specs.Writing.{is_plain, CanBePut, Writes};
 
+use json::Token;
 use std::alloc::AllocError;
 use std::marker::Model;
 
-/// Appends JSON to a buffer, a token at a time, as `json::Writer` does. Each number is a whole one
-/// of 64 bits, so a reader of such numbers finds the same one.
+/// Appends JSON to a buffer, a token at a time. Each text is plain, so it stands there as it is, and each number is a whole
+/// one of 64 bits, so a reader of such numbers finds the same one.
 #[derive(Drop)]
 pub(crate) struct Writer {
-    inner: json::Writer,
+    out: Vec<u8>,
+    // Where its text begins.
+    start: usize,
+    // Whether a value has just ended: a comma comes before the next one.
+    after_value: bool,
 }
 
 impl Model for Writer {
     ghost use Rattle.json.specs.Written.{Written, written_code};
+    ghost use Rattle.taf_messages.specs.Writing.{written, IsWriting};
 
     ghost Value = { Written };
 
     ghost coded = { written_code };
 
-    ghost use Rattle.taf_messages.specs.Texts.{AreSmall};
+    ghost view = { written };
 
-    ghost view = { λ a. a.inner };
-
-    ghost invariant = { λ a. AreSmall a.inner.tokens };
+    ghost invariant = { IsWriting };
 }
 
 impl Writer {
@@ -35,8 +40,11 @@ impl Writer {
         ensures before { result.before ≡ out.items }
         ensures tokens { result.tokens ≡ [] }
     {
+        let start = out.len();
         Writer {
-            inner: json::Writer::new(out),
+            out,
+            start,
+            after_value: false,
         }
     }
 
@@ -45,70 +53,161 @@ impl Writer {
         ensures items { result.items ≡ self.before ++ print self.tokens }
         ensures small { AreSmall self.tokens }
     {
-        let Writer { inner } = self;
-        inner.into_inner()
+        let Writer { out, .. } = self;
+        out
     }
 
-    #[inline]
+    // Appends a token, behind a comma where one is wanted.
+    #[inline(always)]
+    fn token(&mut self, token: Token<'_>) -> Result<(), AllocError>
+        requires { CanBePut (token_of token) }
+        ensures { Writes result self.old self.new (token_of token.entry) }
+    {
+        match put(&mut self.out, self.after_value, token) {
+            Ok(()) => {
+                self.after_value = ends_value(token);
+                Ok(())
+            }
+            Err(e) => Err(e),
+        }
+    }
+
+    #[inline(always)]
     pub(crate) fn begin_object(&mut self) -> Result<(), AllocError>
         ensures { Writes result self.old self.new token.begin_object }
     {
-        self.inner.begin_object()
+        self.token(Token::BeginObject)
     }
 
-    #[inline]
+    #[inline(always)]
     pub(crate) fn end_object(&mut self) -> Result<(), AllocError>
         ensures { Writes result self.old self.new token.end_object }
     {
-        self.inner.end_object()
+        self.token(Token::EndObject)
     }
 
-    #[inline]
+    #[inline(always)]
     pub(crate) fn begin_array(&mut self) -> Result<(), AllocError>
         ensures { Writes result self.old self.new token.begin_array }
     {
-        self.inner.begin_array()
+        self.token(Token::BeginArray)
     }
 
-    #[inline]
+    #[inline(always)]
     pub(crate) fn end_array(&mut self) -> Result<(), AllocError>
         ensures { Writes result self.old self.new token.end_array }
     {
-        self.inner.end_array()
+        self.token(Token::EndArray)
     }
 
-    #[inline]
+    #[inline(always)]
     pub(crate) fn key(&mut self, name: &str) -> Result<(), AllocError>
+        requires { is_plain name.now ≡ true }
         ensures { Writes result self.old self.new (token.key name.now) }
     {
-        self.inner.key(name)
+        self.token(Token::Key(name))
     }
 
-    #[inline]
+    #[inline(always)]
     pub(crate) fn string(&mut self, text: &str) -> Result<(), AllocError>
+        requires { is_plain text.now ≡ true }
         ensures { Writes result self.old self.new (token.string text.now) }
     {
-        self.inner.string(text)
+        self.token(Token::String(text))
     }
 
     #[inline]
     pub(crate) fn u64(&mut self, number: u64) -> Result<(), AllocError>
         ensures { Writes result self.old self.new (token.number (decimal number)) }
     {
-        self.inner.u64(number)
+        let mut buffer = itoa::Buffer::new();
+        self.token(Token::Number(buffer.format(number)))
     }
 
-    #[inline]
+    #[inline(always)]
     pub(crate) fn boolean(&mut self, flag: bool) -> Result<(), AllocError>
         ensures { Writes result self.old self.new (token.boolean flag) }
     {
-        self.inner.boolean(flag)
+        self.token(Token::Bool(flag))
     }
 
-    #[inline]
+    #[inline(always)]
     pub(crate) fn null(&mut self) -> Result<(), AllocError>
         ensures { Writes result self.old self.new token.null }
     {
-        self.inner.null()
+        self.token(Token::Null)
     }
+}
+
+// Whether a value ends with the token.
+#[inline(always)]
+fn ends_value(token: Token<'_>) -> bool
+    ensures { result ≡ ends (token_of token.entry) }
+{
+    match token {
+        Token::BeginObject | Token::BeginArray | Token::Key(_) => false,
+        _ => true,
+    }
+}
+
+// Appends the text of a token, whole or not at all.
+#[inline(always)]
+fn put(out: &mut Vec<u8>, after_value: bool, token: Token<'_>) -> Result<(), AllocError>
+    requires { CanBePut (token_of token) }
+    ensures ok { OnOk result (out.new.items ≡ out.old.items ++ (separator after_value (token_of token.entry) ++ token_text (token_of token.entry))) }
+    ensures err { OnErr result (out.new.items ≡ out.old.items) }
+{
+    match token {
+        Token::BeginObject => put_parts(out, after_value, b"{", b"", b""),
+        Token::EndObject => put_parts(out, false, b"}", b"", b""),
+        Token::BeginArray => put_parts(out, after_value, b"[", b"", b""),
+        Token::EndArray => put_parts(out, false, b"]", b"", b""),
+        Token::Key(name) => put_parts(out, after_value, b"\"", name.as_bytes(), b"\":"),
+        Token::String(text) => put_parts(out, after_value, b"\"", text.as_bytes(), b"\""),
+        Token::Number(text) => put_parts(out, after_value, b"", text.as_bytes(), b""),
+        Token::Bool(true) => put_parts(out, after_value, b"true", b"", b""),
+        Token::Bool(false) => put_parts(out, after_value, b"false", b"", b""),
+        Token::Null => put_parts(out, after_value, b"null", b"", b""),
+        Token::Bad => unreachable!(),
+    }
+}
+
+// Appends a comma, if one is wanted, and these parts behind it, all or nothing.
+#[inline(always)]
+fn put_parts(
+    out: &mut Vec<u8>,
+    comma: bool,
+    first: &[u8],
+    middle: &[u8],
+    last: &[u8],
+) -> Result<(), AllocError>
+    ensures ok { OnOk result (out.new.items ≡ out.old.items ++ (cond comma (44 ∷ []) [] ++ (first.now ++ (middle.now ++ last.now)))) }
+    ensures err { OnErr result (out.new.items ≡ out.old.items) }
+{
+    let before = out.len();
+    let put = add_parts(out, comma, first, middle, last);
+    if put.is_err() {
+        out.truncate(before);
+    }
+    put
+}
+
+// The same, but some parts may be there where memory was refused.
+#[inline(always)]
+fn add_parts(
+    out: &mut Vec<u8>,
+    comma: bool,
+    first: &[u8],
+    middle: &[u8],
+    last: &[u8],
+) -> Result<(), AllocError>
+    ensures ok { OnOk result (out.new.items ≡ out.old.items ++ (cond comma (44 ∷ []) [] ++ (first.now ++ (middle.now ++ last.now)))) }
+    ensures front { take (length out.old.items) out.new.items ≡ out.old.items }
+{
+    if comma {
+        out.extend_from_slice(b",")?;
+    }
+    out.extend_from_slice(first)?;
+    out.extend_from_slice(middle)?;
+    out.extend_from_slice(last)
 }
