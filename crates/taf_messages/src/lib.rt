@@ -27,6 +27,7 @@
 //! `Memory`, and what a buffer held stays. A copy answers `Memory` where one value is shared too often.
 #![tactic(auto)]
 
+mod buffer;
 mod call;
 mod copies;
 mod equality;

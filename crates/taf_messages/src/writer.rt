@@ -1,11 +1,12 @@
 //! A writer of JSON whose texts need no escape and whose numbers are whole ones of 64 bits.
-ghost use Rattle.std.specs.Prelude.{◌≡◌, ◌∷◌, ◌++◌, [], cond, decimal, length, take, true, OnOk, OnErr};
+ghost use Rattle.std.specs.Prelude.{◌≡◌, ◌∷◌, ◌++◌, [], cond, decimal, ◌≤◌, length, true, OnOk, OnErr};
 ghost use Rattle.json.specs.Print.{print, separator, token_text, ends};
 ghost use Rattle.json.specs.Reads.{token_of};
 ghost use Rattle.json.specs.Token as token;
 ghost use Rattle.taf_messages.specs.Texts.{AreSmall, IsSmallToken};
 ghost use Rattle.taf_messages.specs.Writing.{is_plain, CanBePut, Writes};
 
+use crate::buffer::Buffer;
 use json::Token;
 use std::alloc::AllocError;
 use std::marker::Model;
@@ -14,7 +15,7 @@ use std::marker::Model;
 /// one of 64 bits, so a reader of such numbers finds the same one.
 #[derive(Drop)]
 pub(crate) struct Writer {
-    out: Vec<u8>,
+    out: Buffer,
     // Where its text begins.
     start: usize,
     // Whether a value has just ended: a comma comes before the next one.
@@ -40,6 +41,7 @@ impl Writer {
         ensures before { result.before ≡ out.items }
         ensures tokens { result.tokens ≡ [] }
     {
+        let out = Buffer::new(out);
         let start = out.len();
         Writer {
             out,
@@ -54,7 +56,7 @@ impl Writer {
         ensures small { AreSmall self.tokens }
     {
         let Writer { out, .. } = self;
-        out
+        out.into_vec()
     }
 
     // Appends a token, behind a comma where one is wanted.
@@ -152,7 +154,7 @@ fn ends_value(token: Token<'_>) -> bool
 
 // Appends the text of a token, whole or not at all.
 #[inline(always)]
-fn put(out: &mut Vec<u8>, after_value: bool, token: Token<'_>) -> Result<(), AllocError>
+fn put(out: &mut Buffer, after_value: bool, token: Token<'_>) -> Result<(), AllocError>
     requires { CanBePut (token_of token) }
     ensures ok { OnOk result (out.new.items ≡ out.old.items ++ (separator after_value (token_of token.entry) ++ token_text (token_of token.entry))) }
     ensures err { OnErr result (out.new.items ≡ out.old.items) }
@@ -175,39 +177,17 @@ fn put(out: &mut Vec<u8>, after_value: bool, token: Token<'_>) -> Result<(), All
 // Appends a comma, if one is wanted, and these parts behind it, all or nothing.
 #[inline(always)]
 fn put_parts(
-    out: &mut Vec<u8>,
+    out: &mut Buffer,
     comma: bool,
     first: &[u8],
     middle: &[u8],
     last: &[u8],
 ) -> Result<(), AllocError>
+    requires { (length first.now ≤ 8) × (length last.now ≤ 8) }
     ensures ok { OnOk result (out.new.items ≡ out.old.items ++ (cond comma (44 ∷ []) [] ++ (first.now ++ (middle.now ++ last.now)))) }
     ensures err { OnErr result (out.new.items ≡ out.old.items) }
 {
-    let before = out.len();
-    let put = add_parts(out, comma, first, middle, last);
-    if put.is_err() {
-        out.truncate(before);
-    }
-    put
-}
-
-// The same, but some parts may be there where memory was refused.
-#[inline(always)]
-fn add_parts(
-    out: &mut Vec<u8>,
-    comma: bool,
-    first: &[u8],
-    middle: &[u8],
-    last: &[u8],
-) -> Result<(), AllocError>
-    ensures ok { OnOk result (out.new.items ≡ out.old.items ++ (cond comma (44 ∷ []) [] ++ (first.now ++ (middle.now ++ last.now)))) }
-    ensures front { take (length out.old.items) out.new.items ≡ out.old.items }
-{
-    if comma {
-        out.extend_from_slice(b",")?;
-    }
-    out.extend_from_slice(first)?;
-    out.extend_from_slice(middle)?;
-    out.extend_from_slice(last)
+    out.reserve(first.len() + middle.len() + last.len() + 1)?;
+    out.put(comma, first, middle, last);
+    Ok(())
 }
