@@ -107,7 +107,19 @@ impl Writer {
         requires { is_plain name.now ≡ true }
         ensures { Writes result self.old self.new (token.key name.now) }
     {
-        self.token(Token::Key(name))
+        match put_parts(
+            &mut self.out,
+            self.after_value,
+            b"\"",
+            name.as_bytes(),
+            b"\":",
+        ) {
+            Ok(()) => {
+                self.after_value = false;
+                Ok(())
+            }
+            Err(e) => Err(e),
+        }
     }
 
     #[inline(always)]
@@ -115,7 +127,19 @@ impl Writer {
         requires { is_plain text.now ≡ true }
         ensures { Writes result self.old self.new (token.string text.now) }
     {
-        self.token(Token::String(text))
+        match put_parts(
+            &mut self.out,
+            self.after_value,
+            b"\"",
+            text.as_bytes(),
+            b"\"",
+        ) {
+            Ok(()) => {
+                self.after_value = true;
+                Ok(())
+            }
+            Err(e) => Err(e),
+        }
     }
 
     #[inline]
