@@ -5,8 +5,8 @@
 //! lead to is defined in `specs/Outcomes.antt`, and what a line says in `specs/Lines.antt`.
 //!
 //! Lines are heard in spans: while those of a span are answered, a thread of its own hears those of the next, where the
-//! reader gave as many. Of what was read at once the first span has about 8,192 bytes, and each other twice as many as the
-//! one before, up to 1,048,576. The hub is called by the one thread that calls [`run`], in the order of the lines.
+//! reader gave as many. Of what was read at once the first span has about 16,384 bytes, and each other a quarter as many
+//! more than the one before, up to 1,048,576. The hub is called by the one thread that calls [`run`], in the order of the lines.
 //!
 //! Of the input no more than 4,259,840 bytes are held at once, beside what the lines of two spans say, and of the output
 //! the lines of one call and of the faults before it. Each reply is handed to the writer before the next call goes to the

@@ -19,7 +19,7 @@ use taf_codes::Sink;
 use taf_messages::CallReader;
 
 // How many bytes of lines are heard before the first is answered.
-const FIRST: usize = 8_192;
+const FIRST: usize = 16_384;
 
 // How many bytes of lines are heard at once at most.
 const MOST: usize = 1_048_576;
@@ -78,7 +78,7 @@ pub(crate) fn take_lines<W: Sink>(
     )?;
     let mut from = start;
     'spans: while span.end > 0 {
-        size = twice(size);
+        size = longer(size);
         let next = from + span.end;
         let (told, ahead) = tell_and_hear(
             rt,
@@ -98,12 +98,12 @@ pub(crate) fn take_lines<W: Sink>(
     Ok(from)
 }
 
-// Twice as many bytes, up to the most that are heard at once.
-fn twice(size: usize) -> usize
+// A quarter as many bytes more, up to the most that are heard at once.
+fn longer(size: usize) -> usize
     requires { (0 < size) × (size ≤ 1048576) }
     ensures { (0 < result) × (result ≤ 1048576) }
 {
-    (size * 2).min(MOST)
+    (size + size / 4).min(MOST)
 }
 
 /// Answers the lines of a piece, and tells what is left of it.

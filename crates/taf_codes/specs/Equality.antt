@@ -1,5 +1,5 @@
 -- Tests that find exactly the equal values.
-use Rattle.std.specs.Prelude.{◌≡◌, ℕ, nat_eq, Bool, true, false, ◌&&◌, List, [], ◌∷◌, Option, Some, None, bytes_eq, refl, ◌↔◌, IsTrue}
+use Rattle.std.specs.Prelude.{◌≡◌, nat_eq, Bool, true, ◌&&◌, List, [], ◌∷◌, Option, Some, None, bytes_eq, refl, ◌↔◌, IsTrue}
 use Rattle.std.specs.Option.{option_eq}
 use Rattle.std.specs.Cmp.{IsEquivalence}
 use Rattle.std.specs.Cmp.Lexicographic.{pointwise}

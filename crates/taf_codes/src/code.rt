@@ -1,6 +1,9 @@
 //! Codes of a fixed length.
-ghost use Rattle.std.specs.Prelude.{◌≡◌, ℕ, List, [], ◌∷◌, Some, true};
+ghost use Rattle.std.specs.Prelude.{◌≡◌, ℕ, List, [], ◌∷◌, Some, bytes_eq, true};
+ghost use Rattle.std.specs.Cmp.{partial_equiv_from_equiv};
+ghost use Rattle.std.specs.Cmp.Lexicographic.{nat_list_eq_equiv};
 ghost use Rattle.std.specs.Fmt.{styled_text};
+ghost use Rattle.std.specs.Int.{from_le_bytes, to_le_bytes, w32};
 ghost use Rattle.std.proofs.Common.{rules};
 ghost use Rattle.taf_codes.specs.Codes.{is_place, is_railway, is_unit_code, place_code_of, railway_of, unit_of};
 
@@ -12,7 +15,7 @@ use std::hash::{Hash, Hasher};
 use std::marker::Model;
 
 /// The code of a railway or of an infrastructure manager: four characters of A to Z and 0 to 9.
-#[derive(Clone, Copy, Debug, PartialEq, Eq, PartialOrd, Ord)]
+#[derive(Clone, Copy, Debug, PartialOrd, Ord)]
 pub struct Railway {
     letters: [u8; 4],
 }
@@ -46,9 +49,32 @@ impl Railway {
     {
         ascii_text(&self.letters)
     }
+
+    // The four letters as one number.
+    fn number(self) -> u32
+        ensures read { result ≡ from_le_bytes w32 self }
+        ensures back { to_le_bytes w32 result ≡ self }
+    {
+        u32::from_le_bytes(self.letters)
+    }
 }
 
-/// Hashed as a whole: tables look railways up more often than all else.
+/// Compared as a whole, as one number of four bytes: tables look railways up more often than all else.
+impl PartialEq for Railway {
+    ghost eq = { bytes_eq };
+
+    ghost laws = { partial_equiv_from_equiv nat_list_eq_equiv };
+
+    fn eq(&self, other: &Railway) -> bool {
+        self.number() == other.number()
+    }
+}
+
+impl Eq for Railway {
+    ghost laws = { nat_list_eq_equiv };
+}
+
+/// Hashed as a whole, for the same reason.
 impl Hash for Railway {
     ghost hash_input = { λ railway. railway ∷ [] };
 

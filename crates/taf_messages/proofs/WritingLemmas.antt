@@ -1,6 +1,5 @@
 -- One token more.
-use Rattle.std.proofs.Common.{◌≡◌, ℕ, Bool, true, false, cond, List, [], ◌∷◌, ◌++◌, length, take, drop, refl, sym, ap, subst, ◌∙◌, arith, length-append, append_assoc}
-use Rattle.std.specs.Prelude.{◌&&◌}
+use Rattle.std.proofs.Common.{◌≡◌, ℕ, true, false, List, [], ◌∷◌, ◌++◌, length, take, drop, sym, ap, subst, ◌∙◌, arith, length-append, append_assoc}
 use Rattle.std.proofs.lemmas.List.{take-append-le, drop-append-le}
 use Rattle.std.proofs.lemmas.List.Elements.{All-nil, All-cons, All-head, All-tail}
 use Rattle.json.specs.Token.{Token}
@@ -81,18 +80,8 @@ small Token.null h = tt
 small Token.bad h = tt
 
 -- a quoted text, with what closes it
-quoted_text : (text : List ℕ) → is_plain text ≡ true → (34 ∷ []) ++ (text ++ (34 ∷ [])) ≡ quoted text
+pub quoted_text : (text : List ℕ) → is_plain text ≡ true → (34 ∷ []) ++ (text ++ (34 ∷ [])) ≡ quoted text
 quoted_text text h = ap (λ l. 34 ∷ (l ++ 34 ∷ [])) (sym (escape_plain text h))
 
-key_text : (text : List ℕ) → is_plain text ≡ true → (34 ∷ []) ++ (text ++ (34 ∷ 58 ∷ [])) ≡ quoted text ++ 58 ∷ []
+pub key_text : (text : List ℕ) → is_plain text ≡ true → (34 ∷ []) ++ (text ++ (34 ∷ 58 ∷ [])) ≡ quoted text ++ 58 ∷ []
 key_text text h = sym (append_assoc (34 ∷ text) (34 ∷ []) (58 ∷ [])) ∙ ap (λ l. l ++ 58 ∷ []) (quoted_text text h)
-
-comma : (after : Bool) → cond {A = List ℕ} after (44 ∷ []) [] ≡ cond {A = List ℕ} (after && true) (44 ∷ []) []
-comma true = refl
-comma false = refl
-
-pub string_put : (after : Bool) (text : List ℕ) → is_plain text ≡ true → cond {A = List ℕ} after (44 ∷ []) [] ++ ((34 ∷ []) ++ (text ++ (34 ∷ []))) ≡ separator after (Token.string text) ++ token_text (Token.string text)
-string_put after text h = λ i. comma after i ++ quoted_text text h i
-
-pub key_put : (after : Bool) (text : List ℕ) → is_plain text ≡ true → cond {A = List ℕ} after (44 ∷ []) [] ++ ((34 ∷ []) ++ (text ++ (34 ∷ 58 ∷ []))) ≡ separator after (Token.key text) ++ token_text (Token.key text)
-key_put after text h = λ i. comma after i ++ key_text text h i

@@ -1,6 +1,6 @@
 //! A writer of JSON whose texts need no escape and whose numbers are whole ones of 64 bits.
-ghost use Rattle.std.specs.Prelude.{◌≡◌, ◌∷◌, ◌++◌, [], cond, decimal, ◌≤◌, length, true, OnOk, OnErr};
-ghost use Rattle.json.specs.Print.{print, separator, token_text, ends};
+ghost use Rattle.std.specs.Prelude.{◌≡◌, ◌&&◌, ◌∷◌, ◌++◌, [], cond, decimal, ◌≤◌, length, true, OnOk, OnErr};
+ghost use Rattle.json.specs.Print.{print, begins, ends, token_text};
 ghost use Rattle.json.specs.Reads.{token_of};
 ghost use Rattle.json.specs.Token as token;
 ghost use Rattle.taf_messages.specs.Texts.{AreSmall, IsSmallToken};
@@ -59,15 +59,24 @@ impl Writer {
         out.into_vec()
     }
 
-    // Appends a token, behind a comma where one is wanted.
+    // Appends a token whose text these parts make, behind a comma where one is wanted.
     #[inline(always)]
-    fn token(&mut self, token: Token<'_>) -> Result<(), AllocError>
-        requires { CanBePut (token_of token) }
+    fn add(
+        &mut self,
+        token: Token<'_>,
+        first: &[u8],
+        middle: &[u8],
+        last: &[u8],
+    ) -> Result<(), AllocError>
+        requires can { CanBePut (token_of token) }
+        requires text { first.now ++ (middle.now ++ last.now) ≡ token_text (token_of token) }
+        requires short { (length first.now ≤ 8) × (length last.now ≤ 8) }
         ensures { Writes result self.old self.new (token_of token.entry) }
     {
-        match put(&mut self.out, self.after_value, token) {
+        let comma = wants_comma(self.after_value, token);
+        match put_parts(&mut self.out, comma, first, middle, last) {
             Ok(()) => {
-                self.after_value = ends_value(token);
+                self.after_value = ends(token);
                 Ok(())
             }
             Err(e) => Err(e),
@@ -78,28 +87,28 @@ impl Writer {
     pub(crate) fn begin_object(&mut self) -> Result<(), AllocError>
         ensures { Writes result self.old self.new token.begin_object }
     {
-        self.token(Token::BeginObject)
+        self.add(Token::BeginObject, b"{", b"", b"")
     }
 
     #[inline(always)]
     pub(crate) fn end_object(&mut self) -> Result<(), AllocError>
         ensures { Writes result self.old self.new token.end_object }
     {
-        self.token(Token::EndObject)
+        self.add(Token::EndObject, b"}", b"", b"")
     }
 
     #[inline(always)]
     pub(crate) fn begin_array(&mut self) -> Result<(), AllocError>
         ensures { Writes result self.old self.new token.begin_array }
     {
-        self.token(Token::BeginArray)
+        self.add(Token::BeginArray, b"[", b"", b"")
     }
 
     #[inline(always)]
     pub(crate) fn end_array(&mut self) -> Result<(), AllocError>
         ensures { Writes result self.old self.new token.end_array }
     {
-        self.token(Token::EndArray)
+        self.add(Token::EndArray, b"]", b"", b"")
     }
 
     #[inline(always)]
@@ -107,19 +116,7 @@ impl Writer {
         requires { is_plain name.now ≡ true }
         ensures { Writes result self.old self.new (token.key name.now) }
     {
-        match put_parts(
-            &mut self.out,
-            self.after_value,
-            b"\"",
-            name.as_bytes(),
-            b"\":",
-        ) {
-            Ok(()) => {
-                self.after_value = false;
-                Ok(())
-            }
-            Err(e) => Err(e),
-        }
+        self.add(Token::Key(name), b"\"", name.as_bytes(), b"\":")
     }
 
     #[inline(always)]
@@ -127,19 +124,7 @@ impl Writer {
         requires { is_plain text.now ≡ true }
         ensures { Writes result self.old self.new (token.string text.now) }
     {
-        match put_parts(
-            &mut self.out,
-            self.after_value,
-            b"\"",
-            text.as_bytes(),
-            b"\"",
-        ) {
-            Ok(()) => {
-                self.after_value = true;
-                Ok(())
-            }
-            Err(e) => Err(e),
-        }
+        self.add(Token::String(text), b"\"", text.as_bytes(), b"\"")
     }
 
     #[inline]
@@ -147,55 +132,46 @@ impl Writer {
         ensures { Writes result self.old self.new (token.number (decimal number)) }
     {
         let mut buffer = itoa::Buffer::new();
-        self.token(Token::Number(buffer.format(number)))
+        let text = buffer.format(number);
+        self.add(Token::Number(text), b"", text.as_bytes(), b"")
     }
 
     #[inline(always)]
     pub(crate) fn boolean(&mut self, flag: bool) -> Result<(), AllocError>
         ensures { Writes result self.old self.new (token.boolean flag) }
     {
-        self.token(Token::Bool(flag))
+        if flag {
+            self.add(Token::Bool(true), b"true", b"", b"")
+        } else {
+            self.add(Token::Bool(false), b"false", b"", b"")
+        }
     }
 
     #[inline(always)]
     pub(crate) fn null(&mut self) -> Result<(), AllocError>
         ensures { Writes result self.old self.new token.null }
     {
-        self.token(Token::Null)
+        self.add(Token::Null, b"null", b"", b"")
     }
+}
+
+// Whether a comma comes before the token: behind a value, unless the token is a closing bracket.
+#[inline(always)]
+fn wants_comma(after_value: bool, token: Token<'_>) -> bool
+    ensures { result ≡ (after_value && begins (token_of token.entry)) }
+{
+    after_value && !matches!(token, Token::EndObject | Token::EndArray)
 }
 
 // Whether a value ends with the token.
 #[inline(always)]
-fn ends_value(token: Token<'_>) -> bool
+fn ends(token: Token<'_>) -> bool
     ensures { result ≡ ends (token_of token.entry) }
 {
-    match token {
-        Token::BeginObject | Token::BeginArray | Token::Key(_) => false,
-        _ => true,
-    }
-}
-
-// Appends the text of a token, whole or not at all.
-#[inline(always)]
-fn put(out: &mut Buffer, after_value: bool, token: Token<'_>) -> Result<(), AllocError>
-    requires { CanBePut (token_of token) }
-    ensures ok { OnOk result (out.new.items ≡ out.old.items ++ (separator after_value (token_of token.entry) ++ token_text (token_of token.entry))) }
-    ensures err { OnErr result (out.new.items ≡ out.old.items) }
-{
-    match token {
-        Token::BeginObject => put_parts(out, after_value, b"{", b"", b""),
-        Token::EndObject => put_parts(out, false, b"}", b"", b""),
-        Token::BeginArray => put_parts(out, after_value, b"[", b"", b""),
-        Token::EndArray => put_parts(out, false, b"]", b"", b""),
-        Token::Key(name) => put_parts(out, after_value, b"\"", name.as_bytes(), b"\":"),
-        Token::String(text) => put_parts(out, after_value, b"\"", text.as_bytes(), b"\""),
-        Token::Number(text) => put_parts(out, after_value, b"", text.as_bytes(), b""),
-        Token::Bool(true) => put_parts(out, after_value, b"true", b"", b""),
-        Token::Bool(false) => put_parts(out, after_value, b"false", b"", b""),
-        Token::Null => put_parts(out, after_value, b"null", b"", b""),
-        Token::Bad => unreachable!(),
-    }
+    !matches!(
+        token,
+        Token::BeginObject | Token::BeginArray | Token::Key(_)
+    )
 }
 
 // Appends a comma, if one is wanted, and these parts behind it, all or nothing.

@@ -55,7 +55,7 @@ spans-preserved g c =
     let size = length-drop c.spans.from piece in (
       omega (arith, i.0),
       omega (arith, i.1, i.3.bounds, size),
-      c.twice-size.ensures,
+      c.longer-size.ensures,
       subst (λ s. IsSpan (drop next piece) s) (sym c.replace.ensures.after) (from_place piece next _ span),
       omega (arith, i.4, i.3.few, counted),
       kept ∙ i.5,
