@@ -7,8 +7,9 @@ ghost use Rattle.hub_replay.specs.Running.{tally};
 ghost use Rattle.hub_replay.specs.Outcomes.{one_fault_more, one_call_more};
 
 use crate::counts::Counts;
+use crate::fault::RunFault;
 use std::alloc::Global;
-use taf_codes::{Failed, Memory, Sink};
+use taf_codes::{Failed, Sink};
 use taf_messages::{RecordFault, Reply, append_fault, append_reply};
 
 /// Lines that are still to be written, and the counts so far.
@@ -36,10 +37,11 @@ impl Desk {
     }
 
     /// Adds a line of this text, which tells a fault.
-    pub(crate) fn say_text(&mut self, text: &[u8]) -> Result<(), Memory>
+    pub(crate) fn say_text(&mut self, text: &[u8]) -> Result<(), RunFault>
         requires { tally self.old.counts < 2 ^ 62 }
         ensures out { OnOk result (self.new.out.items ≡ self.old.out.items ++ (text.now ++ 10 ∷ [])) }
         ensures counts { OnOk result (self.new.counts ≡ one_fault_more self.old.counts) }
+        ensures err { IfErr result (λ f. f ≡ RunFault.Memory) }
     {
         self.out.extend_from_slice(text)?;
         self.end_fault_line()
@@ -47,11 +49,12 @@ impl Desk {
 
     /// Adds the line of a record's fault.
     #[tactic(auto, unfolding(crate::specs::Lines::fault_text))]
-    pub(crate) fn say_fault(&mut self, fault: &RecordFault) -> Result<(), Memory>
+    pub(crate) fn say_fault(&mut self, fault: &RecordFault) -> Result<(), RunFault>
         requires few { tally self.old.counts < 2 ^ 62 }
         requires told { fault.now ≢ NoMemory }
         ensures out { OnOk result (self.new.out.items ≡ self.old.out.items ++ (fault_text fault.now ++ 10 ∷ [])) }
         ensures counts { OnOk result (self.new.counts ≡ one_fault_more self.old.counts) }
+        ensures err { IfErr result (λ f. f ≡ RunFault.Memory) }
     {
         append_fault(self.alloc, &mut self.out, fault)?;
         self.end_fault_line()
@@ -59,10 +62,11 @@ impl Desk {
 
     /// Adds the line of a reply.
     #[tactic(auto, unfolding(crate::specs::Lines::reply_text))]
-    pub(crate) fn say_reply(&mut self, reply: &Reply) -> Result<(), Memory>
+    pub(crate) fn say_reply(&mut self, reply: &Reply) -> Result<(), RunFault>
         requires { tally self.old.counts < 2 ^ 62 }
         ensures out { OnOk result (self.new.out.items ≡ self.old.out.items ++ (reply_text reply.now ++ 10 ∷ [])) }
         ensures counts { OnOk result (self.new.counts ≡ one_call_more self.old.counts) }
+        ensures err { IfErr result (λ f. f ≡ RunFault.Memory) }
     {
         append_reply(self.alloc, &mut self.out, reply)?;
         self.out.push(b'\n')?;
@@ -72,10 +76,11 @@ impl Desk {
     }
 
     // Ends a line that tells a fault.
-    fn end_fault_line(&mut self) -> Result<(), Memory>
+    fn end_fault_line(&mut self) -> Result<(), RunFault>
         requires { tally self.old.counts < 2 ^ 62 }
         ensures out { OnOk result (self.new.out.items ≡ self.old.out.items ++ 10 ∷ []) }
         ensures counts { OnOk result (self.new.counts ≡ one_fault_more self.old.counts) }
+        ensures err { IfErr result (λ f. f ≡ RunFault.Memory) }
     {
         self.out.push(b'\n')?;
         self.counts.lines += 1;

@@ -1,3 +1,8 @@
+ghost use Rattle.std.specs.Prelude.{◌≡◌};
+ghost use Rattle.hub_replay.specs.declared.fault.RunFault.TheVariants as ends;
+
+use std::alloc::{AllocError, AllocFailed};
+use taf_codes::Memory;
 use thiserror::Error;
 
 /// Why a run ended before its reader did.
@@ -12,4 +17,28 @@ pub enum RunFault {
     NoEnd,
     #[error("memory was refused")]
     Memory,
+}
+
+impl From<Memory> for RunFault {
+    ghost from_gives = { λ _ fault. fault ≡ ends.Memory };
+
+    fn from(_refused: Memory) -> RunFault {
+        RunFault::Memory
+    }
+}
+
+impl From<AllocError> for RunFault {
+    ghost from_gives = { λ _ fault. fault ≡ ends.Memory };
+
+    fn from(_refused: AllocError) -> RunFault {
+        RunFault::Memory
+    }
+}
+
+impl<T: Drop> From<AllocFailed<T>> for RunFault {
+    ghost from_gives = { λ _ fault. fault ≡ ends.Memory };
+
+    fn from(_refused: AllocFailed<T>) -> RunFault {
+        RunFault::Memory
+    }
 }

@@ -18,6 +18,7 @@ mod counts;
 mod desk;
 mod fault;
 mod heard;
+mod listener;
 mod newline;
 mod pieces;
 mod replay;

@@ -8,9 +8,9 @@ use crate::counts::Counts;
 use crate::desk::Desk;
 use crate::fault::RunFault;
 use crate::heard::{Heard, LONGEST, hear};
+use crate::listener::Listener;
 use crate::newline::next_newline;
-use crate::span::Spares;
-use crate::telling::{hear_lines, tell_and_hear};
+use crate::telling::tell_and_hear;
 use crate::turn::{flush, turn};
 use hub_core::Hub;
 use std::mem::replace;
@@ -48,11 +48,10 @@ pub(crate) fn first_start(piece: &[u8], skipping: bool) -> Option<usize>
 
 /// Answers the whole lines of a piece from a place on, and gives the place after them. No newline comes before `seen`.
 pub(crate) fn take_lines<W: Sink>(
-    rt: &impl Threads,
+    listener: &mut Listener<'_, impl Threads>,
     writer: &mut W,
     hub: &mut Hub,
     desk: &mut Desk,
-    spares: &mut Spares,
     piece: &[u8],
     start: usize,
     seen: usize,
@@ -69,32 +68,25 @@ pub(crate) fn take_lines<W: Sink>(
     ensures counted { IfOk result (λ end. tally desk.new.counts + 2 * start ≤ tally desk.old.counts + 2 * end) }
 {
     let mut size = FIRST;
-    let mut span = hear_lines(
-        desk.alloc,
-        &mut spares.take(),
-        &piece[start..],
-        seen - start,
-        size,
-    )?;
+    let mut span = listener.hear(&piece[start..], seen - start, size)?;
     let mut from = start;
     'spans: while span.end > 0 {
         size = longer(size);
         let next = from + span.end;
         let (told, ahead) = tell_and_hear(
-            rt,
+            listener,
             writer,
             hub,
             desk,
             &mut span.heard,
-            &mut spares.take(),
             &piece[next..],
             size,
         );
         told?;
-        spares.put(replace(&mut span, ahead?).heard);
+        listener.put(replace(&mut span, ahead?).heard);
         from = next;
     }
-    spares.put(span.heard);
+    listener.put(span.heard);
     Ok(from)
 }
 
@@ -108,11 +100,10 @@ fn longer(size: usize) -> usize
 
 /// Answers the lines of a piece, and tells what is left of it.
 pub(crate) fn take_piece<W: Sink>(
-    rt: &impl Threads,
+    listener: &mut Listener<'_, impl Threads>,
     writer: &mut W,
     hub: &mut Hub,
     desk: &mut Desk,
-    spares: &mut Spares,
     piece: &[u8],
     seen: usize,
     skipping: bool,
@@ -135,7 +126,7 @@ pub(crate) fn take_piece<W: Sink>(
         });
     };
     let place = if skipping { start } else { seen };
-    let end = take_lines(rt, writer, hub, desk, spares, piece, start, place)?;
+    let end = take_lines(listener, writer, hub, desk, piece, start, place)?;
     if piece.len() - end <= LONGEST {
         return Ok(Rest {
             start: end,
@@ -186,8 +177,6 @@ fn last_line<W: Sink>(
     if line.is_empty() {
         return Ok(());
     }
-    let Ok(heard) = hear(&mut CallReader::new(desk.alloc), line) else {
-        return Err(RunFault::Memory);
-    };
+    let heard = hear(&mut CallReader::new(desk.alloc), line)?;
     turn(writer, hub, desk, heard)
 }

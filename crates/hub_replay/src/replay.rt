@@ -9,8 +9,8 @@ ghost use Rattle.hub_replay.specs.Running.{ComesOf};
 use crate::counts::Counts;
 use crate::desk::Desk;
 use crate::fault::RunFault;
+use crate::listener::Listener;
 use crate::pieces::{finish, take_piece};
-use crate::span::Spares;
 use crate::turn::flush;
 use hub_core::Hub;
 use std::alloc::Global;
@@ -66,7 +66,7 @@ pub fn run<R: Source, W: Sink>(
         × ComesOf fault (R.failures reader.old) (R.failures reader.new) (W.failures writer.old) (W.failures writer.new) (length read)) }
 {
     let mut desk = Desk::new(alloc);
-    let mut spares = Spares::new(alloc);
+    let mut listener = Listener::new(rt, alloc);
     let Ok(mut room) = vec![in alloc; 0u8; ROOM] else {
         return Err(RunFault::Memory);
     };
@@ -92,11 +92,10 @@ pub fn run<R: Source, W: Sink>(
         total += count as u64;
         let end = held + count;
         let rest = match take_piece(
-            rt,
+            &mut listener,
             writer,
             hub,
             &mut desk,
-            &mut spares,
             &room[..end],
             held,
             skipping,

@@ -19,37 +19,6 @@ pub(crate) struct Span {
     pub(crate) end: usize,
 }
 
-/// Lists for what lines say, kept for their memory. What they hold counts for nothing.
-#[derive(Drop)]
-pub(crate) struct Spares {
-    alloc: Global,
-    first: VecDeque<Heard>,
-    second: VecDeque<Heard>,
-}
-
-impl Spares {
-    /// Lists without memory.
-    pub(crate) fn new(alloc: Global) -> Spares {
-        Spares {
-            alloc,
-            first: VecDeque::new(alloc),
-            second: VecDeque::new(alloc),
-        }
-    }
-
-    /// The list that was put last, or one without memory.
-    pub(crate) fn take(&mut self) -> VecDeque<Heard> {
-        let second = replace(&mut self.second, VecDeque::new(self.alloc));
-        replace(&mut self.first, second)
-    }
-
-    /// Keeps a list, which is the next one that is taken.
-    pub(crate) fn put(&mut self, list: VecDeque<Heard>) {
-        let first = replace(&mut self.first, list);
-        self.second = first;
-    }
-}
-
 /// What the first lines of the bytes say, in this list: those that begin among the first so many bytes. No newline
 /// comes before `seen`.
 pub(crate) fn hear_span(

@@ -1,42 +1,22 @@
 //! What lines say is told, and what the next ones say is heard.
-ghost use Rattle.std.specs.Prelude.{◌≡◌, ◌+◌, ◌*◌, ◌<◌, ◌≤◌, ◌^◌, true, length, take, All, OnOk, OnErr, IfOk, IfErr};
-ghost use Rattle.hub_replay.specs.Lines.{CanBeTold, unbroken};
+ghost use Rattle.std.specs.Prelude.{◌≡◌, ◌+◌, ◌*◌, ◌<◌, ◌≤◌, ◌^◌, length, All, OnOk, OnErr, IfOk, IfErr};
+ghost use Rattle.hub_replay.specs.Lines.{CanBeTold};
 ghost use Rattle.hub_replay.specs.Running.{Goes, Stops, tally, ComesLate};
 ghost use Rattle.hub_replay.specs.Spans.{IsSpan};
 
 use crate::desk::Desk;
 use crate::fault::RunFault;
 use crate::heard::Heard;
+use crate::listener::Listener;
 use crate::span::{Span, hear_span};
 use crate::turn::{turn, write_much};
 use hub_core::Hub;
-use std::alloc::Global;
 use std::collections::VecDeque;
 use std::thread::{Threads, join_mut};
 use taf_codes::{Memory, Sink};
 
 // From so many bytes on the next lines are heard in a thread of their own.
 const MANY: usize = 16_384;
-
-/// What the lines say that begin among the first so many bytes, in this list. No newline comes before `seen`.
-pub(crate) fn hear_lines(
-    alloc: Global,
-    list: &mut VecDeque<Heard>,
-    bytes: &[u8],
-    seen: usize,
-    most: usize,
-) -> Result<Span, RunFault>
-    requires order { seen ≤ length bytes.now }
-    requires some { 0 < most }
-    requires seen { unbroken (take seen bytes.now) ≡ true }
-    ensures ok { IfOk result (λ span. IsSpan bytes.now span) }
-    ensures err { IfErr result (λ f. f ≡ RunFault.Memory) }
-{
-    match hear_span(alloc, list, bytes, seen, most) {
-        Ok(span) => Ok(span),
-        Err(Memory) => Err(RunFault::Memory),
-    }
-}
 
 // Answers what lines say, in turn.
 fn tell<W: Sink>(
@@ -61,17 +41,16 @@ fn tell<W: Sink>(
 }
 
 /// Answers what lines say, in turn, while another thread hears the next lines: those that begin among the first so many
-/// bytes of `next`. Where these are few, they are heard after it. What they say is put in the list.
+/// bytes of `next`. Where these are few, they are heard after it.
 pub(crate) fn tell_and_hear<W: Sink>(
-    rt: &impl Threads,
+    listener: &mut Listener<'_, impl Threads>,
     writer: &mut W,
     hub: &mut Hub,
     desk: &mut Desk,
     heard: &mut VecDeque<Heard>,
-    list: &mut VecDeque<Heard>,
     next: &[u8],
     most: usize,
-) -> (Result<(), RunFault>, Result<Span, RunFault>)
+) -> (Result<(), RunFault>, Result<Span, Memory>)
     requires few { tally desk.old.counts + 2 * length heard.old.items < 2 ^ 62 }
     requires some { 0 < most }
     requires told { All CanBeTold heard.old.items }
@@ -81,16 +60,16 @@ pub(crate) fn tell_and_hear<W: Sink>(
     ensures kept { OnOk result.0 (W.failures writer.new ≡ W.failures writer.old) }
     ensures counted { OnOk result.0 (tally desk.new.counts ≤ tally desk.old.counts + 2 * length heard.old.items) }
     ensures next { IfOk result.1 (λ span. IsSpan next.now span) }
-    ensures refused { IfErr result.1 (λ f. f ≡ RunFault.Memory) }
 {
-    let alloc = desk.alloc;
     if next.len() < MANY {
         let told = tell(writer, hub, desk, heard);
-        return (told, hear_lines(alloc, list, next, 0, most));
+        return (told, listener.hear(next, 0, most));
     }
+    let alloc = desk.alloc;
+    let mut list = listener.take();
     let (ahead, told) = join_mut(
-        rt,
-        &mut || hear_lines(alloc, list, next, 0, most),
+        listener.rt,
+        &mut || hear_span(alloc, &mut list, next, 0, most),
         &mut || tell(writer, hub, desk, heard),
     );
     (told, ahead)

@@ -1,10 +1,9 @@
 //! One line at a time: its answer, and what is written of it.
-ghost use Rattle.std.specs.Prelude.{◌≡◌, ◌≢◌, ◌+◌, ◌*◌, ◌<◌, ◌≤◌, ◌^◌, ◌++◌, ◌∷◌, [], List, IfOk, OnOk, OnErr, IfErr, vec_len};
+ghost use Rattle.std.specs.Prelude.{◌≡◌, ◌+◌, ◌<◌, ◌≤◌, ◌^◌, ◌∷◌, [], List, IfOk, OnOk, OnErr, IfErr};
 ghost use Rattle.hub_model.specs.declared.entry.Entry.{Entry};
-ghost use Rattle.taf_messages.specs.declared.fault.RecordFault.TheVariants.{Memory as NoMemory};
 ghost use Rattle.hub_replay.specs.declared.heard.Heard.TheVariants.{Called};
-ghost use Rattle.hub_replay.specs.Lines.{CanBeTold, fault_text};
-ghost use Rattle.hub_replay.specs.Outcomes.{IsEntered, one_fault_more};
+ghost use Rattle.hub_replay.specs.Lines.{CanBeTold};
+ghost use Rattle.hub_replay.specs.Outcomes.{IsEntered};
 ghost use Rattle.hub_replay.specs.Running.{Goes, Stops, tally, ComesLate};
 
 use crate::desk::{Desk, write_all};
@@ -12,7 +11,7 @@ use crate::fault::RunFault;
 use crate::heard::Heard;
 use hub_core::{Hub, HubFault};
 use taf_codes::{Memory, Sink};
-use taf_messages::{Call, RecordFault, Reply};
+use taf_messages::{Call, Reply};
 
 // From this many bytes on the lines that are pending are written.
 const MUCH: usize = 32_768;
@@ -34,36 +33,9 @@ pub(crate) fn turn<W: Sink>(
 {
     match heard {
         Heard::Blank => Ok(()),
-        Heard::TooLong => say_text(desk, b"{\"fault\":\"line_too_long\"}"),
-        Heard::Fault(fault) => say_fault(desk, &fault),
+        Heard::TooLong => desk.say_text(b"{\"fault\":\"line_too_long\"}"),
+        Heard::Fault(fault) => desk.say_fault(&fault),
         Heard::Called(call) => give(writer, hub, desk, call),
-    }
-}
-
-// Adds a line of this text, which tells a fault.
-fn say_text(desk: &mut Desk, text: &[u8]) -> Result<(), RunFault>
-    requires { tally desk.old.counts < 2 ^ 62 }
-    ensures out { OnOk result (desk.new.out.items ≡ desk.old.out.items ++ (text.now ++ 10 ∷ [])) }
-    ensures counts { OnOk result (desk.new.counts ≡ one_fault_more desk.old.counts) }
-    ensures err { IfErr result (λ f. f ≡ RunFault.Memory) }
-{
-    match desk.say_text(text) {
-        Ok(()) => Ok(()),
-        Err(Memory) => Err(RunFault::Memory),
-    }
-}
-
-// Adds the line of a record's fault.
-fn say_fault(desk: &mut Desk, fault: &RecordFault) -> Result<(), RunFault>
-    requires few { tally desk.old.counts < 2 ^ 62 }
-    requires told { fault.now ≢ NoMemory }
-    ensures out { OnOk result (desk.new.out.items ≡ desk.old.out.items ++ (fault_text fault.now ++ 10 ∷ [])) }
-    ensures counts { OnOk result (desk.new.counts ≡ one_fault_more desk.old.counts) }
-    ensures err { IfErr result (λ f. f ≡ RunFault.Memory) }
-{
-    match desk.say_fault(fault) {
-        Ok(()) => Ok(()),
-        Err(Memory) => Err(RunFault::Memory),
     }
 }
 
@@ -77,19 +49,16 @@ fn give<W: Sink>(writer: &mut W, hub: &mut Hub, desk: &mut Desk, call: Call) -> 
     ensures kept { OnOk result (W.failures writer.new ≡ W.failures writer.old) }
     ensures counted { OnOk result (tally desk.new.counts ≤ tally desk.old.counts + 2) }
 {
-    match enter(hub, call) {
-        Ok(Some(reply)) => {
-            let Ok(()) = desk.say_reply(&reply) else {
-                return Err(RunFault::Memory);
-            };
+    match enter(hub, call)? {
+        Some(reply) => {
+            desk.say_reply(&reply)?;
             let Ok(()) = write_all(writer, desk.out.as_slice()) else {
                 return Err(RunFault::Write);
             };
             desk.out.clear();
             Ok(())
         }
-        Ok(None) => say_text(desk, b"{\"fault\":\"hub_full\"}"),
-        Err(Memory) => Err(RunFault::Memory),
+        None => desk.say_text(b"{\"fault\":\"hub_full\"}"),
     }
 }
 
@@ -145,9 +114,7 @@ pub(crate) fn flush<W: Sink>(writer: &mut W, desk: &mut Desk) -> Result<(), RunF
     ensures counts { OnOk result (desk.new.counts ≡ desk.old.counts) }
     ensures empty { OnOk result (desk.new.out.items ≡ []) }
 {
-    if let Err(fault) = write_out(writer, desk) {
-        return Err(fault);
-    }
+    write_out(writer, desk)?;
     match writer.flush() {
         Ok(()) => Ok(()),
         Err(_) => Err(RunFault::Write),

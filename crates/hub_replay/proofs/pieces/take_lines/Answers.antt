@@ -18,7 +18,7 @@ spans-init g c = (
   omega arith,
   omega (arith, c.requires.order.0, c.requires.order.1),
   (omega arith, omega arith),
-  from_place c.args.piece.now c.args.start _ c.in_ok-span.ensures.ok,
+  from_place c.args.piece.now c.args.start _ c.in_ok-span.ensures,
   omega arith,
   refl,
   ([], IsTaken-none _, Goes-none _ c.args.hub.now c.args.desk.now),

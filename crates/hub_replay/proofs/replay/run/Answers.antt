@@ -73,42 +73,18 @@ returns-then-count-eq0-clause-ok g c =
 
 pub returns-then-count-eq0-clause-lines : goal.returns-then-count-eq0-clause-lines
 returns-then-count-eq0-clause-lines g c =
-    let i = c.pieces.invariant in
-    let r = i.6 in
-    let p = c.in-Ok-pull_piece.ensures in
-    let f = c.in-Ok-finish.ensures in
-    let goes = rw (append-nil r.1) at (Goes-append r.5 (c.in_default-flush.ensures.ok c.pieces.hub)) in
-    let all : heard_in r.0 ≡ r.1 ++ heard_in (take c.pieces.held c.pull_piece.new.room) = heard_all r.0 (take c.pieces.held c.pieces.room) r.1 c.pieces.skipping r.4 ∙ ap (λ l. r.1 ++ heard_in l) (sym p.kept) in
-    let none : length (slice_range c.pull_piece.new.room c.pieces.held (c.pieces.held + c.in-Ok-pull_piece.count)) ≡ 0 = length-piece c.pull_piece.new.room c.pieces.held c.in-Ok-pull_piece.count (omega (arith, i.0, i.1, p.bounds.0, c.pull_piece.auto.room)) ∙ c.if-count-eq0.true in
-    let used = rw (nothing_more r.0 _ none) at (Consumes-append _ _ _ r.0 _ r.3 p.bytes) in
-    let s = ended r.0 _ c.in-Ok-finish.counts c.new-desk.ensures.out c.new-desk.ensures.counts f.empty f.counts all (Goes-append goes f.ok) in
-    (r.0, used, counts_lines _ r.0 _ s.0 _ s.2)
+    let a = returns-then-count-eq0-clause-ok g c in
+    (a.0, a.2, counts_lines _ a.0 _ a.1 _ a.5)
 
 pub returns-then-count-eq0-clause-calls : goal.returns-then-count-eq0-clause-calls
 returns-then-count-eq0-clause-calls g c =
-    let i = c.pieces.invariant in
-    let r = i.6 in
-    let p = c.in-Ok-pull_piece.ensures in
-    let f = c.in-Ok-finish.ensures in
-    let goes = rw (append-nil r.1) at (Goes-append r.5 (c.in_default-flush.ensures.ok c.pieces.hub)) in
-    let all : heard_in r.0 ≡ r.1 ++ heard_in (take c.pieces.held c.pull_piece.new.room) = heard_all r.0 (take c.pieces.held c.pieces.room) r.1 c.pieces.skipping r.4 ∙ ap (λ l. r.1 ++ heard_in l) (sym p.kept) in
-    let none : length (slice_range c.pull_piece.new.room c.pieces.held (c.pieces.held + c.in-Ok-pull_piece.count)) ≡ 0 = length-piece c.pull_piece.new.room c.pieces.held c.in-Ok-pull_piece.count (omega (arith, i.0, i.1, p.bounds.0, c.pull_piece.auto.room)) ∙ c.if-count-eq0.true in
-    let used = rw (nothing_more r.0 _ none) at (Consumes-append _ _ _ r.0 _ r.3 p.bytes) in
-    let s = ended r.0 _ c.in-Ok-finish.counts c.new-desk.ensures.out c.new-desk.ensures.counts f.empty f.counts all (Goes-append goes f.ok) in
-    counts_calls _ r.0 _ s.0 _ s.2
+    let a = returns-then-count-eq0-clause-ok g c in
+    counts_calls _ a.0 _ a.1 _ a.5
 
 pub returns-then-count-eq0-clause-faults : goal.returns-then-count-eq0-clause-faults
 returns-then-count-eq0-clause-faults g c =
-    let i = c.pieces.invariant in
-    let r = i.6 in
-    let p = c.in-Ok-pull_piece.ensures in
-    let f = c.in-Ok-finish.ensures in
-    let goes = rw (append-nil r.1) at (Goes-append r.5 (c.in_default-flush.ensures.ok c.pieces.hub)) in
-    let all : heard_in r.0 ≡ r.1 ++ heard_in (take c.pieces.held c.pull_piece.new.room) = heard_all r.0 (take c.pieces.held c.pieces.room) r.1 c.pieces.skipping r.4 ∙ ap (λ l. r.1 ++ heard_in l) (sym p.kept) in
-    let none : length (slice_range c.pull_piece.new.room c.pieces.held (c.pieces.held + c.in-Ok-pull_piece.count)) ≡ 0 = length-piece c.pull_piece.new.room c.pieces.held c.in-Ok-pull_piece.count (omega (arith, i.0, i.1, p.bounds.0, c.pull_piece.auto.room)) ∙ c.if-count-eq0.true in
-    let used = rw (nothing_more r.0 _ none) at (Consumes-append _ _ _ r.0 _ r.3 p.bytes) in
-    let s = ended r.0 _ c.in-Ok-finish.counts c.new-desk.ensures.out c.new-desk.ensures.counts f.empty f.counts all (Goes-append goes f.ok) in
-    counts_sum _ r.0 _ s.0 _ s.2
+    let a = returns-then-count-eq0-clause-ok g c in
+    counts_sum _ a.0 _ a.1 _ a.5
 
 pub returns-then-count-eq0-clause-kept : goal.returns-then-count-eq0-clause-kept
 returns-then-count-eq0-clause-kept g c =

@@ -2,7 +2,7 @@ use Rattle.hub_replay.proofs.RunLemmas.{Goes-append, Goes-kept, Stops-after, Sto
 use Rattle.hub_replay.proofs.turn.flush.Goals as goal
 
 pub returns-in-Ok-clause-ok : goal.returns-in-Ok-clause-ok
-returns-in-Ok-clause-ok g c = λ e. Goes-append (c.in_default.ensures.ok e) (Goes-kept _ _ e c.write_out.new.desk c.in-Ok.ensures.bytes)
+returns-in-Ok-clause-ok g c = λ e. Goes-append (c.in_ok-write_out.ensures.ok e) (Goes-kept _ _ e c.write_out.new.desk c.in-Ok.ensures.bytes)
 
-pub returns-in-Err-flush-clause-err : goal.returns-in-Err-flush-clause-err
-returns-in-Err-flush-clause-err g c = λ e. Stops-after (c.in_default.ensures.ok e) (Stops-kept _ _ e c.write_out.new.desk c.in-Err-flush.ensures.bytes)
+pub returns-in-Err-clause-err : goal.returns-in-Err-clause-err
+returns-in-Err-clause-err g c = λ e. Stops-after (c.in_ok-write_out.ensures.ok e) (Stops-kept _ _ e c.write_out.new.desk c.in-Err.ensures.bytes)
