@@ -27,8 +27,8 @@ use Rattle.hub_model.proofs.Histories.{one_more_entry}
 use Rattle.hub_model.proofs.Steps.{standing_of-push}
 use Rattle.hub_model.proofs.NoFault.{GoesOn, no_known_fault, no_whole_fault, known_allowed, answer_fits, withdraw_fits, listed}
 use Rattle.hub_tables.specs.Tabled.{goes_on, IsAcceptable}
-use Rattle.hub_core.specs.Books.{AreKept}
-use Rattle.hub_core.proofs.Keeping.{dated_more}
+use Rattle.hub_core.specs.Books.{AreKept, KeepsLimits}
+use Rattle.hub_core.proofs.Keeping.{each_more}
 use Rattle.hub_core.proofs.Sends.{new_answer, new_name, after_it}
 
 -- a journey that may go on has begun
@@ -85,7 +85,7 @@ pub offered_stay : (order : AlwaysInOrder) (history : List Entry) (looked_up : S
 offered_stay order history looked_up position box kept = subst OpenIsOffered (sym kept.tables) (order history kept.legal).offered
 
 module _ (fit : EstimatesFit) (order : AlwaysInOrder) (history : List Entry) (m : Message) (looked_up : Standing) (position : Railway → ℕ → Option ℕ) (box : Railway → Kept)
-    (kept : AreKept history looked_up position box) (room : length history < 1000000) (dated : IsMoment (moment_in m.body)) (new : position m.by m.no ≡ None)
+    (kept : AreKept history looked_up position box) (room : length history < 1000000) (limits : KeepsLimits m) (new : position m.by m.no ≡ None)
     (sound : fault looked_up m ≡ None) where
   abbrev s : Standing
   s = standing_of history
@@ -97,13 +97,13 @@ module _ (fit : EstimatesFit) (order : AlwaysInOrder) (history : List Entry) (m 
   sound_here = sym (ap (λ (t : Standing). fault t m) kept.tables) ∙ sound
 
   stands : standing_of (history ++ e ∷ []) ≡ noted (accepted s m) m (Accepted m.no)
-  stands = standing_of-push history e ∙ after_it history m looked_up position box kept room dated new (Accepted m.no) (new_answer history m looked_up position box kept room dated new None sound)
+  stands = standing_of-push history e ∙ after_it history m looked_up position box kept room limits new (Accepted m.no) (new_answer history m looked_up position box kept room limits new None sound)
 
   pub acceptable : IsAcceptable looked_up m
   acceptable = subst (λ (t : Standing). IsAcceptable t m) (sym kept.tables) (record {
     sound = sound_here;
-    fits_after = λ w. subst (λ (t : Standing). fits (t.journey w) ≡ true) stands (fit (history ++ e ∷ []) (one_more_entry history (Send m) kept.legal) (dated_more history e kept.dated dated) w);
+    fits_after = λ w. subst (λ (t : Standing). fits (t.journey w) ≡ true) stands (fit (history ++ e ∷ []) (one_more_entry history (Send m) kept.legal) (each_more (λ k. IsMoment (moment_in k.body)) history e kept.dated limits.0) w);
     begun = λ g w h. (may_go_on s m.by m.no (order history kept.legal).offered m.body w g sound_here h).0;
     admitted = λ g w h. (may_go_on s m.by m.no (order history kept.legal).offered m.body w g sound_here h).1;
-    new_name = kept.offers m.by m.no (new_name history m looked_up position box kept room dated new);
+    new_name = kept.offers m.by m.no (new_name history m looked_up position box kept room limits new);
   })

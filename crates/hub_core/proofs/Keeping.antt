@@ -5,7 +5,8 @@ use Rattle.std.proofs.lemmas.List.{length-append}
 use Rattle.history_pages.proofs.EntryLemmas.{slice_get-left}
 use Rattle.taf_codes.specs.declared.code.Railway.{Railway}
 use Rattle.taf_messages.specs.declared.call.Call.{Call}
-use Rattle.taf_messages.specs.declared.call.Call.TheVariants.{Fetch}
+use Rattle.taf_messages.specs.declared.call.Call.TheVariants.{Send, Ask, AskUnit, Deviation, Fetch, Ack}
+use Rattle.taf_messages.specs.declared.message.Message.{Message}
 use Rattle.taf_messages.specs.declared.reply.Reply.{Reply}
 use Rattle.taf_messages.specs.declared.reply.Reply.TheVariants.{Items}
 use Rattle.outbox.specs.Kept.{Kept, first_items}
@@ -14,11 +15,12 @@ use Rattle.outbox.specs.Keeping.{Keeps}
 use Rattle.hub_model.specs.declared.entry.Entry.{Entry}
 use Rattle.hub_model.specs.Standing.{Standing, Told, moment_in}
 use Rattle.hub_model.specs.Answers.{answer, after, standing_of}
-use Rattle.hub_model.specs.Laws.{AreDated, IsSend, IsMoment}
+use Rattle.hub_model.specs.Laws.{EachSend, IsSend, IsMoment}
+use Rattle.hub_model.specs.Bounds.{IsWithinLimits}
 use Rattle.hub_model.proofs.Histories.{one_more_entry}
 use Rattle.hub_model.proofs.Steps.{standing_of-push}
 use Rattle.hub_tables.specs.Tabled.{tabled}
-use Rattle.hub_core.specs.Books.{AreKept, LeadsTo, OffersWereSent, entry_of}
+use Rattle.hub_core.specs.Books.{AreKept, KeepsLimits, LeadsTo, OffersWereSent, entry_of}
 
 -- a first send is still found once there are more entries
 pub leads_on : (history : List Entry) (e : Entry) (o : Option ℕ) (t : Option Told) → LeadsTo history o t → LeadsTo (history ++ e ∷ []) o t
@@ -38,15 +40,25 @@ pub leads_noted : (history : List Entry) (t : Told) (b : Bool) (o : Option ℕ) 
 leads_noted history t true o u h = leads_to_last history t
 leads_noted history t false o u h = leads_on history (entry_of t) o u h
 
-pub dated_more : (history : List Entry) (e : Entry) → AreDated history → IsSend (λ m. IsMoment (moment_in m.body)) e.call → AreDated (history ++ e ∷ [])
-dated_more [] e d k = (k, tt)
-dated_more (first ∷ history) e d k = (d.0, dated_more history e d.1 k)
+-- one entry more
+pub each_more : (P : Message → Type 0) (history : List Entry) (e : Entry) → EachSend P history → IsSend P e.call → EachSend P (history ++ e ∷ [])
+each_more P [] e d k = (k, tt)
+each_more P (first ∷ history) e d k = (d.0, each_more P history e d.1 k)
+
+-- what holds of the message of a send
+send_has : (P Q : Message → Type 0) → ((m : Message) → P m → Q m) → (call : Call) → IsSend P call → IsSend Q call
+send_has P Q f (Send m) k = f m k
+send_has P Q f (Ask by w) k = tt
+send_has P Q f (AskUnit by u) k = tt
+send_has P Q f (Deviation by c) k = tt
+send_has P Q f (Fetch by n) k = tt
+send_has P Q f (Ack by n) k = tt
 
 few_more : (history : List Entry) (e : Entry) (n : ℕ) → length history < n → length (history ++ e ∷ []) ≤ n
 few_more history e n h = rw (length-append history (e ∷ [])) (omega (arith, h))
 
 module _ (history : List Entry) (call : Call) (looked_up : Standing) (position : Railway → ℕ → Option ℕ) (box : Railway → Kept)
-    (kept : AreKept history looked_up position box) (room : length history < 1000000) (dated : IsSend (λ m. IsMoment (moment_in m.body)) call) where
+    (kept : AreKept history looked_up position box) (room : length history < 1000000) (limits : IsSend KeepsLimits call) where
   abbrev pub e : Entry
   e = record { call = call; reply = answer history call }
 
@@ -58,7 +70,8 @@ module _ (history : List Entry) (call : Call) (looked_up : Standing) (position :
       let now : s ≡ standing_of (history ++ e ∷ []) = sym (standing_of-push history e ∙ is) in
       record {
         legal = one_more_entry history call kept.legal;
-        dated = dated_more history e kept.dated dated;
+        dated = each_more (λ m. IsMoment (moment_in m.body)) history e kept.dated (send_has KeepsLimits (λ m. IsMoment (moment_in m.body)) (λ m k. k.0) call limits);
+        within = each_more IsWithinLimits history e kept.within (send_has KeepsLimits IsWithinLimits (λ m k. k.1) call limits);
         few = few_more history e 1000000 room;
         tables = tables ∙ ap tabled now;
         firsts = λ by n. subst (λ (t : Standing). LeadsTo (history ++ e ∷ []) (position' by n) (t.first_send by n)) now (firsts by n);
@@ -77,12 +90,12 @@ module _ (history : List Entry) (call : Call) (looked_up : Standing) (position :
 
 -- after an entry with the answer, which changes no look-up
 pub kept_entered : (history : List Entry) (call : Call) (reply : Reply) (looked_up : Standing) (position : Railway → ℕ → Option ℕ) (box : Railway → Kept) →
-    AreKept history looked_up position box → length history < 1000000 → IsSend (λ m. IsMoment (moment_in m.body)) call → reply ≡ answer history call →
+    AreKept history looked_up position box → length history < 1000000 → IsSend KeepsLimits call → reply ≡ answer history call →
     after (standing_of history) (record { call = call; reply = reply }) ≡ standing_of history → AreKept (history ++ record { call = call; reply = reply } ∷ []) looked_up position box
-kept_entered history call reply looked_up position box kept room dated answered quiet =
+kept_entered history call reply looked_up position box kept room limits answered quiet =
     subst (λ (r : Reply). after (standing_of history) (record { call = call; reply = r }) ≡ standing_of history → AreKept (history ++ record { call = call; reply = r } ∷ []) looked_up position box)
     (sym answered)
-    (λ is. kept_quiet history call looked_up position box kept room dated looked_up position box is refl (λ by n. refl) (λ r. refl))
+    (λ is. kept_quiet history call looked_up position box kept room limits looked_up position box is refl (λ by n. refl) (λ r. refl))
     quiet
 
 -- what is fetched from a box is the answer
@@ -97,6 +110,7 @@ pub kept_same : (history : List Entry) (looked_up looked_up' : Standing) (positi
 kept_same history looked_up looked_up' position position' box box' tables positions boxes kept = record {
   legal = kept.legal;
   dated = kept.dated;
+  within = kept.within;
   few = kept.few;
   tables = tables ∙ kept.tables;
   firsts = λ by n. subst (λ (o : Option ℕ). LeadsTo history o ((standing_of history).first_send by n)) (sym (positions by n)) (kept.firsts by n);

@@ -15,13 +15,12 @@ use Rattle.outbox.specs.Keeping.{Keeps, PushesLast}
 use Rattle.replay_numbers.specs.Names.{same_name}
 use Rattle.hub_model.specs.declared.entry.Entry.{Entry}
 use Rattle.hub_model.specs.declared.fault.Fault.{Fault}
-use Rattle.hub_model.specs.Standing.{Standing, Told, moment_in}
+use Rattle.hub_model.specs.Standing.{Standing, Told}
 use Rattle.hub_model.specs.Faults.{fault}
 use Rattle.hub_model.specs.Items.{items_of, items_to}
 use Rattle.hub_model.specs.Answers.{answer, verdict, send_reply, after, after_call, after_new, accepted, noted, offer_given, standing_of}
-use Rattle.hub_model.specs.Laws.{IsMoment}
 use Rattle.hub_tables.specs.Tabled.{tabled}
-use Rattle.hub_core.specs.Books.{AreKept, LeadsTo}
+use Rattle.hub_core.specs.Books.{AreKept, KeepsLimits, LeadsTo}
 use Rattle.hub_core.proofs.Keeping.{kept_more, leads_noted}
 
 -- without a position there is no first send
@@ -61,7 +60,7 @@ quiet_again history m looked_up position box p reply kept e =
     ap (λ (b : Bool). cond b s (after_new s m reply)) (led_from history (s.first_send m.by m.no) (position m.by m.no) p e (kept.firsts m.by m.no))
 
 module _ (history : List Entry) (m : Message) (looked_up : Standing) (position : Railway → ℕ → Option ℕ) (box : Railway → Kept)
-    (kept : AreKept history looked_up position box) (room : length history < 1000000) (dated : IsMoment (moment_in m.body)) (new : position m.by m.no ≡ None) where
+    (kept : AreKept history looked_up position box) (room : length history < 1000000) (limits : KeepsLimits m) (new : position m.by m.no ≡ None) where
   abbrev pub s : Standing
   s = standing_of history
 
@@ -92,7 +91,7 @@ module _ (history : List Entry) (m : Message) (looked_up : Standing) (position :
       let reply = verdict m.no (Some f) in
       let answered = new_answer (Some f) e in
       subst (λ (r : Reply). AreKept (history ++ record { call = Send m; reply = r } ∷ []) looked_up position' box) (sym answered)
-      (kept_more history (Send m) looked_up position box kept room dated (noted s m reply) looked_up position' box (after_it reply answered) kept.tables
+      (kept_more history (Send m) looked_up position box kept room limits (noted s m reply) looked_up position' box (after_it reply answered) kept.tables
       (subst (λ (r : Reply). (by : Railway) (n : ℕ) → LeadsTo (history ++ record { call = Send m; reply = r } ∷ []) (position' by n) (cond (same_name m.by m.no by n) (Some (record { message = m; reply = reply })) (s.first_send by n))) answered
       (firsts_noted reply position' finds))
       kept.boxes
@@ -107,7 +106,7 @@ module _ (history : List Entry) (m : Message) (looked_up : Standing) (position :
       let reply : Reply = Accepted m.no in
       let answered = new_answer None e in
       subst (λ (r : Reply). AreKept (history ++ record { call = Send m; reply = r } ∷ []) looked_up' position' box') (sym answered)
-      (kept_more history (Send m) looked_up position box kept room dated (noted (accepted s m) m reply) looked_up' position' box' (after_it reply answered)
+      (kept_more history (Send m) looked_up position box kept room limits (noted (accepted s m) m reply) looked_up' position' box' (after_it reply answered)
       (tables ∙ ap (λ (t : Standing). tabled (accepted t m)) kept.tables)
       (subst (λ (r : Reply). (by : Railway) (n : ℕ) → LeadsTo (history ++ record { call = Send m; reply = r } ∷ []) (position' by n) (cond (same_name m.by m.no by n) (Some (record { message = m; reply = reply })) (s.first_send by n))) answered
       (firsts_noted reply position' finds))

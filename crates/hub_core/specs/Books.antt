@@ -2,6 +2,7 @@
 use Rattle.std.specs.Prelude.{◌≡◌, ℕ, ◌≤◌, List, length, slice_get, Option, Some, None, Result, Ok, Err}
 use Rattle.taf_codes.specs.declared.code.Railway.{Railway}
 use Rattle.taf_messages.specs.declared.call.Call.TheVariants.{Send}
+use Rattle.taf_messages.specs.declared.message.Message.{Message}
 use Rattle.taf_messages.specs.declared.reply.Reply.{Reply}
 use Rattle.taf_messages.specs.declared.reply.Reply.TheVariants.{Acknowledged, Refused}
 use Rattle.taf_messages.specs.declared.reply.Why.TheVariants as why
@@ -10,9 +11,10 @@ use Rattle.outbox.specs.Kept.{Kept, kept_for}
 use Rattle.outbox.specs.Keeping.{Keeps}
 use Rattle.replay_numbers.specs.Notes.{position_of}
 use Rattle.hub_model.specs.declared.entry.Entry.{Entry}
-use Rattle.hub_model.specs.Standing.{Standing, Told}
+use Rattle.hub_model.specs.Standing.{Standing, Told, moment_in}
 use Rattle.hub_model.specs.Answers.{standing_of, IsLegal}
-use Rattle.hub_model.specs.Laws.{AreDated}
+use Rattle.hub_model.specs.Laws.{AreDated, IsMoment}
+use Rattle.hub_model.specs.Bounds.{AreWithinLimits, IsWithinLimits}
 use Rattle.hub_tables.specs.Tabled.{known, tabled}
 use Rattle.hub_core.specs.declared.books.Books.{Books}
 
@@ -30,10 +32,15 @@ LeadsTo history _ _ = ⊥
 abbrev pub OffersWereSent : Standing → Type 0
 OffersWereSent s = (by : Railway) (n : ℕ) → s.first_send by n ≡ None → s.offer by n ≡ None
 
+-- the message's moment is of the calendar, and its lists keep their limits
+abbrev pub KeepsLimits : Message → Type 0
+KeepsLimits m = IsMoment (moment_in m.body) × IsWithinLimits m
+
 -- the history is legal, and what is looked up is what the model knows after it
 pub record AreKept (history : List Entry) (looked_up : Standing) (position : Railway → ℕ → Option ℕ) (box : Railway → Kept) : Type 0 where
   pub legal : IsLegal history
   pub dated : AreDated history
+  pub within : AreWithinLimits history
   pub few : length history ≤ 1000000
   pub tables : looked_up ≡ tabled (standing_of history)
   pub firsts : (by : Railway) (n : ℕ) → LeadsTo history (position by n) ((standing_of history).first_send by n)

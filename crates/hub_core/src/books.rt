@@ -1,9 +1,8 @@
 //! The hub's books.
 ghost use Rattle.std.specs.Prelude.{◌≡◌, ◌<◌, ◌^◌, [], ◌∷◌, ◌++◌, length, IfOk, OnOk, OnErr};
-ghost use Rattle.hub_model.specs.Standing.{moment_in};
 ghost use Rattle.hub_model.specs.Answers.{after, answer, standing_of};
-ghost use Rattle.hub_model.specs.Laws.{IsMoment, IsSend};
-ghost use Rattle.hub_core.specs.Books.{IsKept};
+ghost use Rattle.hub_model.specs.Laws.{IsSend};
+ghost use Rattle.hub_core.specs.Books.{IsKept, KeepsLimits};
 
 use history_pages::Pages;
 use hub_model::Entry;
@@ -45,7 +44,7 @@ pub fn enter(books: &mut Books, call: Call, reply: Reply) -> Result<Reply, Memor
     requires room { length books.old.history.entries < 1000000 }
     requires answered { reply ≡ answer books.old.history.entries call }
     requires quiet { after (standing_of books.old.history.entries) (record { call = call; reply = reply }) ≡ standing_of books.old.history.entries }
-    requires dated { IsSend (λ m. IsMoment (moment_in m.body)) call }
+    requires limits { IsSend KeepsLimits call }
     ensures kept { IsKept books.new }
     ensures told { IfOk result (λ told. told ≡ reply) }
     ensures entered { OnOk result (books.new.history.entries ≡ books.old.history.entries ++ record { call = call; reply = reply } ∷ []) }

@@ -1,5 +1,7 @@
-ghost use Rattle.std.specs.Prelude.{◌≡◌, ◌↔◌, ◌<◌, ◌≤◌, [], ◌∷◌, ◌++◌, List, length, slice_get, option_copied, IfOk, IfErr, OnErr, IsTrue, Err};
-ghost use Rattle.hub_model.specs.Answers.{answer, standing_of, view};
+ghost use Rattle.std.specs.Prelude.{◌≡◌, ◌↔◌, ◌<◌, ◌≤◌, [], ◌∷◌, ◌++◌, List, length, map, slice_get, option_copied, IfOk, IfErr, OnErr, IsTrue, Err};
+ghost use Rattle.hub_model.specs.Answers.{IsLegal, answer, run, standing_of, view};
+ghost use Rattle.hub_model.specs.Bounds.{AreWithinLimits};
+ghost use Rattle.hub_model.specs.Laws.{AreDated};
 ghost use Rattle.hub_core.specs.Apart.{are_apart};
 ghost use Rattle.hub_core.specs.Faults.{IsFault};
 
@@ -8,7 +10,7 @@ use crate::fault::HubFault;
 use crate::take::take;
 use crate::view::View;
 use hub_answers::{apart, view};
-use hub_model::Entry;
+use hub_model::{Entry, histories_are_runs};
 use std::alloc::Global;
 use std::marker::Model;
 use taf_codes::Memory;
@@ -67,6 +69,18 @@ impl Hub {
         ensures { option_copied result ≡ slice_get self.now i }
     {
         self.books.history.get(i)
+    }
+
+    /// The history of every hub is legal: its replies are those that its calls get on a new hub, one after another. Its
+    /// messages keep the limits of their types. So the laws of `hub_model` hold of it. It does nothing.
+    pub fn history_is_legal(&self)
+        ensures legal { IsLegal self.now }
+        ensures run { map (λ e. e.reply) self.now ≡ run (map (λ e. e.call) self.now) }
+        ensures dated { AreDated self.now }
+        ensures within { AreWithinLimits self.now }
+    {
+        histories_are_runs();
+        let _books = &self.books;
     }
 
     /// Takes a call, and gives its position in the history and its reply.

@@ -7,10 +7,11 @@ ghost use Rattle.replay_numbers.specs.Notes.{position_of, has_room};
 ghost use Rattle.hub_model.specs.Answers.{answer, verdict};
 ghost use Rattle.hub_model.specs.Standing.{moment_in};
 ghost use Rattle.hub_model.specs.Faults.{fault};
+ghost use Rattle.hub_model.specs.Bounds.{IsWithinLimits};
 ghost use Rattle.hub_model.specs.Laws.{IsMoment};
 ghost use Rattle.hub_model.specs.Items.{items_of};
 ghost use Rattle.hub_tables.specs.Tabled.{known, IsAcceptable};
-ghost use Rattle.hub_core.specs.Books.{IsKept};
+ghost use Rattle.hub_core.specs.Books.{IsKept, KeepsLimits};
 ghost use Rattle.hub_core.specs.Delivery.{AreReady};
 
 use crate::books::{Books, enter};
@@ -82,7 +83,7 @@ fn refuse(books: &mut Books, message: Shared<Message>, found: Fault) -> Result<R
     requires kept { IsKept books.old }
     requires room { length books.old.history.entries < 1000000 }
     requires new { position_of books.old.seen message.by message.no ≡ None }
-    requires dated { IsMoment (moment_in message.body) }
+    requires limits { KeepsLimits message }
     requires fault { fault (known books.old.tables) message ≡ Some found }
     ensures kept { IsKept books.new }
     ensures answered { IfOk result (λ r. r ≡ answer books.old.history.entries (call.Send message)) }
@@ -145,7 +146,7 @@ fn accept(alloc: Global, books: &mut Books, message: Shared<Message>) -> Result<
     requires kept { IsKept books.old }
     requires room { length books.old.history.entries < 1000000 }
     requires new { position_of books.old.seen message.by message.no ≡ None }
-    requires dated { IsMoment (moment_in message.body) }
+    requires limits { KeepsLimits message }
     requires acceptable { IsAcceptable (known books.old.tables) message }
     ensures kept { IsKept books.new }
     ensures answered { IfOk result (λ r. r ≡ answer books.old.history.entries (call.Send message)) }
@@ -181,12 +182,30 @@ fn note_moment(message: &Message)
     };
 }
 
+/// The lists of a message keep their limits, as each `Plan`, `OfferedWagons` and `Wagons` does.
+fn note_lists(message: &Message)
+    ensures { IsWithinLimits message.now }
+{
+    let _lengths = match &message.body {
+        Body::Plan(plan) => (plan.legs().len(), plan.wagons().len()),
+        Body::Offer(offer) => (0, offer.get().wagons.as_slice().len()),
+        Body::Answer(answer) => {
+            let answer = answer.get();
+            (
+                answer.received.as_slice().len(),
+                answer.refused.as_slice().len(),
+            )
+        }
+        _ => (0, 0),
+    };
+}
+
 /// Takes a message whose name is new.
 fn take_new(alloc: Global, books: &mut Books, message: Shared<Message>) -> Result<Reply, Memory>
     requires kept { IsKept books.old }
     requires room { length books.old.history.entries < 1000000 }
     requires new { position_of books.old.seen message.by message.no ≡ None }
-    requires dated { IsMoment (moment_in message.body) }
+    requires limits { KeepsLimits message }
     ensures kept { IsKept books.new }
     ensures answered { IfOk result (λ r. r ≡ answer books.old.history.entries (call.Send message)) }
     ensures grows { IfOk result (λ r. books.new.history.entries ≡ books.old.history.entries ++ record { call = call.Send message; reply = r } ∷ []) }
@@ -205,7 +224,7 @@ fn take_again(books: &mut Books, position: u64, message: Shared<Message>) -> Res
     requires kept { IsKept books.old }
     requires room { length books.old.history.entries < 1000000 }
     requires noted { position_of books.old.seen message.by message.no ≡ Some position }
-    requires dated { IsMoment (moment_in message.body) }
+    requires limits { KeepsLimits message }
     ensures kept { IsKept books.new }
     ensures answered { IfOk result (λ r. r ≡ answer books.old.history.entries (call.Send message)) }
     ensures grows { IfOk result (λ r. books.new.history.entries ≡ books.old.history.entries ++ record { call = call.Send message; reply = r } ∷ []) }
@@ -230,6 +249,7 @@ pub fn take_send(
 {
     let said = message.get();
     note_moment(said);
+    note_lists(said);
     match books.seen.find(said.by, said.no) {
         Some(position) => take_again(books, position, message),
         None => take_new(alloc, books, message),

@@ -130,7 +130,9 @@ impl Plan {
 
     /// The wagons in their order: 1 to 60, all different.
     pub fn wagons(&self) -> &[WagonNumber]
-        ensures { result.now ≡ self.now.wagons }
+        ensures value { result.now ≡ self.now.wagons }
+        ensures some { 0 < length result.now }
+        ensures few { length result.now ≤ 60 }
     {
         self.parts.wagons.as_slice()
     }

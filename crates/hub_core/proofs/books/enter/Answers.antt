@@ -15,4 +15,4 @@ returns-clause-kept c =
     let entered : c.push_reserved.new.self.entries ≡ b.history.entries ++ record { call = c.args.call; reply = c.args.reply } ∷ [] =
     ap (λ (p : Paged Entry). p.entries) c.push_reserved.ensures ∙ ap (λ (es : List Entry). es ++ record { call = c.args.call; reply = c.args.reply } ∷ []) c.in_ok-reserve.ensures.entries in
     subst (λ (es : List Entry). AreKept es (known b.tables) (position_of b.seen) (kept_for b.outboxes)) (sym entered)
-    (kept_entered b.history.entries c.args.call c.args.reply (known b.tables) (position_of b.seen) (kept_for b.outboxes) c.requires.kept c.requires.room c.requires.dated c.requires.answered c.requires.quiet)
+    (kept_entered b.history.entries c.args.call c.args.reply (known b.tables) (position_of b.seen) (kept_for b.outboxes) c.requires.kept c.requires.room c.requires.limits c.requires.answered c.requires.quiet)

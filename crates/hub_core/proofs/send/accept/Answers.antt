@@ -50,7 +50,7 @@ returns-clause-kept c =
     ap (λ (es : List Entry). es ++ entry (Accepted m.no) ∷ []) r.entries in
     let len : c.len-position.result ≡ length b.history.entries = c.len-position.ensures.value ∙ ap length r.entries in
     subst (λ (es : List Entry). AreKept es (known c.accept.new.self) (position_of c.note_reserved.new.self) (kept_for c.deliver.new.outboxes)) (sym entered)
-    (kept_accepted b.history.entries m (known b.tables) (position_of b.seen) (kept_for b.outboxes) c.requires.kept c.requires.room c.requires.dated c.requires.new
+    (kept_accepted b.history.entries m (known b.tables) (position_of b.seen) (kept_for b.outboxes) c.requires.kept c.requires.room c.requires.limits c.requires.new
     c.boxes_keep_the_lists.ensures.push (known c.accept.new.self) (position_of c.note_reserved.new.self) (kept_for c.deliver.new.outboxes) c.requires.acceptable.sound
     (c.in_ok-accept.ensures.ok ∙ ap (λ (x : Message). tabled (accepted (known n.tables) x)) same ∙ ap (λ (t : Filings). tabled (accepted (known t) m)) r.tables)
     (λ by k. c.note_reserved.ensures by k ∙
@@ -65,7 +65,7 @@ pub returns-clause-answered : goal.returns-clause-answered
 returns-clause-answered c =
     let b = c.args.books.now in
     c.verdict-2.ensures ∙ ap (λ (x : Message). Accepted x.no) c.get-said.ensures ∙
-    new_answer b.history.entries c.args.message (known b.tables) (position_of b.seen) (kept_for b.outboxes) c.requires.kept c.requires.room c.requires.dated c.requires.new None c.requires.acceptable.sound
+    new_answer b.history.entries c.args.message (known b.tables) (position_of b.seen) (kept_for b.outboxes) c.requires.kept c.requires.room c.requires.limits c.requires.new None c.requires.acceptable.sound
 
 pub note_reserved-requires-clause-new : goal.note_reserved-requires-clause-new
 note_reserved-requires-clause-new c =

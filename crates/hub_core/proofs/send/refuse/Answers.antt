@@ -25,7 +25,7 @@ returns-clause-kept c =
     ap (λ (es : List Entry). es ++ entry (verdict m.no (Some c.args.found)) ∷ []) c.in_ok-reserve-2.ensures.entries in
     let len : c.len-position.result ≡ length b.history.entries = c.len-position.ensures.value ∙ ap length c.in_ok-reserve-2.ensures.entries in
     subst (λ (es : List Entry). AreKept es (known b.tables) (position_of c.note_reserved.new.self) (kept_for b.outboxes)) (sym entered)
-    (kept_refused b.history.entries m (known b.tables) (position_of b.seen) (kept_for b.outboxes) c.requires.kept c.requires.room c.requires.dated c.requires.new c.args.found (position_of c.note_reserved.new.self) c.requires.fault
+    (kept_refused b.history.entries m (known b.tables) (position_of b.seen) (kept_for b.outboxes) c.requires.kept c.requires.room c.requires.limits c.requires.new c.args.found (position_of c.note_reserved.new.self) c.requires.fault
     (λ by n. c.note_reserved.ensures by n ∙
     ap (λ (x : Message). cond (same_name x.by x.no by n) (Some c.len-position.result) (position_of c.reserve.new.self by n)) same ∙
     ap (λ (k : ℕ). cond (same_name m.by m.no by n) (Some k) (position_of c.reserve.new.self by n)) len ∙
@@ -35,7 +35,7 @@ pub returns-clause-answered : goal.returns-clause-answered
 returns-clause-answered c =
     let b = c.args.books.now in
     c.in_ok-told.ensures ∙ c.verdict-reply.ensures ∙ ap (λ (x : Message). verdict x.no (Some c.args.found)) c.get-said.ensures ∙
-    new_answer b.history.entries c.args.message (known b.tables) (position_of b.seen) (kept_for b.outboxes) c.requires.kept c.requires.room c.requires.dated c.requires.new (Some c.args.found) c.requires.fault
+    new_answer b.history.entries c.args.message (known b.tables) (position_of b.seen) (kept_for b.outboxes) c.requires.kept c.requires.room c.requires.limits c.requires.new (Some c.args.found) c.requires.fault
 
 pub note_reserved-requires-clause-new : goal.note_reserved-requires-clause-new
 note_reserved-requires-clause-new c =

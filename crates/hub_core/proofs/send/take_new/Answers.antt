@@ -14,5 +14,5 @@ fault-requires c =
 pub accept-requires-clause-acceptable : goal.accept-requires-clause-acceptable
 accept-requires-clause-acceptable c =
     let b = c.args.books.now in
-    acceptable c.estimates_fit.ensures c.offers_are_in_order.ensures b.history.entries c.args.message (known b.tables) (position_of b.seen) (kept_for b.outboxes) c.requires.kept c.requires.room c.requires.dated c.requires.new
+    acceptable c.estimates_fit.ensures c.offers_are_in_order.ensures b.history.entries c.args.message (known b.tables) (position_of b.seen) (kept_for b.outboxes) c.requires.kept c.requires.room c.requires.limits c.requires.new
     (sym (c.in_ok-found.ensures ∙ ap (fault (known b.tables)) c.get.ensures) ∙ c.in-None.is)

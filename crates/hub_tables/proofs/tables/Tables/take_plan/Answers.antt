@@ -17,7 +17,7 @@ invariant_of-self-2 c =
     let m = c.args.message.now in
     let p = c.args.plan.now in
     let base : c.reserve.new.self.entries ≡ old.wagons = c.in_ok-reserve.ensures.entries ∙ ap (λ (t : Filings). t.wagons) c.self.view_is in
-    let items = c.in_ok-begun.ensures ∙ ap (map (λ w. (w, begun old m p c.requires.plan w))) c.wagons.ensures in
+    let items = c.in_ok-begun.ensures ∙ ap (map (λ w. (w, begun old m p c.requires.plan w))) c.wagons.ensures.value in
     filed_entered old m p c.requires.plan c.enter.new.table.entries (λ q. c.enter.ensures.values q ∙ (λ i. update_all nat_eq (λ k. lookup (nat_eq k) (base i)) (items i) q)) (subst AreFiled (ap (λ (t : Filings). t.wagons) c.self.view_is) c.self.invariant)
 
 pub returns-clause-ok : goal.returns-clause-ok
@@ -27,7 +27,7 @@ returns-clause-ok c =
     let p = c.args.plan.now in
     let is = c.requires.plan in
     let base : c.reserve.new.self.entries ≡ old.wagons = c.in_ok-reserve.ensures.entries ∙ ap (λ (t : Filings). t.wagons) c.self.view_is in
-    let items = c.in_ok-begun.ensures ∙ ap (map (λ w. (w, begun old m p is w))) c.wagons.ensures in
+    let items = c.in_ok-begun.ensures ∙ ap (map (λ w. (w, begun old m p is w))) c.wagons.ensures.value in
     let plans : c.reserve-2.new.self.entries ≡ old.plans = c.in_ok-reserve-2.ensures.entries ∙ ap (λ (t : Filings). t.plans) c.self.view_is in
     let units : c.reserve-3.new.self.entries ≡ old.units = c.in_ok-reserve-3.ensures.entries ∙ ap (λ (t : Filings). t.units) c.self.view_is in
     let loads = c.in_ok-units.ensures ∙ ap (map (λ (l : UnitLoad). (l.unit, p))) c.units.ensures in
