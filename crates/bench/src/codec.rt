@@ -7,7 +7,9 @@ use anyhow::{Result, bail};
 use serde_json::Value;
 use std::alloc::Global;
 use std::time::{Clock, Instant};
-use taf_messages::{Call, CallReader, Reply, Shared, append_reply};
+use call_reader::CallReader;
+use reply_writer::append_reply;
+use taf_messages::{Call, Reply, Shared};
 
 /// The lines of departures, read by `serde_json` alone.
 pub fn parse(clock: &impl Clock, alloc: Global, count: u64) -> Result<Measured> {

@@ -6,7 +6,7 @@
 //! | WHAT | measures | COUNT, if none is given |
 //! |---|---|---|
 //! | `parse` | `serde_json` alone on a departure's line | 200,000 |
-//! | `read` | `taf_messages::CallReader` on the same lines | 200,000 |
+//! | `read` | `call_reader::CallReader` on the same lines | 200,000 |
 //! | `replies` | an accepted reply, written into a buffer that is used again | 1,000,000 |
 //! | `record` | a reply that shows a record of sixty events | 10,000 |
 //! | `items` | a reply of fifty items | 10,000 |

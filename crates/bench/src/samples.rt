@@ -3,9 +3,8 @@ ghost use Rattle.std.specs.Prelude.{◌≡◌, length, IfOk};
 
 use anyhow::{Result, bail};
 use std::alloc::Global;
-use taf_messages::{
-    Body, Call, Delay, Item, ItemBody, ItemList, LegIndex, Listed, MessageNumber, read_call,
-};
+use call_reader::read_call;
+use taf_messages::{Body, Call, Delay, Item, ItemBody, ItemList, LegIndex, Listed, MessageNumber};
 use taf_moment::Moment;
 use trip_plan::Plan;
 use wagon_number::WagonNumber;

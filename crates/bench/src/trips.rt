@@ -5,7 +5,8 @@ use anyhow::{Result, bail};
 use hub_core::Hub;
 use std::alloc::Global;
 use std::time::{Clock, Instant};
-use taf_messages::{Call, Reply, read_call};
+use call_reader::read_call;
+use taf_messages::{Call, Reply};
 use wagon_number::WagonNumber;
 
 // The calls of a trip: its wagon is planned, released, departs, is delayed ten times and arrives, and its record is

@@ -8,8 +8,8 @@ use Rattle.taf_messages.specs.declared.call.Call.{Call}
 use Rattle.taf_messages.specs.declared.reply.Reply.{Reply}
 use Rattle.taf_messages.specs.declared.fault.RecordFault.{RecordFault}
 use Rattle.taf_messages.specs.declared.fault.RecordFault.TheVariants.{BadJson, Memory}
-use Rattle.taf_messages.specs.Reading.{call_read}
-use Rattle.taf_messages.specs.ReplyShapes.{reply_data, fault_data}
+use Rattle.call_reader.specs.Reading.{call_read}
+use Rattle.reply_writer.specs.ReplyShapes.{reply_data, fault_data}
 use Rattle.hub_replay.specs.declared.heard.Heard.{Heard}
 use Rattle.hub_replay.specs.declared.heard.Heard.TheVariants.{Blank, TooLong, Fault, Called}
 

@@ -10,7 +10,8 @@ use crate::counts::Counts;
 use crate::fault::RunFault;
 use std::alloc::Global;
 use taf_codes::{Failed, Sink};
-use taf_messages::{RecordFault, Reply, append_fault, append_reply};
+use reply_writer::{append_fault, append_reply};
+use taf_messages::{RecordFault, Reply};
 
 /// Lines that are still to be written, and the counts so far.
 #[derive(Drop)]

@@ -16,7 +16,7 @@ use hub_core::Hub;
 use std::mem::replace;
 use std::thread::Threads;
 use taf_codes::Sink;
-use taf_messages::CallReader;
+use call_reader::CallReader;
 
 // How many bytes of lines are heard before the first is answered.
 const FIRST: usize = 16_384;

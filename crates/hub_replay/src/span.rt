@@ -9,7 +9,7 @@ use std::alloc::Global;
 use std::collections::VecDeque;
 use std::mem::replace;
 use taf_codes::Memory;
-use taf_messages::CallReader;
+use call_reader::CallReader;
 
 /// What lines in a row say, and where the last of them ends.
 #[derive(Drop)]

@@ -1,17 +1,3 @@
 pub mod CloneLemmas
 pub mod SameLemmas
 pub mod SameReplies
-pub mod EachLemmas
-pub mod TextLemmas
-pub mod ReadLemmas
-pub mod NumberLemmas
-pub mod ShapeLemmas
-pub mod FieldLemmas
-pub mod MessageLemmas
-pub mod Utf8Lemmas
-pub mod SpeltLemmas
-pub mod KeptLemmas
-pub mod SentLemmas
-pub mod FlatLemmas
-pub mod PlainLemmas
-pub mod WritingLemmas

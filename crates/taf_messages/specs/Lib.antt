@@ -1,15 +1,6 @@
 pub mod Limits
 pub mod Content
 pub mod Names
+pub mod Details
 pub mod Faults
-pub mod Good
-pub mod Reading
-pub mod Texts
-pub mod Shapes
-pub mod RecordShapes
-pub mod ReplyShapes
 pub mod Kept
-pub mod Laws
-pub mod Flat
-pub mod FoundIn
-pub mod Writing

@@ -1,5 +1,8 @@
+ghost use Rattle.std.specs.Prelude.{◌≡◌};
+
+use crate::kind::BodyName;
 use crate::movement::MovementKind;
-use crate::number::{LegIndex, LegMinutes, MessageNumber};
+use crate::number::{Delay, LegIndex, LegMinutes, MessageNumber};
 use taf_codes::{Place, Railway};
 use taf_moment::Moment;
 
@@ -23,4 +26,70 @@ pub enum Happened {
     Answered { received: bool },
     Withdrawn,
     Rerouted { leg: LegIndex },
+}
+
+impl Happened {
+    ghost use Rattle.taf_messages.specs.Details.{happened_name, happened_delay, happened_leg, happened_minutes, happened_place, happened_received};
+
+    /// The kind of message that it was.
+    pub fn kind(self) -> BodyName
+        ensures { result ≡ happened_name self }
+    {
+        match self {
+            Happened::Planned => BodyName::Plan,
+            Happened::Moved(what) => BodyName::Movement(what.name()),
+            Happened::EstimateAsked => BodyName::EtiAsk,
+            Happened::LegTimed { .. } => BodyName::LegTime,
+            Happened::Offered { .. } => BodyName::Offer,
+            Happened::Answered { .. } => BodyName::Answer,
+            Happened::Withdrawn => BodyName::Withdraw,
+            Happened::Rerouted { .. } => BodyName::Reroute,
+        }
+    }
+
+    fn delay(self) -> Option<Delay>
+        ensures { result ≡ happened_delay self }
+    {
+        match self {
+            Happened::Moved(what) => what.delay(),
+            _ => None,
+        }
+    }
+
+    fn leg(self) -> Option<LegIndex>
+        ensures { result ≡ happened_leg self }
+    {
+        match self {
+            Happened::LegTimed { leg, .. } | Happened::Rerouted { leg } => Some(leg),
+            _ => None,
+        }
+    }
+
+    fn minutes(self) -> Option<LegMinutes>
+        ensures { result ≡ happened_minutes self }
+    {
+        match self {
+            Happened::LegTimed { minutes, .. } => Some(minutes),
+            _ => None,
+        }
+    }
+
+    fn place(self) -> Option<Place>
+        ensures { result ≡ happened_place self }
+    {
+        match self {
+            Happened::Moved(what) => what.place(),
+            Happened::Offered { place } => Some(place),
+            _ => None,
+        }
+    }
+
+    fn received(self) -> Option<bool>
+        ensures { result ≡ happened_received self }
+    {
+        match self {
+            Happened::Answered { received } => Some(received),
+            _ => None,
+        }
+    }
 }

@@ -1,4 +1,5 @@
 ghost use Rattle.std.specs.Prelude.{◌≡◌};
+ghost use Rattle.taf_messages.specs.Details.{stage_name, status_name};
 
 use crate::listed::{EstimateList, RecordEvents, Units};
 use crate::number::LegIndex;
@@ -28,6 +29,38 @@ pub enum Status {
     EmptyOnJourney,
     Unloading,
     FleetControl,
+}
+
+impl Stage {
+    /// The name of the stage in records.
+    pub fn name(self) -> &'static str
+        ensures { result.now ≡ stage_name self }
+    {
+        match self {
+            Stage::Planned => "planned",
+            Stage::Released => "released",
+            Stage::Running => "running",
+            Stage::InYard => "in_yard",
+            Stage::Offered => "offered",
+            Stage::Arrived => "arrived",
+            Stage::Delivered => "delivered",
+        }
+    }
+}
+
+impl Status {
+    /// The name of the status in records.
+    pub fn name(self) -> &'static str
+        ensures { result.now ≡ status_name self }
+    {
+        match self {
+            Status::Loading => "loading",
+            Status::LoadedOnJourney => "loaded_on_journey",
+            Status::EmptyOnJourney => "empty_on_journey",
+            Status::Unloading => "unloading",
+            Status::FleetControl => "fleet_control",
+        }
+    }
 }
 
 /// When a wagon is expected at the end of a leg.

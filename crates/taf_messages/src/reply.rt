@@ -1,4 +1,5 @@
 ghost use Rattle.std.specs.Prelude.{◌≡◌};
+ghost use Rattle.taf_messages.specs.Details.{why_name};
 
 use crate::listed::{ItemList, Records};
 use crate::number::MessageNumber;
@@ -30,6 +31,36 @@ pub enum Why {
     BeyondCalendar,
     NumberReused,
     AckAhead,
+}
+
+impl Why {
+    /// The name of the refusal in replies.
+    pub fn name(self) -> &'static str
+        ensures { result.now ≡ why_name self }
+    {
+        match self {
+            Why::UnknownWagon => "unknown_wagon",
+            Why::UnknownConsignment => "unknown_consignment",
+            Why::UnknownOffer => "unknown_offer",
+            Why::UnknownUnit => "unknown_unit",
+            Why::ConsignmentTaken => "consignment_taken",
+            Why::WagonBusy => "wagon_busy",
+            Why::UnitBusy => "unit_busy",
+            Why::WrongStage => "wrong_stage",
+            Why::NotYours => "not_yours",
+            Why::WrongPlace => "wrong_place",
+            Why::WrongNext => "wrong_next",
+            Why::TooManyLegs => "too_many_legs",
+            Why::NoSuchLeg => "no_such_leg",
+            Why::LegStarted => "leg_started",
+            Why::NotLastLeg => "not_last_leg",
+            Why::OfferClosed => "offer_closed",
+            Why::ListsDiffer => "lists_differ",
+            Why::BeyondCalendar => "beyond_calendar",
+            Why::NumberReused => "number_reused",
+            Why::AckAhead => "ack_ahead",
+        }
+    }
 }
 
 /// What the hub answers to a call. Copies share the records and the items.

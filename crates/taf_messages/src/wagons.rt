@@ -1,12 +1,12 @@
 //! Lists with limits.
-ghost use Rattle.std.specs.Prelude.{◌≡◌, ◌≤◌, [], true, nat_eq, nat_le, length, Some, None, if◌then◌else◌};
+ghost use Rattle.std.specs.Prelude.{◌≡◌, ◌≤◌, true, nat_eq, nat_le, length, Some, None, if◌then◌else◌};
 ghost use Rattle.std.specs.Cmp.Lexicographic.{pointwise, nat_list_eq_equiv};
 ghost use Rattle.std.specs.Cmp.{partial_equiv_from_equiv};
 ghost use Rattle.taf_messages.specs.Limits.{may_be_offered};
 
-use std::alloc::{AllocError, Global};
+use std::alloc::AllocError;
 use std::marker::Model;
-use trip_plan::{UnitLoad, all_differ};
+use trip_plan::all_differ;
 use wagon_number::WagonNumber;
 
 /// At most 60 wagons in order.
@@ -126,52 +126,5 @@ impl OfferedWagons {
         ensures allowed { may_be_offered result.now ≡ true }
     {
         self.wagons.as_slice()
-    }
-}
-
-/// At most 120 intermodal units in order, each with its wagon.
-#[derive(Debug, Drop)]
-pub(crate) struct UnitLoads {
-    items: Vec<UnitLoad>,
-}
-
-impl Model for UnitLoads {
-    ghost use Rattle.std.specs.Prelude.{List, ◌≤◌, length};
-    ghost use Rattle.trip_plan.specs.declared.parts.UnitLoad.{UnitLoad};
-
-    ghost Value = { List UnitLoad };
-
-    ghost view = { λ a. a.items.items };
-
-    ghost invariant = { λ a. length a.items.items ≤ 120 };
-}
-
-impl UnitLoads {
-    /// No unit.
-    pub(crate) fn none(alloc: Global) -> UnitLoads
-        ensures { result ≡ [] }
-    {
-        UnitLoads {
-            items: Vec::new(alloc),
-        }
-    }
-
-    /// The list of these units, if they are at most 120.
-    pub(crate) fn new(items: Vec<UnitLoad>) -> Option<UnitLoads>
-        ensures { result ≡ (if nat_le (length items.items) 120 then Some items.items else None) }
-    {
-        if items.len() <= 120 {
-            Some(UnitLoads { items })
-        } else {
-            None
-        }
-    }
-
-    pub(crate) fn into_vec(self) -> Vec<UnitLoad>
-        ensures value { result.items ≡ self }
-        ensures few { length result.items ≤ 120 }
-    {
-        let UnitLoads { items } = self;
-        items
     }
 }

@@ -7,7 +7,7 @@ use Rattle.taf_codes.specs.declared.code.Place.{Place}
 use Rattle.taf_codes.specs.declared.code.Railway.{Railway}
 use Rattle.taf_codes.specs.declared.code.UnitCode.{UnitCode}
 use Rattle.taf_messages.specs.declared.record.Record.{Record}
-use Rattle.taf_messages.specs.RecordShapes.{stage_name, status_name}
+use Rattle.taf_messages.specs.Details.{stage_name, status_name}
 
 -- a column of nine, filled with blanks behind the text or before it
 abbrev pub left_aligned : List ℕ → List ℕ

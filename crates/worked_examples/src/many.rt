@@ -6,7 +6,8 @@ use hub_core::{Hub, HubFault};
 use std::alloc::Global;
 use std::test::Fail;
 use std::thread::Threads;
-use taf_messages::{Call, copy_call, read_call};
+use call_reader::read_call;
+use taf_messages::{Call, copy_call};
 
 // A plan of 60 wagons over eight legs.
 const MOST_WAGONS_AND_LEGS: &str =

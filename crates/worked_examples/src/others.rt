@@ -4,7 +4,8 @@ use hub_core::Hub;
 use std::alloc::Global;
 use std::test::Fail;
 use std::thread::Threads;
-use taf_messages::{Call, read_call};
+use call_reader::read_call;
+use taf_messages::Call;
 
 #[test]
 fn a_report_of_nothing(rt: HostRuntime) -> Result<(), Fail> {

@@ -7,7 +7,9 @@ use hub_core::{Hub, View};
 use std::alloc::Global;
 use std::test::Fail;
 use std::thread::Threads;
-use taf_messages::{Call, Reply, append_reply, read_call};
+use call_reader::read_call;
+use reply_writer::append_reply;
+use taf_messages::{Call, Reply};
 
 // The reply of the hub, if memory isn't refused.
 fn reply_of(hub: &mut Hub, call: Call) -> Option<Reply> {

@@ -3,7 +3,9 @@ use std::alloc::Global;
 use std::str;
 use std::test::Fail;
 use taf_codes::Memory;
-use taf_messages::{Call, RecordFault, Reply, append_reply, read_call, write_fault, write_reply};
+use call_reader::read_call;
+use reply_writer::{append_reply, write_fault, write_reply};
+use taf_messages::{Call, RecordFault, Reply};
 
 /// The bytes as a text, for a failed test to show.
 pub(crate) fn shown(bytes: &[u8]) -> &str {

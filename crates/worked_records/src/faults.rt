@@ -3,7 +3,8 @@ use crate::checks::{has_fault, have_faults, is_text, shown};
 use std::alloc::Global;
 use std::fmt::Write;
 use std::test::Fail;
-use taf_messages::{Field, RecordFault, append_fault, write_fault};
+use reply_writer::{append_fault, write_fault};
+use taf_messages::{Field, RecordFault};
 
 // Fields, each with a value that is good for it and with one that is not.
 const FIELDS: &str = r#"from "R101" "r100"

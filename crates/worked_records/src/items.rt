@@ -3,7 +3,8 @@ use crate::checks::{is_call, is_text};
 use crate::parts::{ONE, message, moment, railway, wagon, wagons, within};
 use std::alloc::Global;
 use std::test::Fail;
-use taf_messages::{Call, Item, ItemBody, Shared, SubNotice, Wagons, write_item};
+use reply_writer::write_item;
+use taf_messages::{Call, Item, ItemBody, Shared, SubNotice, Wagons};
 
 // Lines, and below each the message that its notice carries: the kind's own fields alone, keys in byte order.
 const NOTICES: &str =

@@ -2,7 +2,8 @@
 use std::alloc::Global;
 use std::test::Fail;
 use taf_codes::{ConsignmentId, Place, Railway};
-use taf_messages::{Body, Call, Message, Shared, Within, read_call};
+use call_reader::read_call;
+use taf_messages::{Body, Call, Message, Shared, Within};
 use taf_moment::Moment;
 use wagon_number::WagonNumber;
 

@@ -4,10 +4,8 @@ use crate::parts::{ONE, consignment, moment, place, railway, wagon, within};
 use std::alloc::Global;
 use std::test::Fail;
 use taf_codes::UnitCode;
-use taf_messages::{
-    EstimateAt, EstimateList, Happened, Listed, MovementKind, Record, RecordEvent, RecordEvents,
-    Stage, Status, Units, write_record,
-};
+use reply_writer::write_record;
+use taf_messages::{EstimateAt, EstimateList, Happened, Listed, MovementKind, Record, RecordEvent, RecordEvents, Stage, Status, Units};
 use taf_moment::Moment;
 use trip_plan::Load;
 

@@ -3,7 +3,7 @@ use Rattle.std.specs.Str.{is_utf8}
 use Rattle.std.proofs.lemmas.Str.{IsUtf8-from_is_utf8, is_utf8-from_IsUtf8}
 use Rattle.serde_json.specs.Read.{read as read_json}
 use Rattle.taf_messages.specs.declared.fault.RecordFault.TheVariants.{BadJson}
-use Rattle.taf_messages.specs.Reading.{Gives, call_read}
+use Rattle.call_reader.specs.Reading.{Gives, call_read}
 use Rattle.hub_replay.specs.Lines.{call_in}
 use Rattle.hub_replay.proofs.heard.call_of.Goals as goal
 

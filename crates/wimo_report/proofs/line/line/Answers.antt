@@ -2,7 +2,7 @@ use Rattle.std.proofs.Common.{◌≡◌, ◌∙◌, ◌++◌, ◌∷◌, [], Lis
 use Rattle.std.specs.List.{join_with_byte}
 use Rattle.wagon_number.specs.Digits.{text_of}
 use Rattle.taf_messages.specs.declared.record.Record.{Record}
-use Rattle.taf_messages.specs.RecordShapes.{stage_name, status_name}
+use Rattle.taf_messages.specs.Details.{stage_name, status_name}
 use Rattle.wimo_report.specs.Report.{line_of, first_columns, last_columns, units_text, left_aligned, right_aligned, railway_column, place_column, time_column, minutes_late}
 use Rattle.wimo_report.proofs.Joining.{whole}
 use Rattle.wimo_report.proofs.line.line.Goals as goal

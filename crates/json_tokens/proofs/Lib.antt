@@ -1,0 +1,6 @@
+pub mod PlainLemmas
+pub mod TextLemmas
+pub mod ReadLemmas
+pub mod NumberLemmas
+pub mod FlatLemmas
+pub mod WritingLemmas

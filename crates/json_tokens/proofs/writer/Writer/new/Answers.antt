@@ -1,0 +1,23 @@
+use Rattle.std.proofs.Common.{[], rules, refl, ap}
+use Rattle.std.proofs.lemmas.List.{drop_all}
+use Rattle.std.proofs.lemmas.List.Elements.{All-nil}
+use Rattle.json.specs.Lex.{tokens, lex, punctuate}
+use Rattle.json.specs.Print.{print_from, ArePrintable}
+use Rattle.json_tokens.specs.Texts.{IsSmallToken}
+use Rattle.json_tokens.proofs.writer.Writer.new.Goals as goal
+
+pub invariant_of-result : goal.invariant_of-result
+unfolding print_from ArePrintable
+invariant_of-result c =
+    record {
+      within = search rules;
+      printed = [];
+      printable = tt;
+      small = All-nil IsSmallToken;
+      text = drop_all c.len-start.result c.new-out.result.items (search rules);
+      place = refl;
+    }
+
+pub returns-clause-tokens : goal.returns-clause-tokens
+unfolding lex punctuate
+returns-clause-tokens c = ap tokens (drop_all c.len-start.result c.new-out.result.items (search rules))

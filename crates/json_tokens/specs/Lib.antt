@@ -1,0 +1,5 @@
+pub mod Texts
+pub mod SmallNumbers
+pub mod Writing
+pub mod Flat
+pub mod FoundIn

@@ -1,0 +1,156 @@
+//! Bytes that grow by short texts. Some room behind them is filled ahead, so that a text is stored after one test, in words.
+ghost use Rattle.std.specs.Prelude.{◌≡◌, ◌+◌, ◌<◌, ◌≤◌, ◌++◌, ◌∷◌, [], cond, length, take, OnOk};
+ghost use Rattle.json.specs.Filled.{Placed};
+
+use std::alloc::AllocError;
+use std::marker::Model;
+use std::simd::Simd;
+
+// So many bytes are filled at once.
+const AHEAD: usize = 256;
+
+static ZEROS: [u8; AHEAD] = [0; AHEAD];
+
+/// A list of bytes, and how many more are ready to be written.
+#[derive(Drop)]
+pub struct Buffer {
+    // The bytes, and behind them those that are ready.
+    bytes: Vec<u8>,
+    len: usize,
+}
+
+impl Model for Buffer {
+    ghost use Rattle.std.specs.Prelude.{◌-◌, ◌≤◌, length, take};
+    ghost use Rattle.json.specs.Filled.{Filled, filled_code};
+
+    ghost Value = { Filled };
+
+    ghost coded = { filled_code };
+
+    ghost view = { λ b. record { items = take b.len b.bytes.items; spare = 0; ready = length b.bytes.items - b.len } };
+
+    ghost invariant = { λ b. b.len ≤ length b.bytes.items };
+}
+
+impl Buffer {
+    pub fn new(bytes: Vec<u8>) -> Buffer
+        ensures { result.items ≡ bytes.items }
+    {
+        let len = bytes.len();
+        Buffer { bytes, len }
+    }
+
+    pub fn into_vec(self) -> Vec<u8>
+        ensures { result.items ≡ self.items }
+    {
+        let Buffer { mut bytes, len } = self;
+        bytes.truncate(len);
+        bytes
+    }
+
+    pub fn len(&self) -> usize
+        ensures { result ≡ length self.now.items }
+    {
+        self.len
+    }
+
+    /// Makes so many bytes ready. Where memory is refused, the bytes stay.
+    #[inline(always)]
+    pub fn reserve(&mut self, count: usize) -> Result<(), AllocError>
+        ensures items { self.new.items ≡ self.old.items }
+        ensures ready { OnOk result (count ≤ self.new.ready) }
+    {
+        if count <= self.bytes.len() - self.len {
+            return Ok(());
+        }
+        self.fill(count)
+    }
+
+    #[cold]
+    #[inline(never)]
+    fn fill(&mut self, count: usize) -> Result<(), AllocError>
+        requires { self.old.ready < count }
+        ensures items { self.new.items ≡ self.old.items }
+        ensures ready { OnOk result (count ≤ self.new.ready) }
+    {
+        let missing = count - (self.bytes.len() - self.len);
+        if missing <= AHEAD {
+            self.bytes.extend_from_slice(&ZEROS)
+        } else {
+            let filled = self.bytes.len();
+            self.bytes.reserve(missing)?;
+            self.bytes.resize(filled + missing, 0)
+        }
+    }
+
+    /// Adds a comma, if one is wanted, and these texts behind it.
+    #[inline(always)]
+    pub fn put(&mut self, comma: bool, first: &[u8], middle: &[u8], last: &[u8])
+        requires { length first.now + length middle.now + length last.now + 1 ≤ self.old.ready }
+        ensures { self.new.items ≡ self.old.items ++ (cond comma (44 ∷ []) [] ++ (first.now ++ (middle.now ++ last.now))) }
+    {
+        let buf = self.bytes.as_mut_slice();
+        let at = place_comma(buf, self.len, comma);
+        let at = place(buf, at, first);
+        let at = place(buf, at, middle);
+        self.len = place(buf, at, last);
+    }
+}
+
+// The comma is stored in any case, and counts where it is wanted.
+#[inline(always)]
+fn place_comma(buf: &mut [u8], at: usize, wanted: bool) -> usize
+    requires { at < length buf.old }
+    ensures { Placed buf.old buf.new at (cond wanted (44 ∷ []) []) result }
+{
+    buf[at] = b',';
+    if wanted { at + 1 } else { at }
+}
+
+// A word of N bytes.
+#[inline(always)]
+fn place_word<const N: usize>(buf: &mut [u8], at: usize, text: &[u8]) -> usize
+    requires { (N ≤ length text.now) × (at + N ≤ length buf.old) }
+    ensures { Placed buf.old buf.new at (take N text.now) result }
+{
+    Simd::<u8, N>::from_slice(text).copy_to_slice(&mut buf[at..]);
+    at + N
+}
+
+// A text as two words of N bytes, which overlap unless it has twice as many.
+#[inline(always)]
+fn place_words<const N: usize>(buf: &mut [u8], at: usize, text: &[u8]) -> usize
+    requires fits { at + length text.now ≤ length buf.old }
+    requires covered { (N ≤ length text.now) × (length text.now ≤ N + N) }
+    ensures { Placed buf.old buf.new at text.now result }
+{
+    let second = text.len() - N;
+    let _first_end = place_word::<N>(buf, at, text);
+    place_word::<N>(buf, at + second, &text[second..])
+}
+
+// A text of any length. Most have no more than 20 bytes.
+#[inline(always)]
+fn place(buf: &mut [u8], at: usize, text: &[u8]) -> usize
+    requires { at + length text.now ≤ length buf.old }
+    ensures { Placed buf.old buf.new at text.now result }
+{
+    match text.len() {
+        0 => at,
+        1 => place_word::<1>(buf, at, text),
+        2..=3 => place_words::<2>(buf, at, text),
+        4..=7 => place_words::<4>(buf, at, text),
+        8..=16 => place_words::<8>(buf, at, text),
+        17..=32 => place_words::<16>(buf, at, text),
+        _ => place_long(buf, at, text),
+    }
+}
+
+fn place_long(buf: &mut [u8], at: usize, text: &[u8]) -> usize
+    requires { at + length text.now ≤ length buf.old }
+    ensures { Placed buf.old buf.new at text.now result }
+{
+    let end = at + text.len();
+    buf[at..end].copy_from_slice(text);
+    end
+}

@@ -1,0 +1,132 @@
+//! Records without lists, read without a tree.
+ghost use Rattle.std.specs.Prelude.{◌≡◌, ◌∷◌, [], ◌++◌, true, Some, IfOk, IfSome, option_map};
+ghost use Rattle.std.specs.Option.{option_or};
+ghost use Rattle.json.specs.Token.{end_object};
+ghost use Rattle.json.specs.Reads.{token_of};
+ghost use Rattle.serde_json.specs.Read.{number_of, read as read_text};
+ghost use Rattle.serde_json.specs.Data.{unsigned};
+ghost use Rattle.serde_json.specs.Find.{get};
+ghost use Rattle.json_tokens.specs.Flat.{AreSpelt, IsSpelt, flat_data, last_under, member_tokens, plain_data, plain_token, under};
+
+use fast_float::Numeral;
+use json::{Reader, Scratch, Token};
+use std::alloc::{AllocError, Global};
+
+/// A record that is read so has fewer members.
+const MANY: usize = 12;
+
+/// A text, or a whole number with its digits.
+#[derive(Clone, Copy, Debug)]
+pub enum Plain<'a> {
+    Text(&'a str),
+    Whole { digits: &'a str, number: u64 },
+}
+
+/// An object of texts and whole numbers, as `serde_json` reads it.
+#[derive(Debug, Drop)]
+pub struct FlatRecord<'a> {
+    members: Vec<(&'a str, Plain<'a>)>,
+}
+
+impl<'a> FlatRecord<'a> {
+    /// The record that the text is, if it is an object of fewer than twelve texts and whole numbers.
+    pub fn read(
+        alloc: Global,
+        text: &'a str,
+        scratch: &'a mut Scratch,
+    ) -> Result<Option<FlatRecord<'a>>, AllocError>
+        ensures { IfOk result (λ r. IfSome r (λ flat. read_text text.now ≡ Some (flat_data flat.members.items))) }
+    {
+        let mut reader = Reader::new(text, scratch)?;
+        let Some(Token::BeginObject) = reader.next() else {
+            return Ok(None);
+        };
+        let mut members = Vec::with_capacity(alloc, MANY)?;
+        if take_members(&mut reader, &mut members)? {
+            Ok(Some(FlatRecord { members }))
+        } else {
+            Ok(None)
+        }
+    }
+
+    /// The last value under a name.
+    pub fn get(&self, name: &str) -> Option<Plain<'a>>
+        ensures { option_map plain_data result ≡ get name.now (flat_data self.now.members.items) }
+    {
+        last_of(self.members.as_slice(), name)
+    }
+}
+
+// Takes all that is to come, and says whether these are members, and the end of the object and of the text.
+fn take_members<'a>(
+    reader: &mut Reader<'a>,
+    members: &mut Vec<(&'a str, Plain<'a>)>,
+) -> Result<bool, AllocError>
+    requires none { members.old.items ≡ [] }
+    ensures spelt { IfOk result (λ whole. whole ≡ true → AreSpelt members.new.items) }
+    ensures all { IfOk result (λ whole. whole ≡ true → reader.old ≡ member_tokens members.new.items ++ end_object ∷ []) }
+{
+    for i in 0..MANY {
+        match reader.next_key() {
+            Ok(Some(key)) => match value_of(reader.next()) {
+                Some(value) => members.push((key, value))?,
+                None => return Ok(false),
+            },
+            Ok(None) => return Ok(reader.next().is_none()),
+            Err(_) => return Ok(false),
+        }
+    }
+    Ok(false)
+}
+
+// The text or the whole number of a token.
+fn value_of(token: Option<Token<'_>>) -> Option<Plain<'_>>
+    ensures spelt { IfSome result IsSpelt }
+    ensures same { IfSome result (λ p. option_map token_of token.entry ≡ Some (plain_token p)) }
+{
+    match token? {
+        Token::String(text) => Some(Plain::Text(text)),
+        Token::Number(digits) => {
+            let number = whole(digits)?;
+            Some(Plain::Whole { digits, number })
+        }
+        _ => None,
+    }
+}
+
+// The whole number of a token's text, if it is one that is not below 0 and has 64 bits at most.
+fn whole(digits: &str) -> Option<u64>
+    ensures { IfSome result (λ n. number_of digits.now ≡ Some (unsigned n)) }
+{
+    let bytes = digits.as_bytes();
+    if bytes.is_empty() || bytes[0] == b'-' {
+        return None;
+    }
+    Numeral::scan(bytes).to_u64()
+}
+
+// The last value under a name.
+fn last_of<'a>(members: &[(&'a str, Plain<'a>)], name: &str) -> Option<Plain<'a>>
+    ensures { result ≡ last_under name.now members.now }
+{
+    let mut found = None;
+    for member in members {
+        found = later(found, member, name);
+    }
+    found
+}
+
+// The value of the member, if it stands under the name, else the one that was found.
+fn later<'a>(
+    found: Option<Plain<'a>>,
+    member: &(&'a str, Plain<'a>),
+    name: &str,
+) -> Option<Plain<'a>>
+    ensures { result ≡ option_or (under name.now member.now) found.entry }
+{
+    if member.0 == name {
+        Some(member.1)
+    } else {
+        found
+    }
+}

@@ -1,0 +1,22 @@
+//! Tokens of JSON: a writer whose texts need no escape, and a reader of records without lists.
+//!
+//! - [`Writer`] appends JSON to a buffer, a token at a time. Each text is plain (nothing in it that JSON escapes), so it
+//!   is copied as it is, and each number is a whole one of 64 bits. What is written is read by `serde_json` as the tree
+//!   that was written (`specs/SmallNumbers.antt`).
+//! - [`FlatRecord`] reads an object of texts and whole numbers token by token, without a tree. It is proved to be the data
+//!   that `serde_json` reads of the text (`specs/Flat.antt`).
+//! - [`Found`] is what is found in a line: a text, a number, such a record, or any tree of `serde_json`. Contracts see its
+//!   data, so that what reads fields is written once.
+//!
+//! The writer takes memory for its buffer, and the reader for the members of a record. Where it is refused, what a buffer
+//! held stays.
+#![tactic(auto)]
+
+mod buffer;
+mod flat;
+mod found;
+mod writer;
+
+pub use flat::{FlatRecord, Plain};
+pub use found::Found;
+pub use writer::Writer;

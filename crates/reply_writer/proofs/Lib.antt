@@ -1,0 +1,6 @@
+pub mod PlainLemmas
+pub mod ShapeLemmas
+pub mod FieldLemmas
+pub mod MessageLemmas
+pub mod Utf8Lemmas
+pub mod SpeltLemmas

@@ -1,0 +1,197 @@
+-- The trees that are written have rising keys, and nest seven deep at most.
+use Rattle.std.proofs.Common.{◌≡◌, ℕ, suc, List, [], ◌∷◌, true, Option, Some, None, refl}
+use Rattle.std.specs.Prelude.{map}
+use Rattle.serde_json.specs.Data.{Data}
+use Rattle.serde_json.specs.View.{items_of}
+use Rattle.trip_plan.specs.declared.parts.Leg.{Leg}
+use Rattle.trip_plan.specs.declared.parts.UnitLoad.{UnitLoad}
+use Rattle.json_tokens.specs.Texts.{fields, or_null, text}
+use Rattle.reply_writer.specs.Shapes.{at_text, wagon_text, leg_fields, leg_data, unit_fields, unit_data, body_fields, message_data, first_plan_fields, last_plan_fields, movement_fields, offer_fields, answer_fields, leg_time_fields}
+use Rattle.reply_writer.specs.RecordShapes.{event_fields, event_data, estimate_fields, estimate_data, first_record_fields, middle_record_fields, last_record_fields, record_data}
+use Rattle.reply_writer.specs.ReplyShapes.{sub_fields, eti_fields, item_fields, item_data, reply_fields, reply_data, fault_fields, fault_data}
+use Rattle.trip_plan.specs.Trip.{Trip}
+use Rattle.taf_messages.specs.declared.movement.MovementKind.{MovementKind}
+use Rattle.taf_messages.specs.declared.movement.MovementKind.TheVariants.{Release, Departure, YardArrival, YardDeparture, Exception, Estimate, Arrival, Delivery}
+use Rattle.taf_messages.specs.declared.message.Message.{Message}
+use Rattle.taf_messages.specs.declared.message.TrainAnswer.{TrainAnswer}
+use Rattle.taf_messages.specs.declared.message.Body.{Body}
+use Rattle.taf_messages.specs.declared.message.Body.TheVariants as body
+use Rattle.taf_messages.specs.declared.event.Happened.{Happened}
+use Rattle.taf_messages.specs.declared.event.Happened.TheVariants as happened
+use Rattle.taf_messages.specs.declared.event.RecordEvent.{RecordEvent}
+use Rattle.taf_messages.specs.declared.record.Record.{Record}
+use Rattle.taf_messages.specs.declared.record.EstimateAt.{EstimateAt}
+use Rattle.taf_messages.specs.declared.item.Item.{Item}
+use Rattle.taf_messages.specs.declared.item.ItemBody.{ItemBody}
+use Rattle.taf_messages.specs.declared.item.ItemBody.TheVariants.{Notice, Sub, Eti, Eta, AlertBegins, AlertEnds}
+use Rattle.taf_messages.specs.declared.reply.Reply.{Reply}
+use Rattle.taf_messages.specs.declared.reply.Reply.TheVariants.{Accepted, Refused, One, Many, Items, Acknowledged}
+use Rattle.taf_messages.specs.declared.fault.RecordFault.{RecordFault}
+use Rattle.taf_messages.specs.declared.fault.RecordFault.TheVariants.{BadJson, BadKind, MissingField, BadField, BadPlan, Memory}
+use Rattle.json_tokens.proofs.ReadLemmas.{is_ordered, items_are_ordered, items_are_ordered-map}
+
+-- a list of trees
+lists : {X : Type 0} (shape : X → Data) (n : ℕ) → ((x : X) → is_ordered (shape x) n ≡ true) → (xs : List X) → items_are_ordered (items_of (map shape xs)) n ≡ true
+lists = items_are_ordered-map
+
+leg_ordered : (n : ℕ) (l : Leg) → is_ordered (leg_data l) (suc n) ≡ true
+unfolding leg_fields
+leg_ordered n l = refl
+
+unit_ordered : (n : ℕ) (u : UnitLoad) → is_ordered (unit_data u) (suc n) ≡ true
+unfolding unit_fields
+unit_ordered n u = refl
+
+wagon_ordered : (n : ℕ) (w : ℕ) → is_ordered (wagon_text w) n ≡ true
+wagon_ordered n w = refl
+
+text_ordered : (n : ℕ) (s : List ℕ) → is_ordered (text s) n ≡ true
+text_ordered n s = refl
+
+or_null_ordered : {X : Type 0} (shape : X → Data) (n : ℕ) → ((x : X) → is_ordered (shape x) n ≡ true) → (o : Option X) → is_ordered (or_null shape o) n ≡ true
+or_null_ordered shape n h None = refl
+or_null_ordered shape n h (Some x) = h x
+
+-- ---- messages
+
+plan_at : (n : ℕ) (by : List ℕ) (number : ℕ) (p : Trip) (us : List UnitLoad) → p.units ≡ us → is_ordered (fields (body_fields by number (body.Plan p))) (suc (suc (suc n))) ≡ true
+unfolding body_fields first_plan_fields last_plan_fields unit_fields
+plan_at n by number p [] h = rw (h, lists leg_data (suc n) (leg_ordered n) p.legs, lists wagon_text (suc n) (wagon_ordered (suc n)) p.wagons) refl
+plan_at n by number p (u ∷ us) h =
+    rw (h, lists leg_data (suc n) (leg_ordered n) p.legs, lists wagon_text (suc n) (wagon_ordered (suc n)) p.wagons, lists unit_data (suc n) (unit_ordered n) us) refl
+
+movement_at : (n : ℕ) (by : List ℕ) (number w at : ℕ) (what : MovementKind) → is_ordered (fields (body_fields by number (body.Movement (record { wagon = w; at = at; what = what })))) (suc n) ≡ true
+unfolding body_fields movement_fields
+movement_at n by number w at Release = refl
+movement_at n by number w at Departure = refl
+movement_at n by number w at (YardArrival place) = refl
+movement_at n by number w at (YardDeparture place) = refl
+movement_at n by number w at (Exception delay) = refl
+movement_at n by number w at Estimate = refl
+movement_at n by number w at Arrival = refl
+movement_at n by number w at Delivery = refl
+
+answer_at : (n : ℕ) (by : List ℕ) (number : ℕ) (a : TrainAnswer) (manager : Option (List ℕ)) → a.manager ≡ manager → is_ordered (fields (body_fields by number (body.Answer a))) (suc (suc n)) ≡ true
+unfolding body_fields answer_fields
+answer_at n by number a None h = rw (h, lists wagon_text n (wagon_ordered n) a.received, lists wagon_text n (wagon_ordered n) a.refused) refl
+answer_at n by number a (Some manager) h = rw (h, lists wagon_text n (wagon_ordered n) a.received, lists wagon_text n (wagon_ordered n) a.refused) refl
+
+body_ordered : (n : ℕ) (by : List ℕ) (number : ℕ) (b : Body) → is_ordered (fields (body_fields by number b)) (suc (suc (suc n))) ≡ true
+unfolding body_fields offer_fields leg_time_fields
+body_ordered n by number (body.Plan p) = plan_at n by number p p.units refl
+body_ordered n by number (body.Movement m) = movement_at (suc (suc n)) by number m.wagon m.at m.what
+body_ordered n by number (body.EtiAsk w) = refl
+body_ordered n by number (body.LegTime w leg minutes) = refl
+body_ordered n by number (body.Offer o) = rw (lists wagon_text (suc n) (wagon_ordered (suc n)) o.wagons) refl
+body_ordered n by number (body.Answer a) = answer_at (suc n) by number a a.manager refl
+body_ordered n by number (body.Withdraw at offer) = refl
+body_ordered n by number (body.Reroute w route) = rw (lists leg_data (suc n) (leg_ordered n) route) refl
+
+pub message_ordered : (n : ℕ) (m : Message) → is_ordered (message_data m) (suc (suc (suc n))) ≡ true
+message_ordered n m = body_ordered n m.by m.no m.body
+
+-- ---- records
+
+event_at : (n : ℕ) (by : List ℕ) (number : ℕ) (at : Option ℕ) (what : Happened) → is_ordered (event_data (record { by = by; no = number; at = at; what = what })) (suc n) ≡ true
+unfolding event_fields
+event_at n by number None happened.Planned = refl
+event_at n by number (Some at) happened.Planned = refl
+event_at n by number None (happened.Moved Release) = refl
+event_at n by number (Some at) (happened.Moved Release) = refl
+event_at n by number None (happened.Moved Departure) = refl
+event_at n by number (Some at) (happened.Moved Departure) = refl
+event_at n by number None (happened.Moved (YardArrival place)) = refl
+event_at n by number (Some at) (happened.Moved (YardArrival place)) = refl
+event_at n by number None (happened.Moved (YardDeparture place)) = refl
+event_at n by number (Some at) (happened.Moved (YardDeparture place)) = refl
+event_at n by number None (happened.Moved (Exception delay)) = refl
+event_at n by number (Some at) (happened.Moved (Exception delay)) = refl
+event_at n by number None (happened.Moved Estimate) = refl
+event_at n by number (Some at) (happened.Moved Estimate) = refl
+event_at n by number None (happened.Moved Arrival) = refl
+event_at n by number (Some at) (happened.Moved Arrival) = refl
+event_at n by number None (happened.Moved Delivery) = refl
+event_at n by number (Some at) (happened.Moved Delivery) = refl
+event_at n by number None happened.EstimateAsked = refl
+event_at n by number (Some at) happened.EstimateAsked = refl
+event_at n by number None (happened.LegTimed leg minutes) = refl
+event_at n by number (Some at) (happened.LegTimed leg minutes) = refl
+event_at n by number None (happened.Offered place) = refl
+event_at n by number (Some at) (happened.Offered place) = refl
+event_at n by number None (happened.Answered received) = refl
+event_at n by number (Some at) (happened.Answered received) = refl
+event_at n by number None happened.Withdrawn = refl
+event_at n by number (Some at) happened.Withdrawn = refl
+event_at n by number None (happened.Rerouted leg) = refl
+event_at n by number (Some at) (happened.Rerouted leg) = refl
+
+event_ordered : (n : ℕ) (e : RecordEvent) → is_ordered (event_data e) (suc n) ≡ true
+event_ordered n e = event_at n e.by e.no e.at e.what
+
+estimate_ordered : (n : ℕ) (e : EstimateAt) → is_ordered (estimate_data e) (suc n) ≡ true
+unfolding estimate_fields
+estimate_ordered n e = refl
+
+record_at : (n : ℕ) (r : Record) (us : List (List ℕ)) → r.units ≡ us → is_ordered (record_data r) (suc (suc (suc n))) ≡ true
+unfolding first_record_fields middle_record_fields last_record_fields
+record_at n r [] h =
+    rw (
+      h,
+      lists estimate_data (suc n) (estimate_ordered n) r.estimates,
+      lists event_data (suc n) (event_ordered n) r.events,
+      or_null_ordered at_text (suc (suc n)) (wagon_ordered (suc (suc n))) r.eta,
+      or_null_ordered text (suc (suc n)) (text_ordered (suc (suc n))) r.place,
+      or_null_ordered text (suc (suc n)) (text_ordered (suc (suc n))) r.responsible,
+    ) refl
+record_at n r (u ∷ us) h =
+    rw (
+      h,
+      lists estimate_data (suc n) (estimate_ordered n) r.estimates,
+      lists event_data (suc n) (event_ordered n) r.events,
+      or_null_ordered at_text (suc (suc n)) (wagon_ordered (suc (suc n))) r.eta,
+      or_null_ordered text (suc (suc n)) (text_ordered (suc (suc n))) r.place,
+      or_null_ordered text (suc (suc n)) (text_ordered (suc (suc n))) r.responsible,
+      lists text (suc n) (text_ordered (suc n)) us,
+    ) refl
+
+pub record_ordered : (n : ℕ) (r : Record) → is_ordered (record_data r) (suc (suc (suc n))) ≡ true
+record_ordered n r = record_at n r r.units refl
+
+-- ---- items, replies and faults
+
+item_at : (n number : ℕ) (b : ItemBody) → is_ordered (fields (item_fields number b)) (suc (suc (suc (suc n)))) ≡ true
+unfolding item_fields sub_fields eti_fields
+item_at n number (Notice m) = rw (message_ordered n m) refl
+item_at n number (Sub s) = rw (lists wagon_text (suc (suc n)) (wagon_ordered (suc (suc n))) s.wagons) refl
+item_at n number (Eti w leg at) = refl
+item_at n number (Eta w at) = refl
+item_at n number (AlertBegins w late_by) = refl
+item_at n number (AlertEnds w) = refl
+
+pub item_ordered : (n : ℕ) (i : Item) → is_ordered (item_data i) (suc (suc (suc (suc n)))) ≡ true
+item_ordered n i = item_at n i.number i.body
+
+pub reply_ordered : (n : ℕ) (r : Reply) → is_ordered (reply_data r) (suc (suc (suc (suc (suc (suc n)))))) ≡ true
+unfolding reply_fields
+reply_ordered n (Accepted number) = refl
+reply_ordered n (Refused None why None None) = refl
+reply_ordered n (Refused None why None (Some last)) = refl
+reply_ordered n (Refused None why (Some w) None) = refl
+reply_ordered n (Refused None why (Some w) (Some last)) = refl
+reply_ordered n (Refused (Some number) why None None) = refl
+reply_ordered n (Refused (Some number) why None (Some last)) = refl
+reply_ordered n (Refused (Some number) why (Some w) None) = refl
+reply_ordered n (Refused (Some number) why (Some w) (Some last)) = refl
+reply_ordered n (One r) = rw (record_ordered (suc (suc n)) r) refl
+reply_ordered n (Many rs) = rw (lists record_data (suc (suc (suc (suc n)))) (record_ordered (suc n)) rs) refl
+reply_ordered n (Items is) = rw (lists item_data (suc (suc (suc (suc n)))) (item_ordered n) is) refl
+reply_ordered n (Acknowledged number) = refl
+
+pub fault_ordered : (n : ℕ) (f : RecordFault) → is_ordered (fault_data f) (suc n) ≡ true
+unfolding fault_fields
+fault_ordered n BadJson = refl
+fault_ordered n BadKind = refl
+fault_ordered n (MissingField name) = refl
+fault_ordered n (BadField name) = refl
+fault_ordered n (BadPlan code) = refl
+fault_ordered n Memory = refl

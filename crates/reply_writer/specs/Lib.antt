@@ -1,0 +1,4 @@
+pub mod Shapes
+pub mod RecordShapes
+pub mod ReplyShapes
+pub mod Laws

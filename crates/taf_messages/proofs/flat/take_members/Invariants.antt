@@ -1,7 +1,0 @@
-use Rattle.std.proofs.Common.{◌≡◌, ◌++◌}
-use Rattle.taf_messages.specs.Flat.{AreSpelt, member_tokens}
-use Rattle.taf_messages.proofs.flat.take_members.Given as goal
-
--- the members so far come before what is to come
-abbrev pub invariant-loop-i : goal.invariant-loop-i
-invariant-loop-i l = AreSpelt l.members.items × (l.initial.reader ≡ member_tokens l.members.items ++ l.reader)

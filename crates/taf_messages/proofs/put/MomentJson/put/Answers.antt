@@ -1,7 +1,0 @@
-use Rattle.std.proofs.Common.{◌≡◌, true, sym, subst}
-use Rattle.taf_messages.specs.Writing.{is_plain}
-use Rattle.taf_messages.proofs.PlainLemmas.{moment_is_plain}
-use Rattle.taf_messages.proofs.put.MomentJson.put.Goals as goal
-
-pub string-requires : goal.string-requires
-string-requires c = subst (λ text. is_plain text ≡ true) (sym c.as_str.ensures) (moment_is_plain c.text.result c.args.self.now c.text.ensures.read)

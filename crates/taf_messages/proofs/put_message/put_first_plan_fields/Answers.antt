@@ -1,6 +1,0 @@
-use Rattle.taf_messages.specs.Shapes.{first_plan_fields}
-use Rattle.taf_messages.proofs.put_message.put_first_plan_fields.Goals as goal
-
-pub returns-clause-ok : goal.returns-clause-ok
-unfolding first_plan_fields
-returns-clause-ok c = cc (c.in_ok-put_field.ensures.ok, c.in_ok-put_field-2.ensures.ok, c.in_ok-put_field-3.ensures.ok, c.in_ok-put_field-4.ensures.ok, c.in_ok-put_field-5.ensures.ok)

@@ -1,7 +1,0 @@
-use Rattle.taf_messages.specs.ReplyShapes.{reply_fields}
-use Rattle.taf_messages.proofs.put_reply.ReplyObject.put_members.Goals as goal
-
-pub returns-in_ok-put_text-in-Acknowledged-clause-ok : goal.returns-in_ok-put_text-in-Acknowledged-clause-ok
-unfolding reply_fields
-returns-in_ok-put_text-in-Acknowledged-clause-ok c =
-    rw c.in-Acknowledged.is (cc (c.in_ok-put_field-in-Acknowledged.ensures.ok, c.in_ok-put_text-in-Acknowledged.ensures.ok))

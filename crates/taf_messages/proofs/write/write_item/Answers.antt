@@ -1,7 +1,0 @@
-use Rattle.taf_messages.specs.ReplyShapes.{item_data}
-use Rattle.taf_messages.proofs.NumberLemmas.{read_result}
-use Rattle.taf_messages.proofs.ShapeLemmas.{item_ordered}
-use Rattle.taf_messages.proofs.write.write_item.Goals as goal
-
-pub returns-clause-read_back : goal.returns-clause-read_back
-returns-clause-read_back c = read_result c.text_of.result (λ text. text.items) (item_data c.args.item.now) (item_ordered 123 c.args.item.now) c.text_of.ensures.text c.text_of.ensures.small

@@ -1,7 +1,0 @@
-use Rattle.taf_messages.specs.ReplyShapes.{reply_data}
-use Rattle.taf_messages.proofs.NumberLemmas.{read_result}
-use Rattle.taf_messages.proofs.ShapeLemmas.{reply_ordered}
-use Rattle.taf_messages.proofs.write.write_reply.Goals as goal
-
-pub returns-clause-read_back : goal.returns-clause-read_back
-returns-clause-read_back c = read_result c.text_of.result (λ text. text.items) (reply_data c.args.reply.now) (reply_ordered 121 c.args.reply.now) c.text_of.ensures.text c.text_of.ensures.small
