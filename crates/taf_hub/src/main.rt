@@ -1,43 +1,16 @@
-//! The program `taf_hub`: its words, its faults and its statuses.
-//!
-//! | command | does | status |
-//! |---|---|---|
-//! | `taf_hub replay` | answers the lines of standard input on standard output, on a new hub, and prints the report of all wagons | 0; 3 reading or writing failed, or no end came; 4 memory was refused |
-//! | `taf_hub number TEXT` | prints the vehicle number that TEXT shows in the marked form | 0; 1 TEXT shows none |
-//!
-//! `--help` prints clap's help, with status 0. Words that name no command end with status 2 and
-//! clap's text on standard error. A fault is one line on standard error.
+//! The program `taf_hub`: standard input, standard output, standard error and the status. What its words mean is told
+//! in `hub_commands`.
 #![tactic(auto)]
 
-mod fault;
-mod number;
-mod perform;
-mod replay;
-mod task;
-#[cfg(test)]
-mod tests;
-
-use crate::fault::Fault;
-use crate::perform::perform;
+use hub_commands::{perform, tell, words};
+use std::io;
 use std::process::ExitCode;
-use std::{env, io};
 
 fn main(rt: HostRuntime) -> ExitCode {
-    let Ok(args) = env::args(&rt) else {
-        return ExitCode::from(2);
-    };
-    let words: Vec<String> = match args.collect(rt.alloc()) {
-        Ok(words) => words,
-        Err(_refused) => return ExitCode::from(Fault::Memory.status()),
-    };
-    let output = io::writer(&rt);
     let mut errors = rt.stderr();
-    ExitCode::from(perform(
-        &rt,
-        rt.alloc(),
-        words.as_slice(),
-        rt.reader(),
-        output,
-        &mut errors,
-    ))
+    let status = match words(&rt) {
+        Ok(words) => perform(&rt, &words, rt.reader(), io::writer(&rt), &mut errors),
+        Err(fault) => tell(fault, &mut errors),
+    };
+    ExitCode::from(status)
 }

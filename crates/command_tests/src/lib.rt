@@ -1,0 +1,14 @@
+//! Tests of what the programs do with their words. There is nothing else here.
+//!
+//! | part | tests |
+//! |---|---|
+//! | `commands` | the commands of `taf_hub`: their texts, their faults and their statuses |
+//! | `benchmarks` | the words of `bench`, and how many lines each benchmark prints |
+//!
+//! The tests stand apart from the crates that they test, since a crate with tests is proved twice.
+#![tactic(auto)]
+
+#[cfg(test)]
+mod benchmarks;
+#[cfg(test)]
+mod commands;

@@ -1,0 +1,35 @@
+-- The faults of the program and its statuses.
+use Rattle.std.specs.Prelude.{ℕ}
+use Rattle.std.specs.declared.io.ErrorKind.{ErrorKind}
+use Rattle.std.specs.declared.io.ErrorKind.TheVariants.{OutOfMemory}
+use Rattle.wagon_number.specs.declared.fault.NumberFault.{NumberFault}
+use Rattle.wagon_number.specs.declared.fault.NumberFault.TheVariants as of_number
+use Rattle.hub_replay.specs.declared.fault.RunFault.{RunFault}
+use Rattle.hub_replay.specs.declared.fault.RunFault.TheVariants as of_run
+use Rattle.hub_commands.specs.declared.fault.Fault.{Fault}
+use Rattle.hub_commands.specs.declared.fault.Fault.TheVariants.{Words, NotTwelveDigits, BadCheckDigit, Read, Write, NoEnd, Memory}
+
+-- 1: the text is refused; 2: no words; 3: a stream failed or has no end; 4: memory was refused
+abbrev pub status_of : Fault → ℕ
+status_of Words = 2
+status_of NotTwelveDigits = 1
+status_of BadCheckDigit = 1
+status_of Read = 3
+status_of Write = 3
+status_of NoEnd = 3
+status_of Memory = 4
+
+-- why the words of the command line were not read
+abbrev pub fault_of_words : ErrorKind → Fault
+fault_of_words OutOfMemory = Memory
+fault_of_words _ = Words
+
+abbrev pub fault_of_number : NumberFault → Fault
+fault_of_number of_number.NotTwelveDigits = NotTwelveDigits
+fault_of_number of_number.BadCheckDigit = BadCheckDigit
+
+abbrev pub fault_of_run : RunFault → Fault
+fault_of_run of_run.Read = Read
+fault_of_run of_run.Write = Write
+fault_of_run of_run.NoEnd = NoEnd
+fault_of_run of_run.Memory = Memory

@@ -1,0 +1,96 @@
+ghost use Rattle.std.specs.Prelude.{◌≡◌};
+ghost use Rattle.std.specs.IoError.{error_kind};
+ghost use Rattle.hub_commands.specs.Statuses.{status_of, fault_of_words, fault_of_number, fault_of_run};
+ghost use Rattle.hub_commands.specs.declared.fault.Fault.TheVariants as faults;
+
+use hub_replay::RunFault;
+use std::alloc::AllocError;
+use std::io;
+use std::io::ErrorKind;
+use taf_codes::Memory;
+use thiserror::Error;
+use wagon_number::NumberFault;
+
+/// Why a command did not do what it is for.
+#[derive(Clone, Copy, Debug, PartialEq, Eq, Error)]
+pub enum Fault {
+    #[error("fault: words")]
+    Words,
+    #[error("fault 1: not twelve digits")]
+    NotTwelveDigits,
+    #[error("fault 2: bad check digit")]
+    BadCheckDigit,
+    #[error("fault: read")]
+    Read,
+    #[error("fault: write")]
+    Write,
+    #[error("fault: no end")]
+    NoEnd,
+    #[error("fault: memory")]
+    Memory,
+}
+
+impl Fault {
+    /// Why the words of the command line were not read.
+    pub fn of_words(error: io::Error) -> Fault
+        ensures { result ≡ fault_of_words (error_kind error) }
+    {
+        match error.kind() {
+            ErrorKind::OutOfMemory => Fault::Memory,
+            _ => Fault::Words,
+        }
+    }
+
+    /// The status that the program ends with: 1 for a text that is no number, 2 where the words
+    /// could not be read, 3 where reading or writing failed, 4 where memory was refused.
+    pub fn status(self) -> u8
+        ensures { result ≡ status_of self }
+    {
+        match self {
+            Fault::NotTwelveDigits | Fault::BadCheckDigit => 1,
+            Fault::Words => 2,
+            Fault::Read | Fault::Write | Fault::NoEnd => 3,
+            Fault::Memory => 4,
+        }
+    }
+}
+
+impl From<Memory> for Fault {
+    ghost from_gives = { λ _ fault. fault ≡ faults.Memory };
+
+    fn from(_refused: Memory) -> Fault {
+        Fault::Memory
+    }
+}
+
+impl From<AllocError> for Fault {
+    ghost from_gives = { λ _ fault. fault ≡ faults.Memory };
+
+    fn from(_refused: AllocError) -> Fault {
+        Fault::Memory
+    }
+}
+
+impl From<NumberFault> for Fault {
+    ghost from_gives = { λ number fault. fault ≡ fault_of_number number };
+
+    fn from(fault: NumberFault) -> Fault {
+        match fault {
+            NumberFault::NotTwelveDigits => Fault::NotTwelveDigits,
+            NumberFault::BadCheckDigit => Fault::BadCheckDigit,
+        }
+    }
+}
+
+impl From<RunFault> for Fault {
+    ghost from_gives = { λ run fault. fault ≡ fault_of_run run };
+
+    fn from(fault: RunFault) -> Fault {
+        match fault {
+            RunFault::Read => Fault::Read,
+            RunFault::Write => Fault::Write,
+            RunFault::NoEnd => Fault::NoEnd,
+            RunFault::Memory => Fault::Memory,
+        }
+    }
+}

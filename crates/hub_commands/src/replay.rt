@@ -1,0 +1,52 @@
+use crate::fault::Fault;
+use hub_core::Hub;
+use hub_replay::run;
+use std::alloc::Global;
+use std::io::{BufWriter, Read, Write};
+use std::mem::forget;
+use std::thread::Threads;
+use taf_codes::Std;
+use wimo_report::lines;
+
+// How many bytes of replies are gathered before they are written.
+const GATHERED: usize = 65_536;
+
+/// Answers the lines of the input on the output, on a new hub, and then prints the report of all
+/// wagons.
+pub fn perform<R: Read + Drop, W: Write + Drop>(
+    rt: &(impl Threads + Sync),
+    alloc: Global,
+    input: R,
+    output: W,
+) -> Result<u8, Fault> {
+    let Ok(gathered) = BufWriter::with_capacity(alloc, GATHERED, output) else {
+        return Err(Fault::Memory);
+    };
+    let mut reader = Std::new(input);
+    let mut writer = Std::new(gathered);
+    let mut hub = Hub::new(alloc);
+    run(rt, alloc, &mut reader, &mut writer, &mut hub)?;
+    let view = hub.view()?;
+    let report = lines(rt, alloc, &view)?;
+    let mut printed = writer.into_inner();
+    print(&mut printed, &report)?;
+    // The program ends here. To give back the memory of each call would take as long as many calls.
+    forget(hub);
+    Ok(0)
+}
+
+// Prints lines, and sends them on.
+fn print<W: Write>(output: &mut W, lines: &[String]) -> Result<(), Fault> {
+    for line in lines {
+        let Ok(()) = output.write_all(line.as_bytes()) else {
+            return Err(Fault::Write);
+        };
+        let Ok(()) = output.write_all(b"\n") else {
+            return Err(Fault::Write);
+        };
+    }
+    match output.flush() {
+        Ok(()) => Ok(()),
+        Err(_failed) => Err(Fault::Write),
+    }
+}
