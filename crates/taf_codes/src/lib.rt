@@ -31,8 +31,6 @@ mod memory;
 mod name;
 mod name_text;
 mod streams;
-#[cfg(test)]
-mod tests;
 mod text;
 mod unit_digit;
 

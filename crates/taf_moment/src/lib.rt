@@ -21,8 +21,6 @@ mod fault;
 mod laws;
 mod moment;
 mod reading;
-#[cfg(test)]
-mod tests;
 mod text;
 
 pub use fault::BadMoment;

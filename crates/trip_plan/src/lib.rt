@@ -33,8 +33,6 @@ mod parts;
 mod plan;
 mod route;
 mod rules;
-#[cfg(test)]
-mod tests;
 
 pub use fault::PlanFault;
 pub use parts::{Leg, Load, UnitLoad};

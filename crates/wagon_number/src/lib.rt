@@ -22,8 +22,6 @@ mod digits;
 mod fault;
 mod laws;
 mod number;
-#[cfg(test)]
-mod tests;
 mod text;
 
 pub use digits::check_digit;

@@ -1,5 +1,5 @@
-use crate::{BadMoment, Moment};
 use std::test::Fail;
+use taf_moment::{BadMoment, Moment};
 
 #[test]
 fn moments_are_read_and_printed(rt: HostRuntime) -> Result<(), Fail> {

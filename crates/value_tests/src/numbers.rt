@@ -1,5 +1,5 @@
-use crate::{NumberFault, WagonNumber, check_digit};
 use std::test::Fail;
+use wagon_number::{NumberFault, WagonNumber, check_digit};
 
 #[test]
 fn check_digits_go_by_the_rule(rt: HostRuntime) -> Result<(), Fail> {
