@@ -47,7 +47,8 @@ impl Happened {
         }
     }
 
-    fn delay(self) -> Option<Delay>
+    /// The delay of an exception, in minutes.
+    pub fn delay(self) -> Option<Delay>
         ensures { result ≡ happened_delay self }
     {
         match self {
@@ -56,7 +57,8 @@ impl Happened {
         }
     }
 
-    fn leg(self) -> Option<LegIndex>
+    /// The leg that was timed, or the first that a reroute set.
+    pub fn leg(self) -> Option<LegIndex>
         ensures { result ≡ happened_leg self }
     {
         match self {
@@ -65,7 +67,8 @@ impl Happened {
         }
     }
 
-    fn minutes(self) -> Option<LegMinutes>
+    /// The minutes of a leg that was timed.
+    pub fn minutes(self) -> Option<LegMinutes>
         ensures { result ≡ happened_minutes self }
     {
         match self {
@@ -74,7 +77,8 @@ impl Happened {
         }
     }
 
-    fn place(self) -> Option<Place>
+    /// The yard or the place of interchange that the message names.
+    pub fn place(self) -> Option<Place>
         ensures { result ≡ happened_place self }
     {
         match self {
@@ -84,7 +88,8 @@ impl Happened {
         }
     }
 
-    fn received(self) -> Option<bool>
+    /// Of an answer, whether it received the wagon.
+    pub fn received(self) -> Option<bool>
         ensures { result ≡ happened_received self }
     {
         match self {
