@@ -1,12 +1,14 @@
 -- What is known of an offer by what was made.
-use Rattle.std.proofs.Common.{◌≡◌, ℕ, Bool, true, false, List, Option, Some, None, if◌then◌else◌, refl, ap, sym, ◌∙◌, bytes_eq, ◌==◌, option_map}
+use Rattle.std.proofs.Common.{◌≡◌, ℕ, Bool, true, false, List, [], ◌∷◌, Option, Some, None, if◌then◌else◌, refl, ap, sym, ◌∙◌, bytes_eq, ◌==◌, option_map}
 use Rattle.taf_codes.specs.Equality.{texts, numbers, both}
 use Rattle.taf_codes.specs.declared.code.Railway.{Railway}
 use Rattle.replay_numbers.specs.Names.{same_name}
 use Rattle.std.specs.Option.{option_map_or}
+use Rattle.std.specs.Map.{set_value}
+use Rattle.std.proofs.lemmas.Option.{same_Some}
 use Rattle.interchange.specs.declared.offer.Offer.{Offer}
 use Rattle.interchange.specs.declared.offer.Made.{Made}
-use Rattle.interchange.specs.Made.{made_as, closed}
+use Rattle.interchange.specs.Made.{made_as, closed, closed_in}
 
 -- where there is no offer, none was made
 pub none_made : (made : Option Made) → option_map (λ m. m.offer) made ≡ None → made ≡ None
@@ -40,3 +42,16 @@ made_as-closed before after by number made found written also other = written (a
     here : (same : Bool) → same_name by number also other ≡ same → (if same then Some (closed made) else made_as before also other) ≡ (if same then option_map closed (made_as before also other) else made_as before also other)
     here true e = ap (option_map closed) (sym (same_made before by number also other e ∙ found))
     here false e = refl
+
+-- the offers once the closed one is written over the open one
+pub set_value-closed : (offers : List ((Railway × ℕ) × Made)) (by : Railway) (number : ℕ) (made : Made) → made_as offers by number ≡ Some made
+    → set_value (λ name. same_name by number name.0 name.1) offers (closed made) ≡ closed_in offers by number
+set_value-closed [] by number made found = refl
+set_value-closed (first ∷ offers) by number made found = here (same_name by number first.0.0 first.0.1) found (set_value-closed offers by number made)
+  where
+    here : (same : Bool) → (if same then Some first.1 else made_as offers by number) ≡ Some made
+        → (made_as offers by number ≡ Some made → set_value (λ n. same_name by number n.0 n.1) offers (closed made) ≡ closed_in offers by number)
+        → (if same then (first.0, closed made) ∷ offers else first ∷ set_value (λ n. same_name by number n.0 n.1) offers (closed made))
+        ≡ (if same then (first.0, closed first.1) ∷ offers else first ∷ closed_in offers by number)
+    here true found rest = ap (λ m. (first.0, closed m) ∷ offers) (sym (same_Some first.1 made found))
+    here false found rest = ap (λ others. first ∷ others) (rest found)

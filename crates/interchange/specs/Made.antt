@@ -1,5 +1,5 @@
 -- The offers that were made, by their names (4.2.8).
-use Rattle.std.specs.Prelude.{ℕ, Bool, false, List, Option, option_map}
+use Rattle.std.specs.Prelude.{ℕ, Bool, false, List, [], ◌∷◌, Option, option_map, if◌then◌else◌}
 use Rattle.std.specs.Option.{option_map_or}
 use Rattle.std.specs.Map.{lookup}
 use Rattle.taf_codes.specs.declared.code.Railway.{Railway}
@@ -19,6 +19,12 @@ made_as offers by number = lookup (λ name. same_name by number name.0 name.1) o
 -- the same offer, which is closed
 abbrev pub closed : Made → Made
 closed made = record made { is_open = false }
+
+-- the offers, of which the one of this name is closed; no other is changed, added or left out
+abbrev pub closed_in : List ((Railway × ℕ) × Made) → Railway → ℕ → List ((Railway × ℕ) × Made)
+closed_in [] by number = []
+closed_in (made ∷ offers) by number =
+    if same_name by number made.0.0 made.0.1 then (made.0, closed made.1) ∷ offers else made ∷ closed_in offers by number
 
 -- the offer of a name
 abbrev pub offer_of : Table → Railway → ℕ → Option Offer

@@ -4,7 +4,7 @@ ghost use Rattle.std.specs.Option.{option_map};
 ghost use Rattle.indexmap.specs.IndexMap.{spare};
 ghost use Rattle.taf_codes.specs.declared.code.Railway.{Railway};
 ghost use Rattle.replay_numbers.specs.Names.{same_name};
-ghost use Rattle.interchange.specs.Made.{made_as, closed};
+ghost use Rattle.interchange.specs.Made.{made_as, closed, closed_in};
 
 use crate::offer::Made;
 use indexmap::IndexMap;
@@ -18,6 +18,7 @@ pub fn close(
     number: MessageNumber,
 )
     requires { IsSome (made_as made.old.entries by number) }
+    ensures entries { made.new.entries ≡ closed_in made.old.entries by number }
     ensures closed { (also : Railway) (other : ℕ) → made_as made.new.entries also other ≡ (if same_name by number also other then option_map closed (made_as made.old.entries also other) else made_as made.old.entries also other) }
     ensures room { spare made.new ≡ spare made.old }
 {

@@ -2,7 +2,7 @@ ghost use Rattle.std.specs.Prelude.{◌≡◌, ℕ, ◌+◌, ◌<◌, ◌≤◌,
 ghost use Rattle.std.specs.Option.{option_copied};
 ghost use Rattle.taf_codes.specs.declared.code.Railway.{Railway};
 ghost use Rattle.replay_numbers.specs.Names.{same_name};
-ghost use Rattle.interchange.specs.Made.{offer_of, stands};
+ghost use Rattle.interchange.specs.Made.{offer_of, stands, closed_in};
 
 use crate::made::close;
 use crate::offer::{Made, Offer};
@@ -100,9 +100,10 @@ impl Offers {
         Ok(())
     }
 
-    /// Closes an open offer, which is still found. Takes no memory.
+    /// Closes an open offer, which keeps its place among the offers and is still found. Takes no memory.
     pub fn close_offer(&mut self, by: Railway, number: MessageNumber)
         requires { stands self.old by number ≡ true }
+        ensures offers { self.new.offers ≡ closed_in self.old.offers by number }
         ensures finds { (also : Railway) (other : ℕ) → offer_of self.new also other ≡ offer_of self.old also other }
         ensures closes { (also : Railway) (other : ℕ) → stands self.new also other ≡ (if same_name by number also other then false else stands self.old also other) }
         ensures room { self.old.spare ≤ self.new.spare }

@@ -4,3 +4,4 @@ pub mod Timing
 pub mod Sounding
 pub mod Offering
 pub mod OnItsWay
+pub mod LegsByNewest

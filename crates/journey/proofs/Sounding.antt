@@ -17,7 +17,7 @@ use Rattle.journey.specs.declared.event.Event.{Event}
 use Rattle.journey.specs.declared.event.EventBody.{EventBody}
 use Rattle.journey.specs.declared.event.EventBody.TheVariants.{Planned, Moved, EstimateAsked, LegTimed, Offered, Answered, Withdrawn, Rerouted}
 use Rattle.journey.specs.declared.situation.Situation.{Situation}
-use Rattle.journey.specs.Stages.{stage_after, is_reception, is_departure, is_delivery, taker, plan, plan_in}
+use Rattle.journey.specs.Stages.{stage_after, is_reception, is_departure, is_delivery, taker, is_plan, plan, plan_in, has_later_plan}
 use Rattle.journey.specs.Legs.{HasRoom, HaveRoom, legs_after, index_after, lead_of, lead_in, yard_in}
 use Rattle.journey.specs.Situations.{situation, situation_after}
 use Rattle.journey.specs.Checks.{checks, route_checks, same_stage}
@@ -183,6 +183,20 @@ no_plan s by (Answered place received) r = refl
 no_plan s by (Withdrawn place) r = refl
 no_plan s by (Rerouted route) r = refl
 
+is_plan-in : (body : EventBody) → plan_in body ≡ None → is_plan body ≡ false
+is_plan-in (Planned plan) h = cc
+is_plan-in (Moved what) h = refl
+is_plan-in EstimateAsked h = refl
+is_plan-in (LegTimed leg minutes) h = refl
+is_plan-in (Offered place to) h = refl
+is_plan-in (Answered place received) h = refl
+is_plan-in (Withdrawn place) h = refl
+is_plan-in (Rerouted route) h = refl
+
+has_later_plan-push : (events : List Event) (e : Event) → is_some (first_plan events) ≡ true → has_later_plan (events ++ e ∷ []) ≡ (has_later_plan events || is_plan e.body)
+has_later_plan-push [] e h = cc
+has_later_plan-push (d ∷ events) e h = any-push (λ x. is_plan x.body) events e
+
 first_plan-push : (events : List Event) (e : Event) → is_some (first_plan events) ≡ true → first_plan (events ++ e ∷ []) ≡ first_plan events
 first_plan-push [] e h = cc
 first_plan-push (d ∷ events) e h = refl
@@ -200,9 +214,11 @@ pub kept-push : (events : List Event) (s next : Situation) (e : Event) → IsKep
 kept-push events s next e k r is =
     let first = first_plan-push events e k.planned in
     let admitted : first_of (checks s e.by e.body) ≡ None = ap (λ t. first_of (checks t e.by e.body)) k.situation_is ∙ r in
+    let no_plan_here = is_plan-in e.body (no_plan (situation events) e.by e.body r) in
     record {
       planned = ap is_some first ∙ k.planned;
       one_plan = plan-kept events e r ∙ k.one_plan ∙ sym first;
+      no_later_plan = has_later_plan-push events e k.planned ∙ ap (λ b. has_later_plan events || b) no_plan_here ∙ ap (λ b. b || false) k.no_later_plan;
       have_room = have_room_from 0 events e k.have_room (has_room (situation events) e.by e.body r);
       situation_is = is ∙ ap (λ t. situation_after t e) k.situation_is ∙ sym (situation-push events e);
       sound = rw is (sound-after s e k.sound admitted);

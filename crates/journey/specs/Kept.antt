@@ -1,11 +1,11 @@
 -- What a track and a step keep.
-use Rattle.std.specs.Prelude.{◌≡◌, ◌+◌, ◌<◌, ◌≤◌, true, List, [], ◌∷◌, length, slice_index_or, Option, Some, None, is_some}
+use Rattle.std.specs.Prelude.{◌≡◌, ◌+◌, ◌<◌, ◌≤◌, true, false, List, [], ◌∷◌, length, slice_index_or, Option, Some, None, is_some}
 use Rattle.trip_plan.specs.Trip.{Trip}
 use Rattle.taf_messages.specs.declared.record.Stage.TheVariants as stage_is
 use Rattle.journey.specs.declared.event.Event.{Event}
 use Rattle.journey.specs.declared.event.EventBody.TheVariants.{EstimateAsked}
 use Rattle.journey.specs.declared.situation.Situation.{Situation}
-use Rattle.journey.specs.Stages.{plan, plan_in}
+use Rattle.journey.specs.Stages.{plan, plan_in, has_later_plan}
 use Rattle.journey.specs.Legs.{HaveRoom}
 use Rattle.journey.specs.Journey.{Onward, after}
 use Rattle.journey.specs.Situations.{situation}
@@ -23,10 +23,11 @@ abbrev pub first_plan : List Event → Option Trip
 first_plan [] = None
 first_plan (e ∷ events) = plan_in e.body
 
--- the first event is the plan of the journey, and the kept situation is that of the events
+-- the first event is the only plan of the journey, and the kept situation is that of the events
 pub record IsKept (events : List Event) (s : Situation) : Type 0 where
   pub planned : is_some (first_plan events) ≡ true
   pub one_plan : plan events ≡ first_plan events
+  pub no_later_plan : has_later_plan events ≡ false
   pub have_room : HaveRoom 0 events
   pub situation_is : s ≡ situation events
   pub sound : IsSound s

@@ -5,3 +5,4 @@ pub mod Situations
 pub mod Checks
 pub mod Journey
 pub mod Kept
+pub mod NewestLegs

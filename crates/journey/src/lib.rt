@@ -26,6 +26,9 @@
 //!   once, for all that is asked of the event.
 //! - [`Legs`] are the one to eight legs of a wagon, kept in place.
 //!
+//! The legs are defined from event to event. [`legs_are_what_the_newest_event_sets`] is the law that they are what a
+//! rule over all events says (`specs/NewestLegs.antt`).
+//!
 //! Promised: each answer is that of the definitions over the track's own events, for every journey. A wagon is
 //! always on one of its legs, of which there are at most eight. Only `open`, `add` and `prepared` take memory.
 #![tactic(auto)]
@@ -34,6 +37,7 @@ mod checks;
 mod effects;
 mod event;
 mod events;
+mod laws;
 mod legs;
 mod prepared;
 mod situation;
@@ -42,6 +46,7 @@ mod track;
 
 pub use event::{Event, EventBody};
 pub use events::Events;
+pub use laws::legs_are_what_the_newest_event_sets;
 pub use legs::Legs;
 pub use prepared::Prepared;
 pub use situation::Situation;

@@ -34,7 +34,8 @@ impl Model for Track {
 }
 
 impl Track {
-    ghost use Rattle.std.specs.Prelude.{slice_get};
+    ghost use Rattle.std.specs.Prelude.{false, slice_get, option_map};
+    ghost use Rattle.journey.specs.declared.event.EventBody.TheVariants.{Planned};
     ghost use Rattle.journey.specs.Journey.{onward};
     ghost use Rattle.journey.specs.Stages as of;
     ghost use Rattle.journey.specs.Legs as legs_of;
@@ -108,9 +109,11 @@ impl Track {
         &self.events
     }
 
-    /// The plan that the journey begins with.
+    /// The plan that the journey begins with. It has no other.
     pub fn plan(&self) -> &Plan
-        ensures { of.plan self.now.events ≡ Some result.now }
+        ensures newest { of.plan self.now.events ≡ Some result.now }
+        ensures first { option_map (λ e. e.body) (slice_get self.now.events 0) ≡ Some (Planned result.now) }
+        ensures only { of.has_later_plan self.now.events ≡ false }
     {
         match self.events.first() {
             Some(event) => match &event.body {
