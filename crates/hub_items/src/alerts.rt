@@ -1,5 +1,5 @@
 //! The alerts of wagons that are late.
-ghost use Rattle.std.specs.Prelude.{◌≡◌, ◌++◌, IfOk, OnOk};
+ghost use Rattle.std.specs.Prelude.{◌≡◌, ◌++◌, Some, IfOk, OnOk};
 ghost use Rattle.hub_model.specs.Items as of;
 ghost use Rattle.journey.specs.Journey.{after};
 
@@ -20,12 +20,24 @@ pub(crate) fn put_alerts(
     ensures { OnOk result (items.new.items ≡ items.old.items ++ of.alert_items progress.now.before (after progress.now) progress.now.wagon) }
 {
     match alert(progress) {
-        Some(says) => {
-            put_each(items, &says, alerted(alloc, progress)?.as_slice())?;
-            Ok(())
-        }
+        Some(says) => put_alert(alloc, items, progress, &says),
         None => Ok(()),
     }
+}
+
+// Adds the items of the alert that says this.
+fn put_alert(
+    alloc: Global,
+    items: &mut Vec<Addressed>,
+    progress: &Progress<'_>,
+    says: &ItemBody,
+) -> Result<(), Memory>
+    requires { of.alert progress.now.before (after progress.now) progress.now.wagon ≡ Some says.now }
+    ensures { OnOk result (items.new.items ≡ items.old.items ++ of.alert_items progress.now.before (after progress.now) progress.now.wagon) }
+{
+    let railways = alerted(alloc, progress)?;
+    put_each(items, says, railways.as_slice())?;
+    Ok(())
 }
 
 // An alert begins or ends, or neither.

@@ -3,3 +3,4 @@ pub mod Going
 pub mod Fleet
 pub mod Beginning
 pub mod Taken
+pub mod Made

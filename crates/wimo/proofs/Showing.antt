@@ -1,13 +1,17 @@
 -- Lists of what is shown.
-use Rattle.std.proofs.Common.{◌≡◌, ℕ, ◌+◌, zero, suc, List, [], ◌∷◌, ◌++◌, Option, Some, None, refl, ap, sym, ◌∙◌, arith, add-one}
+use Rattle.std.proofs.Common.{◌≡◌, ℕ, ◌+◌, ◌<◌, ◌==◌, zero, suc, Bool, true, false, cond, List, [], ◌∷◌, ◌++◌, length, get_or, take, map, filter, Option, Some, None, refl, ap, sym, ◌∙◌, append_assoc, arith, add-one}
 use Rattle.std.specs.Prelude.{filter_map}
 use Rattle.std.specs.Option.{option_to_list}
 use Rattle.std.specs.List.{range_with_len, cons_option}
-use Rattle.std.proofs.lemmas.List.Elements.{filter_map-append}
+use Rattle.std.proofs.lemmas.List.{map-append}
+use Rattle.std.proofs.lemmas.List.Elements.{filter_map-append, filter_more}
+use Rattle.taf_codes.specs.declared.code.UnitCode.{UnitCode}
+use Rattle.trip_plan.specs.declared.parts.UnitLoad.{UnitLoad}
+use Rattle.taf_messages.specs.declared.event.RecordEvent.{RecordEvent}
 use Rattle.taf_messages.specs.declared.record.EstimateAt.{EstimateAt}
 use Rattle.journey.specs.declared.event.Event.{Event}
 use Rattle.journey.specs.Legs.{HaveRoom, index_after}
-use Rattle.wimo.specs.Records.{record_event, record_events, leg_behind}
+use Rattle.wimo.specs.Records.{record_event, record_events, leg_behind, units_among}
 
 -- an estimate of leg j
 abbrev pub at_leg : ℕ → ℕ → EstimateAt
@@ -45,3 +49,36 @@ room-first c (e ∷ xs) ys h = (h.0, room-first (index_after c e.body) xs ys h.1
 pub room-behind : (c : ℕ) (xs ys : List Event) → HaveRoom c (xs ++ ys) → HaveRoom (leg_behind c xs) ys
 room-behind c [] ys h = h
 room-behind c (e ∷ xs) ys h = room-behind (index_after c e.body) xs ys h.1
+
+-- ---- one event more
+
+-- what is shown with it
+pub shown_more : (before after : List RecordEvent) (c n : ℕ) (e : Event) (rest : List Event) (all : List RecordEvent) → after ≡ before ++ record_event c e ∷ [] → n ≡ index_after c e.body →
+    before ++ record_events c (e ∷ rest) ≡ all → after ++ record_events n rest ≡ all
+shown_more before after c n e rest all here next whole =
+    ap (λ (l : List RecordEvent). l ++ record_events n rest) here ∙ ap (λ (m : ℕ). (before ++ record_event c e ∷ []) ++ record_events m rest) next ∙
+    append_assoc before (record_event c e ∷ []) (record_events (index_after c e.body) rest) ∙ whole
+
+-- the leg behind all
+pub leg_more : (c n : ℕ) (e : Event) (rest : List Event) (last : ℕ) → n ≡ index_after c e.body → leg_behind c (e ∷ rest) ≡ last → leg_behind n rest ≡ last
+leg_more c n e rest last next whole = ap (λ m. leg_behind m rest) next ∙ whole
+
+-- those behind it have room for their legs
+pub room_more : (c n : ℕ) (e : Event) (rest : List Event) → n ≡ index_after c e.body → HaveRoom c (e ∷ rest) → HaveRoom n rest
+room_more c n e rest next room = rw next room.1
+
+-- ---- one load more
+
+unit_if : (is_on : Bool) (load : UnitLoad) → cond is_on (load.unit ∷ []) [] ≡ map (λ l. l.unit) (cond is_on (load ∷ []) [])
+unit_if true load = refl
+unit_if false load = refl
+
+-- the units on the wagon with it
+pub units_more : (loads : List UnitLoad) (wagon i : ℕ) (load : UnitLoad) → i < length loads → load ≡ get_or loads i load → (before after : List UnitCode) → before ≡ units_among (take i loads) wagon →
+    (is_on : Bool) → is_on ≡ (load.wagon == wagon) → after ≡ before ++ cond is_on (load.unit ∷ []) [] → after ≡ units_among (take (i + 1) loads) wagon
+units_more loads wagon i load here is before after whole is_on test put =
+    let units : List UnitLoad → List UnitCode = map (λ l. l.unit) in
+    let picked : cond (load.wagon == wagon) (load.unit ∷ []) [] ≡ units (cond (load.wagon == wagon) (load ∷ []) []) = unit_if (load.wagon == wagon) load in
+    put ∙ ap (λ l. l ++ cond is_on (load.unit ∷ []) []) whole ∙ ap (λ b. units_among (take i loads) wagon ++ cond b (load.unit ∷ []) []) test ∙ ap (λ l. units_among (take i loads) wagon ++ l) picked ∙
+    sym (map-append (λ l. l.unit) (filter (λ l. l.wagon == wagon) (take i loads)) (cond (load.wagon == wagon) (load ∷ []) [])) ∙
+    ap (λ l. units (filter (λ l. l.wagon == wagon) (take i loads) ++ cond (l.wagon == wagon) (l ∷ []) [])) is ∙ sym (ap units (filter_more (λ l. l.wagon == wagon) loads i load here))

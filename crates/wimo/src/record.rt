@@ -138,9 +138,7 @@ fn show_row(
     for event in row {
         let what = shown_as(current, &event.body);
         shown.push(recorded(event, what))?;
-        if let EventBody::Answered { received: true, .. } = event.body {
-            current += 1;
-        }
+        current = leg_after(current, &event.body);
     }
     Ok((shown, current))
 }
@@ -160,11 +158,22 @@ fn show_joined(
     for event in joined.iter() {
         let what = shown_as(current, &event.body);
         shown.push(recorded(event, what))?;
-        if let EventBody::Answered { received: true, .. } = event.body {
-            current += 1;
-        }
+        current = leg_after(current, &event.body);
     }
     Ok(Listed::from_vec(shown))
+}
+
+// The leg after an event.
+fn leg_after(current: usize, body: &EventBody) -> usize
+    requires { current + 1 < 2 ^ 64 }
+    ensures value { result ≡ index_after current body.now }
+    ensures next { result ≤ current + 1 }
+{
+    if let EventBody::Answered { received: true, .. } = body {
+        current + 1
+    } else {
+        current
+    }
 }
 
 // An event of which this is shown.

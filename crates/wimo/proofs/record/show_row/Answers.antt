@@ -1,0 +1,39 @@
+use Rattle.std.proofs.Common.{◌≡◌, ◌+◌, [], ◌∷◌, ◌++◌, drop, ap, sym, ◌∙◌, arith}
+use Rattle.std.proofs.lemmas.List.{append-nil, at_drop_all, at_drop_more}
+use Rattle.wimo.proofs.Showing.{shown_more, leg_more, room_more}
+use Rattle.wimo.proofs.record.show_row.Goals as goal
+
+pub shown_as-what-requires : goal.shown_as-what-requires
+shown_as-what-requires c =
+    let row = c.args.row.now in
+    let i = c.loop-event.event-index in
+    let event = c.event-item.result in
+    let behind : drop i row ≡ event ∷ drop (i + 1) row = at_drop_more (λ l. l) row i event c.loop-event-test.true ∙ ap (λ e. e ∷ drop (i + 1) row) (sym c.event-item.is) in
+    let room = rw behind at c.loop-event.invariant.room in
+    room.0
+
+pub loop-event-preserved : goal.loop-event-preserved
+loop-event-preserved c =
+    let row = c.args.row.now in
+    let i = c.loop-event.event-index in
+    let current = c.loop-event.current in
+    let event = c.event-item.result in
+    let rest = drop (i + 1) row in
+    let behind : drop i row ≡ event ∷ rest = at_drop_more (λ l. l) row i event c.loop-event-test.true ∙ ap (λ e. e ∷ rest) (sym c.event-item.is) in
+    let here = c.recorded.ensures ∙ ap (λ what. record { by = event.by; no = event.no; at = event.at; what = what }) c.shown_as-what.ensures in
+    let next = c.leg_after-current.ensures in
+    record {
+      shown = shown_more c.loop-event.shown.items c.push.new.self.items current c.leg_after-current.result event rest _ (c.in_ok-push.ensures.items ∙ ap (λ r. c.loop-event.shown.items ++ r ∷ []) (here)) next.value (rw behind at c.loop-event.invariant.shown);
+      leg = leg_more current c.leg_after-current.result event rest _ next.value (rw behind at c.loop-event.invariant.leg);
+      room = room_more current c.leg_after-current.result event rest next.value (rw behind at c.loop-event.invariant.room);
+      small = omega arith;
+    }
+
+pub returns : goal.returns
+returns c =
+    let none : drop c.loop-event.event-index c.args.row.now ≡ [] = at_drop_all (λ l. l) c.args.row.now c.loop-event.event-index (omega arith) in
+    record {
+      shown = sym (append-nil c.loop-event.shown.items) ∙ (rw none at c.loop-event.invariant.shown);
+      leg = rw none at c.loop-event.invariant.leg;
+      small = omega arith;
+    }
