@@ -4,11 +4,11 @@ use crate::journeys::Run;
 use crate::measured::Measured;
 use crate::samples;
 use anyhow::{Result, bail};
+use call_reader::CallReader;
+use reply_writer::append_reply;
 use serde_json::Value;
 use std::alloc::Global;
 use std::time::{Clock, Instant};
-use call_reader::CallReader;
-use reply_writer::append_reply;
 use taf_messages::{Call, Reply, Shared};
 
 /// The lines of departures, read by `serde_json` alone.

@@ -2,10 +2,10 @@
 
 use crate::measured::Measured;
 use anyhow::{Result, bail};
+use call_reader::read_call;
 use hub_core::Hub;
 use std::alloc::Global;
 use std::time::{Clock, Instant};
-use call_reader::read_call;
 use taf_messages::{Call, Reply};
 use wagon_number::WagonNumber;
 
