@@ -14,7 +14,7 @@ use taf_codes::Railway;
 use taf_messages::{MovementKind, Record};
 use taf_moment::Moment;
 use trip_plan::Plan;
-use wimo::record_of;
+use wimo::record_with;
 
 /// A track with what is kept for its estimates.
 #[derive(Drop)]
@@ -82,8 +82,7 @@ impl Run {
         if self.track.admits(&event).is_some() {
             bail!("the sample is refused");
         }
-        let step = self.track.step(&event);
-        if self.estimates().would_pass_calendar(&step) {
+        if self.estimates().would_pass_calendar(&self.track, &event) {
             bail!("the sample passes the calendar");
         }
         if self.track.events().len() >= 1 << 62 {
@@ -103,7 +102,7 @@ impl Run {
 
     /// The record of the wagon.
     pub fn shown(&self, alloc: Global) -> Result<Record> {
-        Ok(record_of(alloc, &self.track, &self.estimates())?)
+        Ok(record_with(alloc, &self.track, &self.estimates())?)
     }
 }
 

@@ -1,2 +1,3 @@
 pub mod Estimates
 pub mod Chains
+pub mod Held

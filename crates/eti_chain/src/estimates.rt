@@ -1,19 +1,22 @@
-ghost use Rattle.std.specs.Prelude.{◌≡◌, List, not, true};
+ghost use Rattle.std.specs.Prelude.{◌≡◌, List, [], ◌∷◌, ◌++◌, None, not, true};
 ghost use Rattle.journey.specs.declared.event.Event.{Event};
+ghost use Rattle.journey.specs.Checks.{refusal};
 ghost use Rattle.journey.specs.Journey.{after};
 ghost use Rattle.eti_chain.specs.Estimates as of;
 
 use crate::anchor::Anchor;
 use crate::basis::Basis;
-use journey::{Legs, Step, Track};
+use crate::held_legs::HeldLegs;
+use journey::{Event, Step, Track};
 use std::marker::Model;
 use taf_moment::Moment;
 
-/// When a wagon is expected at the end of its legs, which are borrowed. None of its calls takes memory.
+/// When a wagon is expected at the end of its legs, which are borrowed until [`Estimates::follow`] copies them in place.
+/// None of its calls takes memory.
 #[derive(Drop)]
 pub struct Estimates<'a> {
     leg_index: usize,
-    legs: &'a Legs,
+    legs: HeldLegs<'a>,
     anchor: Option<Anchor>,
     // The moment that was promised to the customer.
     commit: Moment,
@@ -22,12 +25,13 @@ pub struct Estimates<'a> {
 impl<'a> Model for Estimates<'a> {
     ghost use Rattle.std.specs.Prelude.{Some};
     ghost use Rattle.eti_chain.specs.Chains.{Chain, IsWithin, promised, reckoned_from};
+    ghost use Rattle.eti_chain.specs.Held.{legs_in};
 
     ghost Value = { Chain };
 
-    ghost view = { λ e. promised (reckoned_from e.leg_index e.legs.now e.anchor) (Some e.commit) };
+    ghost view = { λ e. promised (reckoned_from e.leg_index (legs_in e.legs) e.anchor) (Some e.commit) };
 
-    ghost invariant = { λ e. IsWithin (reckoned_from e.leg_index e.legs.now e.anchor) };
+    ghost invariant = { λ e. IsWithin (reckoned_from e.leg_index (legs_in e.legs) e.anchor) };
 }
 
 impl<'a> Estimates<'a> {
@@ -46,7 +50,7 @@ impl<'a> Estimates<'a> {
         } = basis;
         Estimates {
             leg_index,
-            legs,
+            legs: HeldLegs::Lent(legs),
             anchor,
             commit,
         }
@@ -67,8 +71,30 @@ impl<'a> Estimates<'a> {
         Estimates::by(Basis::of(track), track.plan().commit())
     }
 
+    /// Goes on from the estimates of the track to those of the track with the event, which may come next and does not
+    /// pass the calendar. It takes no walk, and copies the legs in place.
+    pub fn follow(&mut self, track: &Track, event: &Event)
+        requires of_track { self.old ≡ chain track.now.events }
+        requires admitted { refusal track.now.events event.now.by event.now.body ≡ None }
+        requires fits { of.fits (track.now.events ++ event.now ∷ []) ≡ true }
+        ensures { self.new ≡ chain (track.now.events ++ event.now ∷ []) }
+    {
+        let step = track.step(event);
+        *self = self.followed(&step).owned();
+    }
+
+    /// Whether with the event, which may come next, an estimate of the track would pass the last minute of the
+    /// calendar, 2199-12-31T23:59Z.
+    pub fn would_pass_calendar(&self, track: &Track, event: &Event) -> bool
+        requires of_track { self.now ≡ chain track.now.events }
+        requires admitted { refusal track.now.events event.now.by event.now.body ≡ None }
+        ensures { result ≡ not (of.fits (track.now.events ++ event.now ∷ [])) }
+    {
+        self.step_passes_calendar(&track.step(event))
+    }
+
     /// Whether with the event of a step an estimate would pass the last minute of the calendar.
-    pub fn would_pass_calendar(&self, step: &Step<'_>) -> bool
+    pub fn step_passes_calendar(&self, step: &Step<'_>) -> bool
         requires { self.now ≡ chain step.now.before }
         ensures { result ≡ not (of.fits (after step.now)) }
     {
@@ -121,8 +147,20 @@ impl<'a> Estimates<'a> {
     {
         Basis {
             leg_index: self.leg_index,
-            legs: self.legs,
+            legs: self.legs.legs(),
             anchor: self.anchor,
+        }
+    }
+
+    // The same estimates, with legs of their own.
+    fn owned<'b>(&self) -> Estimates<'b>
+        ensures { result ≡ self.now }
+    {
+        Estimates {
+            leg_index: self.leg_index,
+            legs: HeldLegs::Own(self.legs.legs().copy()),
+            anchor: self.anchor,
+            commit: self.commit,
         }
     }
 }

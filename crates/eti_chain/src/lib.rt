@@ -7,7 +7,7 @@
 //! on top (`specs/Estimates.antt`). The estimate of the last leg is the estimated time of arrival, which is compared
 //! with the moment that was promised to the customer.
 //!
-//! [`Estimates`] are those of one track, whose legs they borrow. Contracts see them as the `chain` of the track's
+//! [`Estimates`] are those of one track, whose legs they borrow, or copy in place once they follow an event. Contracts see them as the `chain` of the track's
 //! events: the leg index, the legs, the newest anchor with the delays since, and the promised moment
 //! (`specs/Chains.antt`). [`Anchored`] is what is kept for them beside a track: the anchor and the promise alone.
 //!
@@ -15,8 +15,10 @@
 //!   [`Anchored::of`] walk its events.
 //! - [`Anchored::estimates`] gives the estimates of a track without a walk. [`Anchored::add`] and [`Anchored::put`] add
 //!   an event to the track and go on with it.
-//! - [`Estimates::followed`] goes from the estimates of a track to those of the track with the event of a
-//!   [`Step`](journey::Step). [`Estimates::would_pass_calendar`] says beforehand whether one would pass the calendar.
+//! - [`Estimates::follow`] goes from the estimates of a track to those of the track with one event more.
+//!   [`Estimates::would_pass_calendar`] says beforehand whether one would pass the calendar.
+//! - [`Estimates::followed`] and [`Estimates::step_passes_calendar`] do the same by a [`Step`](journey::Step), whose
+//!   situation they don't make anew and whose legs they borrow.
 //! - [`Estimates::estimate`], [`Estimates::eta`], [`Estimates::late`] and [`Estimates::late_by`] read them.
 //!
 //! Promised: each answer is that of the definitions over the track's events, and what `add` and `put` keep is what `of` would
@@ -28,6 +30,7 @@ mod anchor;
 mod anchored;
 mod basis;
 mod estimates;
+mod held_legs;
 
 pub use anchored::Anchored;
 pub use estimates::Estimates;

@@ -54,7 +54,7 @@ fn record_reply(
         return Ok(refused(unknown, told));
     };
     if wimo::may_see(found.track(), by) {
-        let shown = wimo::record_of(alloc, found.track(), &found.estimates())?;
+        let shown = wimo::record_with(alloc, found.track(), &found.estimates())?;
         Ok(Reply::One(Shared::new(alloc, shown)?))
     } else {
         has_record(found);

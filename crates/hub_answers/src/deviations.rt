@@ -64,7 +64,7 @@ fn deviating_record(
 {
     match tables.wagon(wagon) {
         Some(found) if found.estimates().late() && found.is_on(plan) => {
-            let shown = wimo::record_of(alloc, found.track(), &found.estimates())?;
+            let shown = wimo::record_with(alloc, found.track(), &found.estimates())?;
             Ok(Some(shown))
         }
         _ => Ok(None),

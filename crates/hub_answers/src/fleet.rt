@@ -29,7 +29,7 @@ fn record_at(alloc: Global, tables: &Tables, i: usize) -> Result<Record, Memory>
         IfOk result (λ r. (w : WagonNumber) → slice_get s.fleet i ≡ Some w → record_of w (s.journey w) ≡ Some r) }
 {
     match tables.at(i) {
-        Some((_, wagon)) => wimo::record_of(alloc, wagon.track(), &wagon.estimates()),
+        Some((_, wagon)) => wimo::record_with(alloc, wagon.track(), &wagon.estimates()),
         None => unreachable!(),
     }
 }

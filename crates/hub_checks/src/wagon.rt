@@ -133,7 +133,7 @@ fn would_pass_calendar(wagon: &Wagon, event: &Event) -> bool
     ensures { result ≡ not (estimates.fits (wagon.now.events ++ event.now ∷ [])) }
 {
     let step = wagon.track().step(event);
-    wagon.estimates().would_pass_calendar(&step)
+    wagon.estimates().step_passes_calendar(&step)
 }
 
 // An event that is refused where it would make an estimate pass the calendar.

@@ -1,4 +1,4 @@
-ghost use Rattle.std.specs.Prelude.{◌≡◌, ◌<◌, ◌≤◌, ◌+◌, ◌^◌, [], ◌∷◌, ◌++◌, length, bytes_eq, Some, IfOk, OnOk};
+ghost use Rattle.std.specs.Prelude.{◌≡◌, ◌<◌, ◌≤◌, ◌+◌, ◌^◌, [], ◌∷◌, ◌++◌, length, bytes_eq, true, Some, IfOk, OnOk};
 ghost use Rattle.std.specs.List.{list_any};
 ghost use Rattle.journey.specs.Checks.{is_lead};
 ghost use Rattle.journey.specs.Legs.{HasRoom, HaveRoom, index_after};
@@ -19,8 +19,21 @@ use taf_messages::{
 use trip_plan::{Leg, Load, UnitLoad};
 use wagon_number::WagonNumber;
 
-/// What is shown of a wagon: its record, from its track and the track's estimates.
-pub fn record_of(alloc: Global, track: &Track, estimates: &Estimates<'_>) -> Result<Record, Memory>
+/// What is shown of a wagon: its record, from its track, of which no estimate passes the calendar. It walks the events
+/// for the estimates; [`record_with`] is for a caller that has them.
+pub fn record_of(alloc: Global, track: &Track) -> Result<Record, Memory>
+    requires { of.fits track.now.events ≡ true }
+    ensures { IfOk result (λ r. records.record_of track.now.wagon track.now.events ≡ Some r) }
+{
+    record_with(alloc, track, &Estimates::of(track))
+}
+
+/// The same record, from the track and its estimates.
+pub fn record_with(
+    alloc: Global,
+    track: &Track,
+    estimates: &Estimates<'_>,
+) -> Result<Record, Memory>
     requires { estimates.now ≡ chain track.now.events }
     ensures { IfOk result (λ r. records.record_of track.now.wagon track.now.events ≡ Some r) }
 {

@@ -78,12 +78,11 @@ impl Scarcity {
         if !Estimates::fits(track) {
             return Err(Fail::new("past the calendar"));
         }
-        let estimates = Estimates::of(track);
-        if let Ok(shown) = record_of(alloc, track, &estimates) {
+        if let Ok(shown) = record_of(alloc, track) {
             return Ok(shown);
         }
         self.end();
-        Ok(record_of(alloc, track, &estimates)?)
+        Ok(record_of(alloc, track)?)
     }
 
     // The record of the journey, where so many bytes are left for the track.

@@ -13,7 +13,7 @@ use taf_messages::{Delay, LegIndex, LegMinutes, MessageNumber, MovementKind, Rec
 use taf_moment::Moment;
 use trip_plan::{Leg, Load, Plan, Route};
 use wagon_number::WagonNumber;
-use wimo::record_of;
+use wimo::record_with;
 
 /// A number with limits.
 macro_rules! within {
@@ -187,8 +187,7 @@ impl Run {
         if let Some(why) = self.track.admits(&event) {
             return Ok(format!(in alloc; "{why:?}")?);
         }
-        let step = self.track.step(&event);
-        if self.estimates().would_pass_calendar(&step) {
+        if self.estimates().would_pass_calendar(&self.track, &event) {
             return Ok(format!(in alloc; "BeyondCalendar")?);
         }
         if !self.put(event.prepared(alloc)?)? {
@@ -204,17 +203,22 @@ impl Run {
             return Err(Fail::new("refused by a check"));
         }
         let step = self.track.step(next.event());
-        if self.estimates().would_pass_calendar(&step) {
+        if self.estimates().step_passes_calendar(&step) {
             return Err(Fail::new("past the calendar"));
         }
         let stage = step.situation().stage;
         let eta = self.estimates().followed(&step).eta();
+        let mut ahead = self.estimates();
+        ahead.follow(&self.track, next.event());
+        let late_by = ahead.late_by();
         self.kept.put(&mut self.track, next);
-        Ok(stage == Some(self.track.stage()) && eta == self.estimates().eta())
+        let estimates = self.estimates();
+        let arrival = eta == estimates.eta() && late_by == estimates.late_by();
+        Ok(stage == Some(self.track.stage()) && arrival)
     }
 
     pub(crate) fn record(&self, alloc: Global) -> Result<Record, Fail> {
-        Ok(record_of(alloc, &self.track, &self.estimates())?)
+        Ok(record_with(alloc, &self.track, &self.estimates())?)
     }
 
     fn seen(&self, alloc: Global) -> Result<String, Fail> {

@@ -6,4 +6,4 @@ use Rattle.hub_checks.proofs.wagon.would_pass_calendar.Goals as goal
 pub returns : goal.returns
 returns c =
     let step = c.step-step.ensures ∙ ap (λ (j : Journey). onward j c.args.event.now) c.track.ensures in
-    c.would_pass_calendar.ensures ∙ ap (λ (o : Onward). not (fits (after o))) step
+    c.step_passes_calendar.ensures ∙ ap (λ (o : Onward). not (fits (after o))) step

@@ -2,7 +2,7 @@ use Rattle.std.proofs.Common.{ap, ◌∙◌, not}
 use Rattle.journey.specs.Journey.{after}
 use Rattle.eti_chain.specs.Chains.{Chain, fits_in}
 use Rattle.eti_chain.proofs.Chaining.{fits_by_reckoning}
-use Rattle.eti_chain.proofs.estimates.Estimates.would_pass_calendar.Goals as goal
+use Rattle.eti_chain.proofs.estimates.Estimates.step_passes_calendar.Goals as goal
 
 pub after-requires-clause-newest : goal.after-requires-clause-newest
 after-requires-clause-newest c = ap (λ (k : Chain). k.reckoning.anchor) (c.self.view_is ∙ c.requires)
