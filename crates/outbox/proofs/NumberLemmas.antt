@@ -1,6 +1,6 @@
 -- Numbered items.
 use Rattle.std.proofs.Common.{◌≡◌, ℕ, ◌+◌, ◌≤◌, List, [], ◌∷◌, ◌++◌, length, take, drop, zero, suc, refl, sym, ap, ◌∙◌, arith}
-use Rattle.std.proofs.lemmas.List.{append-nil, take_all, take-append-le}
+use Rattle.std.proofs.lemmas.List.{append-nil, append_assoc, take_all, take-append-le}
 use Rattle.taf_messages.specs.declared.item.Item.{Item}
 use Rattle.taf_messages.specs.declared.item.ItemBody.{ItemBody}
 use Rattle.outbox.specs.Kept.{Kept, numbered_after, first_items}
@@ -25,6 +25,13 @@ first_numbered items n m k bodies rest whole count =
 pub all_numbered : (items : List Item) (n m k : ℕ) (bodies rest : List ItemBody) → items ++ numbered_after m rest ≡ numbered_after n bodies → length rest ≡ 0 → length items ≤ k → items ≡ numbered_after n (take k bodies)
 all_numbered items n m k bodies [] whole none count = sym (take_all k items count) ∙ ap (take k) (sym (append-nil items) ∙ whole) ∙ take-numbered n k bodies
 all_numbered items n m k bodies (b ∷ rest) whole none count = absurd (let no : ⊥ = omega (arith, none) in no)
+
+-- items with the next one put behind them
+pub numbered_more : (items more : List Item) (n m : ℕ) (b : ItemBody) (bodies rest : List ItemBody) (all : List Item) → items ++ numbered_after n bodies ≡ all → bodies ≡ b ∷ rest → m ≡ n + 1 → more ≡ items ++ record { number = m; body = b } ∷ [] →
+    more ++ numbered_after m rest ≡ all
+numbered_more items more n m b bodies rest all whole is next put =
+    let item : ℕ → Item = λ k. record { number = k; body = b } in
+    ap (λ (l : List Item). l ++ numbered_after m rest) put ∙ append_assoc items (item m ∷ []) (numbered_after m rest) ∙ ap (λ k. items ++ item k ∷ numbered_after k rest) next ∙ ap (λ l. items ++ numbered_after n l) (sym is) ∙ whole
 
 -- the items after a number are numbered on from there
 drop-numbered : (n k : ℕ) (bodies : List ItemBody) → drop k (numbered_after n bodies) ≡ numbered_after (n + k) (drop k bodies)

@@ -1,0 +1,26 @@
+use Rattle.std.proofs.Common.{◌≡◌, ◌+◌, [], ◌∷◌, ◌++◌, length, ap, ◌∙◌, arith}
+use Rattle.std.proofs.lemmas.List.{length_push}
+use Rattle.std.specs.VecDeque.Iter.{deque_iter_rest}
+use Rattle.taf_messages.specs.declared.item.Item.{Item}
+use Rattle.taf_messages.specs.declared.item.ItemBody.{ItemBody}
+use Rattle.outbox.proofs.NumberLemmas.{numbered_more, first_numbered}
+use Rattle.outbox.proofs.outbox.numbered.Goals as goal
+
+pub loop-i-preserved : goal.loop-i-preserved
+loop-i-preserved c =
+    let items = c.loop-i.items.items in
+    let number = c.saturating_add-number.result in
+    let step = c.in-Some.ensures.steps in
+    let fewer = ap length step in
+    let next : number ≡ c.loop-i.number + 1 = omega (arith, fewer) in
+    let item : ItemBody → Item = λ body. record { number = number; body = body } in
+    let put = c.in_ok-push.ensures.items ∙ ap (λ body. items ++ item body ∷ []) c.in_ok-body.ensures in
+    record {
+      whole = numbered_more items _ c.loop-i.number number c.in-Some.body.now (deque_iter_rest c.loop-i.rest) (deque_iter_rest c.next.new.self) _ c.loop-i.invariant.whole step next put;
+      count = omega (arith, ap length put, length_push items (item c.in-Some.body.now));
+      last = omega (arith, fewer);
+    }
+
+pub returns : goal.returns
+returns c =
+    c.from_vec-2.ensures ∙ first_numbered c.loop-i.items.items c.args.before c.loop-i.number c.args.limit c.args.bodies.now.items (deque_iter_rest c.loop-i.rest) c.loop-i.invariant.whole (omega arith)
