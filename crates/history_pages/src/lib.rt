@@ -10,7 +10,5 @@
 #![tactic(auto)]
 
 mod pages;
-#[cfg(test)]
-mod tests;
 
 pub use pages::Pages;

@@ -13,8 +13,6 @@ mod answered;
 mod made;
 mod offer;
 mod offers;
-#[cfg(test)]
-mod tests;
 
 pub use offer::Offer;
 pub use offers::Offers;

@@ -21,8 +21,6 @@ mod fault;
 mod laws;
 mod outbox;
 mod outboxes;
-#[cfg(test)]
-mod tests;
 
 pub use fault::AckAhead;
 pub use laws::boxes_keep_the_lists;

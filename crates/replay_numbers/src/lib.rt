@@ -15,7 +15,5 @@
 mod railways;
 mod seen;
 mod sent;
-#[cfg(test)]
-mod tests;
 
 pub use seen::Seen;

@@ -1,5 +1,6 @@
-use super::*;
+//! Pages of a history.
 use ballast::Ballast;
+use history_pages::Pages;
 use std::alloc::{AllocError, Global};
 use std::test::Fail;
 
@@ -34,7 +35,7 @@ fn room_is_made_beforehand(rt: HostRuntime) -> Result<(), Fail> {
     Ok(())
 }
 
-// Pushes the numbers up to 2,049 with so much memory at hand, and answers how many pushes were refused. A number that was
+// Pushes the numbers up to 2,048 with so much memory at hand, and answers how many pushes were refused. A number that was
 // handed back is pushed again with all memory.
 fn fill(
     alloc: Global,
@@ -61,21 +62,26 @@ fn fill(
     Ok((refused, pages))
 }
 
+// Whether the entries are the numbers up to 2,048.
+fn is_filled(pages: &Pages<u64>) -> bool {
+    for index in 0..2049usize {
+        if pages.get(index) != Some(&(index as u64)) {
+            return false;
+        }
+    }
+    pages.len() == 2049
+}
+
 #[test]
 fn each_growth_is_refused_in_turn(rt: HostRuntime) -> Result<(), Fail> {
-    let alloc = rt.alloc();
-    let mut ballast = Ballast::new(alloc)?;
+    let mut ballast = Ballast::new(rt.alloc())?;
     for step in 0..4000usize {
-        let (refused, pages) = fill(alloc, &mut ballast, step * 64)?;
-        assert_eq!(rt; pages.len(), 2049, "at {step}");
-        for index in 0..2049usize {
-            assert_eq!(rt; pages.get(index), Some(&(index as u64)), "at {step}");
-        }
+        let (refused, pages) = fill(rt.alloc(), &mut ballast, step * 64)?;
+        assert!(rt; is_filled(&pages), "at {step}");
         if refused == 0 {
             assert!(rt; step > 300, "{step}");
             return Ok(());
         }
     }
-    assert!(rt; false, "always refused");
-    Ok(())
+    Err(Fail::new("always refused"))
 }

@@ -1,0 +1,124 @@
+//! Items that hold memory of their own, pushed while each growth of memory is refused in turn.
+use crate::given::{limit, number_of};
+use crate::items::push;
+use ballast::Ballast;
+use outbox::Outboxes;
+use std::alloc::Global;
+use std::test::Fail;
+use taf_codes::{Memory, Railway};
+use taf_messages::{ItemBody, Shared, SubNotice, Wagons};
+use taf_moment::Moment;
+use wagon_number::WagonNumber;
+
+fn one_wagon(alloc: Global, wagon: WagonNumber) -> Result<Wagons, Memory> {
+    let wagons = Vec::from_slice(alloc, &[wagon])?;
+    Wagons::new(wagons).ok_or(Memory)
+}
+
+// The notice of an infrastructure manager, which holds memory of its own.
+fn sub_notice(alloc: Global, wagon: WagonNumber, offerer: Railway) -> Result<ItemBody, Memory> {
+    let at = Moment::read("2025-03-01T11:10Z").ok().ok_or(Memory)?;
+    let offer = number_of(6)?;
+    let wagons = one_wagon(alloc, wagon)?;
+    let notice = SubNotice {
+        at,
+        from: offerer,
+        offer,
+        offerer,
+        wagons,
+    };
+    let shared = Shared::new(alloc, notice)?;
+    Ok(ItemBody::Sub(shared))
+}
+
+fn push_notice(
+    alloc: Global,
+    outboxes: &mut Outboxes,
+    railway: Railway,
+    wagon: WagonNumber,
+) -> Result<(), Memory> {
+    let notice = sub_notice(alloc, wagon, railway)?;
+    push(outboxes, railway, notice)?;
+    Ok(())
+}
+
+// How many growths were refused, and the boxes.
+struct Filled {
+    refused: u32,
+    outboxes: Outboxes,
+}
+
+// Pushes forty items to each of two railways with so much memory at hand. What was refused is pushed again with all
+// memory, where nothing was changed.
+fn fill(
+    alloc: Global,
+    ballast: &mut Ballast,
+    budget: usize,
+    railways: [Railway; 2],
+    wagon: WagonNumber,
+) -> Result<Filled, Memory> {
+    let mut outboxes = Outboxes::new(alloc);
+    let mut refused: u32 = 0;
+    ballast.leave(budget)?;
+    for number in 0..80usize {
+        let railway = railways[number % 2];
+        let before = outboxes.last(railway);
+        let pushed = push_notice(alloc, &mut outboxes, railway, wagon);
+        if pushed.is_err() && outboxes.last(railway) == before {
+            refused = refused.saturating_add(1);
+            ballast.ease();
+            push_notice(alloc, &mut outboxes, railway, wagon)?;
+        }
+    }
+    if outboxes.fetch(railways[0], limit(40)?).is_err() {
+        refused = refused.saturating_add(1);
+    }
+    ballast.ease();
+    Ok(Filled { refused, outboxes })
+}
+
+// Whether a railway has forty items, each the notice with its number.
+fn is_filled(
+    alloc: Global,
+    outboxes: &Outboxes,
+    railway: Railway,
+    wagon: WagonNumber,
+) -> Result<bool, Memory> {
+    let wanted = sub_notice(alloc, wagon, railway)?;
+    let items = outboxes.fetch(railway, limit(50)?)?;
+    let mut number: u64 = 0;
+    for item in items.as_slice() {
+        number = number.saturating_add(1);
+        if item.number != number || item.body != wanted {
+            return Ok(false);
+        }
+    }
+    Ok(number == 40)
+}
+
+#[test]
+fn each_growth_is_refused_in_turn(rt: HostRuntime) -> Result<(), Fail> {
+    let railways = [Railway::read("R100")?, Railway::read("I300")?];
+    let wagon = WagonNumber::read("218124712173")?;
+    let mut ballast = Ballast::new(rt.alloc())?;
+    for step in 0..4000usize {
+        let Filled { refused, outboxes } = fill(
+            rt.alloc(),
+            &mut ballast,
+            step * 64,
+            railways,
+            wagon,
+        )?;
+        for railway in railways {
+            assert!(rt;
+                is_filled(rt.alloc(), &outboxes, railway, wagon)?,
+                "at {step}"
+            );
+        }
+        if refused == 0 {
+            assert!(rt; step > 20, "{step}");
+            return Ok(());
+        }
+    }
+    Err(Fail::new("always refused"))
+}

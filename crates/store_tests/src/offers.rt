@@ -1,0 +1,163 @@
+//! Offers of wagons at interchange, and the answers to them.
+use crate::given::{number_of, railway};
+use ballast::Ballast;
+use interchange::{Offer, Offers};
+use std::alloc::Global;
+use std::test::Fail;
+use taf_codes::{Memory, Place, Railway};
+use taf_messages::{OfferedWagons, Wagons};
+use wagon_number::WagonNumber;
+
+// The wagons that are written with blanks between them.
+fn wagons(alloc: Global, numbers: &str) -> Result<Vec<WagonNumber>, Memory> {
+    let mut wagons = Vec::new(alloc);
+    for number in numbers.split_ascii_whitespace() {
+        wagons.push(WagonNumber::read(number).ok().ok_or(Memory)?)?;
+    }
+    Ok(wagons)
+}
+
+// An offer of two wagons by R101 to R102.
+fn offer(alloc: Global, number: u64) -> Result<Offer, Memory> {
+    let by = railway("R101")?;
+    let to = railway("R102")?;
+    let no = number_of(number)?;
+    let place = Place::read("AT00002").ok().ok_or(Memory)?;
+    let wagons = wagons(alloc, "218124712173 338478961232")?;
+    let wagons = OfferedWagons::new(wagons).ok_or(Memory)?;
+    Ok(Offer {
+        by,
+        no,
+        to,
+        place,
+        wagons,
+    })
+}
+
+// Makes an offer where its name is new.
+fn open_new(alloc: Global, offers: &mut Offers, number: u64) -> Result<(), Memory> {
+    let offer = offer(alloc, number)?;
+    if offers.find(offer.by, offer.no).is_some() {
+        return Ok(());
+    }
+    offers.open_offer(offer)
+}
+
+// Offers of which 6 is made in one step, and 7 where there is room.
+fn with_two(alloc: Global) -> Result<Offers, Memory> {
+    let mut offers = Offers::new(alloc);
+    open_new(alloc, &mut offers, 6)?;
+    offers.reserve()?;
+    let next = offer(alloc, 7)?;
+    if offers.find(next.by, next.no).is_none() {
+        offers.open_reserved(next);
+    }
+    Ok(offers)
+}
+
+#[test]
+fn offers_are_open_once_they_are_made(rt: HostRuntime) -> Result<(), Fail> {
+    let by = railway("R101")?;
+    let six = number_of(6)?;
+    let mut offers = Offers::new(rt.alloc());
+    assert!(rt; !offers.is_open(by, six));
+    assert!(rt; offers.find(by, six).is_none());
+    open_new(rt.alloc(), &mut offers, 6)?;
+    assert!(rt; offers.is_open(by, six));
+    assert!(rt; !offers.is_open(railway("R102")?, six));
+    Ok(())
+}
+
+#[test]
+fn closed_offers_are_found(rt: HostRuntime) -> Result<(), Fail> {
+    let by = railway("R101")?;
+    let six = number_of(6)?;
+    let mut offers = with_two(rt.alloc())?;
+    if offers.is_open(by, six) {
+        offers.close_offer(by, six);
+    }
+    assert!(rt; !offers.is_open(by, six));
+    assert!(rt; offers.is_open(by, number_of(7)?));
+    let Some(found) = offers.find(by, six) else {
+        return Err(Fail::new("a closed offer is forgotten"));
+    };
+    assert_eq!(rt; found.to, railway("R102")?);
+    assert_eq!(rt; found.wagons.as_slice().len(), 2);
+    Ok(())
+}
+
+// Whether an answer with these wagons received and these refused names each wagon of the offer once.
+fn matches(alloc: Global, received: &str, refused: &str) -> Result<bool, Memory> {
+    let received = Wagons::new(wagons(alloc, received)?).ok_or(Memory)?;
+    let refused = Wagons::new(wagons(alloc, refused)?).ok_or(Memory)?;
+    let made = offer(alloc, 6)?;
+    Ok(made.matches(&received, &refused))
+}
+
+// The wagons that are received, those that are refused, and whether they are those of the offer.
+const ANSWERS: [(&str, &str, bool); 11] = [
+    ("218124712173 338478961232", "", true),
+    ("", "218124712173 338478961232", true),
+    ("218124712173", "338478961232", true),
+    ("338478961232", "218124712173", true),
+    ("218124712173 338478961232", "338478961232", false),
+    ("218124712173", "", false),
+    ("", "", false),
+    ("218124712173", "218124712173", false),
+    ("218124712173 218124712173", "338478961232", false),
+    ("218124712173 338478961232", "318066552148", false),
+    ("218124712173", "318066552148", false),
+];
+
+#[test]
+fn answers_name_each_wagon_once(rt: HostRuntime) -> Result<(), Fail> {
+    for (received, refused, wanted) in ANSWERS {
+        let is_answer = matches(rt.alloc(), received, refused)?;
+        assert_eq!(rt; is_answer, wanted, "{received}, {refused}");
+    }
+    Ok(())
+}
+
+// Makes forty offers with so much memory at hand, and answers how many growths were refused. What was refused is made again
+// with all memory.
+fn fill(alloc: Global, ballast: &mut Ballast, budget: usize) -> Result<(u32, Offers), Memory> {
+    let mut offers = Offers::new(alloc);
+    let mut refused: u32 = 0;
+    ballast.leave(budget)?;
+    for number in 1..41u64 {
+        if open_new(alloc, &mut offers, number).is_err() {
+            refused = refused.saturating_add(1);
+            ballast.ease();
+            open_new(alloc, &mut offers, number)?;
+        }
+    }
+    ballast.ease();
+    Ok((refused, offers))
+}
+
+// Whether the offers up to 40 are made and open, and 41 is not.
+fn is_filled(offers: &Offers, by: Railway) -> Result<bool, Memory> {
+    for number in 1..42u64 {
+        let name = number_of(number)?;
+        let is_made = number < 41;
+        if offers.is_open(by, name) != is_made || offers.find(by, name).is_some() != is_made {
+            return Ok(false);
+        }
+    }
+    Ok(true)
+}
+
+#[test]
+fn each_growth_is_refused_in_turn(rt: HostRuntime) -> Result<(), Fail> {
+    let by = railway("R101")?;
+    let mut ballast = Ballast::new(rt.alloc())?;
+    for step in 0..4000usize {
+        let (refused, offers) = fill(rt.alloc(), &mut ballast, step * 32)?;
+        assert!(rt; is_filled(&offers, by)?, "at {step}");
+        if refused == 0 {
+            assert!(rt; step > 20, "{step}");
+            return Ok(());
+        }
+    }
+    Err(Fail::new("always refused"))
+}
