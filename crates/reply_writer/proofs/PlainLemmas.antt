@@ -1,5 +1,5 @@
 -- The texts that are written are plain.
-use Rattle.std.proofs.Common.{◌≡◌, ℕ, ◌≤◌, List, [], ◌∷◌, ◌++◌, Bool, true, false, Result, Ok, Err, refl, ap, ◌∙◌, subst, arith, take, drop, map, length, take-append-drop, if◌then◌else◌}
+use Rattle.std.proofs.Common.{◌≡◌, ℕ, List, [], ◌∷◌, Bool, true, false, Result, Ok, Err, refl, ap, ◌∙◌, subst, arith, take, drop, map, length, take-append-drop, if◌then◌else◌}
 use Rattle.std.specs.Prelude.{◌||◌, ◌==◌, codes}
 use Rattle.std.specs.Char.{is_ascii_digit, is_ascii_uppercase}
 use Rattle.std.specs.List.{list_all}
@@ -7,8 +7,6 @@ use Rattle.std.proofs.lemmas.Bool.{and_parts, and_from}
 use Rattle.std.proofs.lemmas.Bool.Decides.{nat_tests}
 use Rattle.std.proofs.lemmas.List.Folds.{list_all-append}
 use Rattle.std.proofs.lemmas.Slice.Eq.{bytes_eq-Decides}
-use Rattle.json.specs.Print.{escape}
-use Rattle.json.proofs.Printed.Strings.{escape_byte_plain}
 use Rattle.wagon_number.specs.Digits.{number_of, has_twelve_digits}
 use Rattle.taf_moment.specs.Calendar.{moment_of, has_form, is_moment, digit_as_zero}
 use Rattle.taf_codes.specs.Codes.{is_railway, is_place, is_name, is_unit_code, has_unit_form, are_letters_then_digits, are_code_letters, are_name_letters}

@@ -1,5 +1,5 @@
 -- The JSON of a wagon's record (4.2.11): keys in byte order.
-use Rattle.std.specs.Prelude.{ℕ, List, ◌++◌, Bool, Option, Some, None, codes}
+use Rattle.std.specs.Prelude.{◌++◌, codes}
 use Rattle.serde_json.specs.Data.{Data, boolean}
 use Rattle.taf_messages.specs.declared.event.RecordEvent.{RecordEvent}
 use Rattle.taf_messages.specs.declared.record.EstimateAt.{EstimateAt}

@@ -1,5 +1,5 @@
 -- The JSON of replies, items and faults: keys in byte order.
-use Rattle.std.specs.Prelude.{ℕ, List, [], ◌++◌, codes}
+use Rattle.std.specs.Prelude.{ℕ, [], ◌++◌, codes}
 use Rattle.serde_json.specs.Data.{Data}
 use Rattle.taf_messages.specs.declared.item.Item.{Item}
 use Rattle.taf_messages.specs.declared.item.SubNotice.{SubNotice}

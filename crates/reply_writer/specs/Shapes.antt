@@ -1,5 +1,5 @@
 -- The JSON of values, and of messages as a notice carries them: keys in byte order.
-use Rattle.std.specs.Prelude.{ℕ, List, ◌++◌, Option, Some, None, codes}
+use Rattle.std.specs.Prelude.{ℕ, List, ◌++◌, codes}
 use Rattle.serde_json.specs.Data.{Data}
 use Rattle.wagon_number.specs.Digits.{text_of}
 use Rattle.taf_moment.specs.Calendar.{moment_text}
