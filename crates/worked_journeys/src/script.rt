@@ -208,13 +208,8 @@ impl Run {
         }
         let stage = step.situation().stage;
         let eta = self.estimates().followed(&step).eta();
-        let mut ahead = self.estimates();
-        ahead.follow(&self.track, next.event());
-        let late_by = ahead.late_by();
         self.kept.put(&mut self.track, next);
-        let estimates = self.estimates();
-        let arrival = eta == estimates.eta() && late_by == estimates.late_by();
-        Ok(stage == Some(self.track.stage()) && arrival)
+        Ok(stage == Some(self.track.stage()) && eta == self.estimates().eta())
     }
 
     pub(crate) fn record(&self, alloc: Global) -> Result<Record, Fail> {
