@@ -12,7 +12,10 @@ use json_tokens::{FlatRecord, Found};
 use serde_json::Value;
 use std::alloc::Global;
 use taf_codes::Railway;
-use taf_messages::{Body, BodyName, Call, Field, Kind, Listed, Message, Movement, MovementKind, MovementName, RecordFault, Shared, TrainAnswer, TrainOffer};
+use taf_messages::{
+    Body, BodyName, Call, Field, Kind, Listed, Message, Movement, MovementKind, MovementName,
+    RecordFault, Shared, TrainAnswer, TrainOffer,
+};
 use trip_plan::{Leg, Plan, PlanParts, Route};
 use wagon_number::WagonNumber;
 

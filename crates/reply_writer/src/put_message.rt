@@ -8,7 +8,10 @@ use crate::put::{Json, Object, put_field, put_field_if, put_list_if, put_object}
 use json_tokens::Writer;
 use std::alloc::AllocError;
 use taf_codes::{Place, Railway};
-use taf_messages::{Body, BodyName, Delay, LegIndex, LegMinutes, Message, MessageNumber, Movement, MovementKind, MovementName, TrainAnswer, TrainOffer};
+use taf_messages::{
+    Body, BodyName, Delay, LegIndex, LegMinutes, Message, MessageNumber, Movement, MovementKind,
+    MovementName, TrainAnswer, TrainOffer,
+};
 use trip_plan::Plan;
 use wagon_number::WagonNumber;
 

@@ -8,7 +8,9 @@ use crate::put::{Json, Object, put_field, put_field_if, put_list_if, put_object}
 use json_tokens::Writer;
 use std::alloc::AllocError;
 use taf_codes::Place;
-use taf_messages::{BodyName, Delay, EstimateAt, Happened, LegIndex, LegMinutes, Record, RecordEvent, Stage, Status};
+use taf_messages::{
+    BodyName, Delay, EstimateAt, Happened, LegIndex, LegMinutes, Record, RecordEvent, Stage, Status,
+};
 
 impl Json for Stage {
     ghost shape = { λ stage. text (stage_name stage) };
