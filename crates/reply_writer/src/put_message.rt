@@ -85,7 +85,7 @@ impl Object for Message {
     }
 }
 
-#[tactic(auto, using(crate::proofs::TextLemmas::adds_more))]
+#[tactic(auto, using(json_tokens::proofs::TextLemmas::adds_more))]
 fn put_plan(out: &mut Writer, by: Railway, no: MessageNumber, plan: &Plan) -> Result<(), AllocError>
     ensures ok { OnOk result (AddsFields out.old out.new (shape.plan_fields by «no» plan.now)) }
     ensures before { out.new.before ≡ out.old.before }
@@ -108,7 +108,7 @@ fn put_first_plan_fields(out: &mut Writer, by: Railway, plan: &Plan) -> Result<(
     Ok(())
 }
 
-#[tactic(auto, using(crate::proofs::TextLemmas::adds_more), unfolding(crate::specs::Shapes::last_plan_fields))]
+#[tactic(auto, using(json_tokens::proofs::TextLemmas::adds_more), unfolding(crate::specs::Shapes::last_plan_fields))]
 fn put_last_plan_fields(out: &mut Writer, no: MessageNumber, plan: &Plan) -> Result<(), AllocError>
     ensures ok { OnOk result (AddsFields out.old out.new (shape.last_plan_fields «no» plan.now)) }
     ensures before { out.new.before ≡ out.old.before }
@@ -140,7 +140,7 @@ fn put_leg_time(
     Ok(())
 }
 
-#[tactic(auto, using(crate::proofs::TextLemmas::adds_more), unfolding(crate::specs::Shapes::movement_fields))]
+#[tactic(auto, using(json_tokens::proofs::TextLemmas::adds_more), unfolding(crate::specs::Shapes::movement_fields))]
 fn put_movement(
     out: &mut Writer,
     by: Railway,
@@ -181,7 +181,7 @@ fn put_offer(
     Ok(())
 }
 
-#[tactic(auto, using(crate::proofs::TextLemmas::adds_more), unfolding(crate::specs::Shapes::answer_fields))]
+#[tactic(auto, using(json_tokens::proofs::TextLemmas::adds_more), unfolding(crate::specs::Shapes::answer_fields))]
 fn put_answer(
     out: &mut Writer,
     by: Railway,

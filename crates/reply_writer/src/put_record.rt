@@ -41,7 +41,7 @@ impl Json for RecordEvent {
 impl Object for RecordEvent {
     ghost members = { shape.event_fields };
 
-    #[tactic(auto, using(crate::proofs::TextLemmas::adds_more), unfolding(crate::specs::RecordShapes::event_fields))]
+    #[tactic(auto, using(json_tokens::proofs::TextLemmas::adds_more), unfolding(crate::specs::RecordShapes::event_fields))]
     fn put_members(&self, out: &mut Writer) -> Result<(), AllocError> {
         put_field_if(out, "at", &self.at)?;
         put_field(out, "by", &self.by)?;
@@ -121,7 +121,7 @@ fn put_middle_fields(out: &mut Writer, shown: &Record) -> Result<(), AllocError>
     Ok(())
 }
 
-#[tactic(auto, using(crate::proofs::TextLemmas::adds_more), unfolding(crate::specs::RecordShapes::last_record_fields))]
+#[tactic(auto, using(json_tokens::proofs::TextLemmas::adds_more), unfolding(crate::specs::RecordShapes::last_record_fields))]
 fn put_last_fields(out: &mut Writer, shown: &Record) -> Result<(), AllocError>
     ensures ok { OnOk result (AddsFields out.old out.new (shape.last_record_fields shown.now)) }
     ensures before { out.new.before ≡ out.old.before }

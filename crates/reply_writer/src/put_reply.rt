@@ -121,7 +121,7 @@ impl Json for Reply {
 impl Object for Reply {
     ghost members = { shape.reply_fields };
 
-    #[tactic(auto, using(crate::proofs::TextLemmas::adds_more), unfolding(crate::specs::ReplyShapes::reply_fields))]
+    #[tactic(auto, using(json_tokens::proofs::TextLemmas::adds_more), unfolding(crate::specs::ReplyShapes::reply_fields))]
     fn put_members(&self, out: &mut Writer) -> Result<(), AllocError> {
         match self {
             Reply::Accepted { no } => {

@@ -1,0 +1,40 @@
+use Rattle.std.proofs.Common.{ℕ, ◌+◌, List, ◌∷◌, drop, Option, Some, ap, sym, ◌∙◌}
+use Rattle.std.specs.Prelude.{option_map}
+use Rattle.std.specs.Option.{option_or}
+use Rattle.std.proofs.lemmas.List.{at_drop_all, at_drop_more}
+use Rattle.trip_plan.specs.Rules.{has}
+use Rattle.taf_messages.specs.declared.reply.Why.{Why}
+use Rattle.hub_model.specs.declared.fault.Fault.{Fault}
+use Rattle.hub_model.specs.Faults as of
+use Rattle.hub_tables.specs.Tabled.{known}
+use Rattle.hub_tables.proofs.Going.{has_at}
+use Rattle.hub_checks.proofs.judging.first_fault.Goals as goal
+
+pub wagon_fault-requires-clause-is_named : goal.wagon_fault-requires-clause-is_named
+wagon_fault-requires-clause-is_named c =
+    let wagons = c.args.wagons.now in
+    let w = c.wagon-item.result in
+    ap (λ (ws : List ℕ). has ws w) (sym c.requires.are_named) ∙ has_at wagons c.loop-wagon.wagon-index w c.loop-wagon-test.true c.wagon-item.is
+
+pub returns-in-Some : goal.returns-in-Some
+returns-in-Some c =
+    let first = of.first_fault (known c.args.tables.now) c.args.message.now in
+    let wagons = c.args.wagons.now in
+    let i = c.loop-wagon.wagon-index in
+    let w = c.wagon-item.result in
+    let rest = drop (i + 1) wagons in
+    let found : Option Why → Option Fault = λ why. option_or (option_map (λ y. record { why = y; wagon = Some w }) why) (first rest) in
+    sym (c.loop-wagon.invariant ∙ at_drop_more first wagons i w c.loop-wagon-test.true ∙ ap (λ v. first (v ∷ rest)) (sym c.wagon-item.is) ∙ ap found (sym c.in_ok-why.ensures ∙ c.in-Some.is))
+
+pub loop-wagon-preserved : goal.loop-wagon-preserved
+loop-wagon-preserved c =
+    let first = of.first_fault (known c.args.tables.now) c.args.message.now in
+    let wagons = c.args.wagons.now in
+    let i = c.loop-wagon.wagon-index in
+    let w = c.wagon-item.result in
+    let rest = drop (i + 1) wagons in
+    let found : Option Why → Option Fault = λ why. option_or (option_map (λ y. record { why = y; wagon = Some w }) why) (first rest) in
+    c.loop-wagon.invariant ∙ at_drop_more first wagons i w c.loop-wagon-test.true ∙ ap (λ v. first (v ∷ rest)) (sym c.wagon-item.is) ∙ ap found (sym c.in_ok-why.ensures ∙ c.in_default.is)
+
+pub returns : goal.returns
+returns c = sym (c.loop-wagon.invariant ∙ at_drop_all (of.first_fault (known c.args.tables.now) c.args.message.now) c.args.wagons.now c.loop-wagon.wagon-index c.loop-wagon-test.false)
