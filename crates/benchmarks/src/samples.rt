@@ -2,8 +2,8 @@
 ghost use Rattle.std.specs.Prelude.{◌≡◌, length, IfOk};
 
 use anyhow::{Result, bail};
-use std::alloc::Global;
 use call_reader::read_call;
+use std::alloc::Global;
 use taf_messages::{Body, Call, Delay, Item, ItemBody, ItemList, LegIndex, Listed, MessageNumber};
 use taf_moment::Moment;
 use trip_plan::Plan;

@@ -8,9 +8,9 @@ ghost use Rattle.hub_replay.specs.Outcomes.{one_fault_more, one_call_more};
 
 use crate::counts::Counts;
 use crate::fault::RunFault;
+use reply_writer::{append_fault, append_reply};
 use std::alloc::Global;
 use taf_codes::{Failed, Sink};
-use reply_writer::{append_fault, append_reply};
 use taf_messages::{RecordFault, Reply};
 
 /// Lines that are still to be written, and the counts so far.

@@ -3,8 +3,8 @@ ghost use Rattle.std.specs.Prelude.{◌≡◌, ◌<◌, length, IfOk};
 ghost use Rattle.call_reader.specs.Reading.{Gives};
 ghost use Rattle.hub_replay.specs.Lines.{call_in, heard, is_blank, CanBeTold};
 
-use taf_codes::Memory;
 use call_reader::CallReader;
+use taf_codes::Memory;
 use taf_messages::{Call, RecordFault};
 
 /// How long a line may be, in bytes without its newline.

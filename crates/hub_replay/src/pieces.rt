@@ -12,11 +12,11 @@ use crate::listener::Listener;
 use crate::newline::next_newline;
 use crate::telling::tell_and_hear;
 use crate::turn::{flush, turn};
+use call_reader::CallReader;
 use hub_core::Hub;
 use std::mem::replace;
 use std::thread::Threads;
 use taf_codes::Sink;
-use call_reader::CallReader;
 
 // How many bytes of lines are heard before the first is answered.
 const FIRST: usize = 16_384;

@@ -5,11 +5,11 @@ ghost use Rattle.hub_replay.specs.Spans.{IsSpan};
 
 use crate::heard::{Heard, hear};
 use crate::newline::next_newline;
+use call_reader::CallReader;
 use std::alloc::Global;
 use std::collections::VecDeque;
 use std::mem::replace;
 use taf_codes::Memory;
-use call_reader::CallReader;
 
 /// What lines in a row say, and where the last of them ends.
 #[derive(Drop)]

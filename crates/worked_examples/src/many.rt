@@ -2,11 +2,11 @@ use crate::play::{
     DEPARTED, add_answers, add_calls, input_of, no_difference, plays, plays_on, report_after,
     wanted_of, written_otherwise,
 };
+use call_reader::read_call;
 use hub_core::{Hub, HubFault};
 use std::alloc::Global;
 use std::test::Fail;
 use std::thread::Threads;
-use call_reader::read_call;
 use taf_messages::{Call, copy_call};
 
 // A plan of 60 wagons over eight legs.

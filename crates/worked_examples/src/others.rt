@@ -1,10 +1,10 @@
 use crate::changes::WITH_UNIT;
 use crate::play::{DEPARTED, plays_on, reports};
+use call_reader::read_call;
 use hub_core::Hub;
 use std::alloc::Global;
 use std::test::Fail;
 use std::thread::Threads;
-use call_reader::read_call;
 use taf_messages::Call;
 
 #[test]

@@ -3,12 +3,12 @@
 use crate::play::{INTERCHANGE, difference, no_difference, plays_on, wanted_of};
 use crate::trains::AFTER_INTERCHANGE;
 use ballast::Ballast;
+use call_reader::read_call;
 use hub_core::{Hub, View};
+use reply_writer::append_reply;
 use std::alloc::Global;
 use std::test::Fail;
 use std::thread::Threads;
-use call_reader::read_call;
-use reply_writer::append_reply;
 use taf_messages::{Call, Reply};
 
 // The reply of the hub, if memory isn't refused.

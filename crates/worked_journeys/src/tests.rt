@@ -1,10 +1,10 @@
 use crate::script::{Run, event, leg, moment, planned, wagon};
 use eti_chain::Estimates;
 use journey::Track;
+use reply_writer::write_record;
 use std::alloc::Global;
 use std::test::Fail;
 use taf_codes::Railway;
-use reply_writer::write_record;
 use taf_messages::{Stage, Status};
 use taf_moment::Moment;
 use trip_plan::Load;

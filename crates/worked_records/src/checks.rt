@@ -1,10 +1,10 @@
 //! Checks that the tests share. What fails shows the line or the text that it fails at.
+use call_reader::read_call;
+use reply_writer::{append_reply, write_fault, write_reply};
 use std::alloc::Global;
 use std::str;
 use std::test::Fail;
 use taf_codes::Memory;
-use call_reader::read_call;
-use reply_writer::{append_reply, write_fault, write_reply};
 use taf_messages::{Call, RecordFault, Reply};
 
 /// The bytes as a text, for a failed test to show.

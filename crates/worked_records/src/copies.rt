@@ -2,10 +2,13 @@
 use crate::lines::messages;
 use crate::parts::{ONE, moment, wagon, within};
 use crate::records::{planned, running};
+use call_reader::read_call;
 use std::alloc::Global;
 use std::test::Fail;
-use call_reader::read_call;
-use taf_messages::{Call, Item, ItemBody, Listed, MessageNumber, Reply, Shared, Why, copy, copy_call, copy_item, copy_reply, same, same_call, same_item, same_reply};
+use taf_messages::{
+    Call, Item, ItemBody, Listed, MessageNumber, Reply, Shared, Why, copy, copy_call, copy_item,
+    copy_reply, same, same_call, same_item, same_reply,
+};
 
 #[test]
 fn equal_messages(rt: HostRuntime) -> Result<(), Fail> {

@@ -1,9 +1,9 @@
 //! The first fault of a line: no JSON, no kind, and then each field in its place.
 use crate::checks::{has_fault, have_faults, is_text, shown};
+use reply_writer::{append_fault, write_fault};
 use std::alloc::Global;
 use std::fmt::Write;
 use std::test::Fail;
-use reply_writer::{append_fault, write_fault};
 use taf_messages::{Field, RecordFault};
 
 // Fields, each with a value that is good for it and with one that is not.

@@ -6,12 +6,17 @@ use crate::lines::MESSAGES;
 use crate::parts::{ONE, consignment, message, place, railway, wagon};
 use crate::records::{planned, running};
 use ballast::Ballast;
+use call_reader::read_call;
+use reply_writer::{
+    append_fault, append_reply, write_fault, write_item, write_record, write_reply,
+};
 use std::alloc::Global;
 use std::test::Fail;
 use taf_codes::{Memory, UnitCode};
-use call_reader::read_call;
-use reply_writer::{append_fault, append_reply, write_fault, write_item, write_record, write_reply};
-use taf_messages::{Call, Field, Item, ItemBody, Message, Record, RecordFault, Reply, Shared, copy, copy_call, copy_item, copy_reply, same};
+use taf_messages::{
+    Call, Field, Item, ItemBody, Message, Record, RecordFault, Reply, Shared, copy, copy_call,
+    copy_item, copy_reply, same,
+};
 use taf_moment::Moment;
 use trip_plan::{Leg, Load, Plan, PlanFault, Route, UnitLoad};
 use wagon_number::WagonNumber;

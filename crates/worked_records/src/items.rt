@@ -1,9 +1,9 @@
 //! Texts of items: notices of each kind, and what else a railway is told.
 use crate::checks::{is_call, is_text};
 use crate::parts::{ONE, message, moment, railway, wagon, wagons, within};
+use reply_writer::write_item;
 use std::alloc::Global;
 use std::test::Fail;
-use reply_writer::write_item;
 use taf_messages::{Call, Item, ItemBody, Shared, SubNotice, Wagons};
 
 // Lines, and below each the message that its notice carries: the kind's own fields alone, keys in byte order.

@@ -1,8 +1,8 @@
 //! Parts of records, from texts.
+use call_reader::read_call;
 use std::alloc::Global;
 use std::test::Fail;
 use taf_codes::{ConsignmentId, Place, Railway};
-use call_reader::read_call;
 use taf_messages::{Body, Call, Message, Shared, Within};
 use taf_moment::Moment;
 use wagon_number::WagonNumber;

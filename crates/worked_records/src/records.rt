@@ -1,11 +1,14 @@
 //! Texts of records.
 use crate::checks::{is_text, shown};
 use crate::parts::{ONE, consignment, moment, place, railway, wagon, within};
+use reply_writer::write_record;
 use std::alloc::Global;
 use std::test::Fail;
 use taf_codes::UnitCode;
-use reply_writer::write_record;
-use taf_messages::{EstimateAt, EstimateList, Happened, Listed, MovementKind, Record, RecordEvent, RecordEvents, Stage, Status, Units};
+use taf_messages::{
+    EstimateAt, EstimateList, Happened, Listed, MovementKind, Record, RecordEvent, RecordEvents,
+    Stage, Status, Units,
+};
 use taf_moment::Moment;
 use trip_plan::Load;
 
