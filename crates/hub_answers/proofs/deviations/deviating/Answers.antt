@@ -24,4 +24,4 @@ loop-wagon-preserved c =
 pub returns : goal.returns
 returns c =
     let f = deviation_of (known c.args.tables.now) c.args.plan.now in
-    c.loop-wagon.invariant ∙ ap (filter_map f) (take_all _ _ c.loop-wagon-test.false ∙ c.wagons-wagon-items.ensures) ∙ all_deviations (known c.args.tables.now) c.args.plan.now
+    c.loop-wagon.invariant ∙ ap (filter_map f) (take_all _ _ c.loop-wagon-test.false ∙ c.wagons-wagon-items.ensures.value) ∙ all_deviations (known c.args.tables.now) c.args.plan.now
