@@ -9,17 +9,18 @@ use journey::{Event, EventBody, Prepared, Track};
 use std::alloc::Global;
 use std::test::Fail;
 use taf_codes::{ConsignmentId, Place, Railway};
-use taf_messages::{Delay, LegIndex, LegMinutes, MessageNumber, MovementKind, Record};
+use taf_messages::{MovementKind, Record, Within};
 use taf_moment::Moment;
 use trip_plan::{Leg, Load, Plan, Route};
 use wagon_number::WagonNumber;
 use wimo::record_with;
 
-/// A number with limits.
-macro_rules! within {
-    ($kind:ident, $text:expr) => {
-        $kind::new($text.parse::<u64>()?).ok_or_else(|| Fail::new("out of range"))?
-    };
+// The number that a word says, within its limits.
+fn number<const LOW: u64, const HIGH: u64>(word: &str) -> Result<Within<LOW, HIGH>, Fail> {
+    match Within::new(word.parse::<u64>()?) {
+        Some(number) => Ok(number),
+        None => Err(Fail::new("out of range")),
+    }
 }
 
 pub(crate) fn moment(alloc: Global, text: &str) -> Result<Moment, Fail> {
@@ -37,11 +38,14 @@ pub(crate) fn wagon(text: &str) -> Result<WagonNumber, Fail> {
 /// A leg that is written as its railway, origin, target and minutes, with colons between.
 pub(crate) fn leg(alloc: Global, text: &str) -> Result<Leg, Fail> {
     let parts: Vec<&str> = text.split(':').collect(alloc)?;
+    let [ru, origin, target, minutes] = *parts.as_slice() else {
+        return Err(Fail::new("no leg"));
+    };
     Ok(Leg {
-        ru: Railway::read(word(&parts, 0)?)?,
-        origin: Place::read(word(&parts, 1)?)?,
-        target: Place::read(word(&parts, 2)?)?,
-        minutes: word(&parts, 3)?.parse::<u32>()?,
+        ru: Railway::read(ru)?,
+        origin: Place::read(origin)?,
+        target: Place::read(target)?,
+        minutes: minutes.parse::<u32>()?,
     })
 }
 
@@ -62,18 +66,15 @@ pub(crate) fn planned(
 ) -> Result<Event, Fail>
     ensures { IfOk result (λ e. is_plan e.body ≡ true) }
 {
-    let plan = Plan::new(
-        alloc,
-        Railway::read("R100")?,
-        ConsignmentId::read("C-1")?,
-        load,
-        wagons,
-        &legs(alloc, route)?,
-        moment(alloc, "15:30")?,
-    )?;
+    let by = Railway::read("R100")?;
+    let no = number("1")?;
+    let consignment = ConsignmentId::read("C-1")?;
+    let commit = moment(alloc, "15:30")?;
+    let legs = legs(alloc, route)?;
+    let plan = Plan::new(alloc, by, consignment, load, wagons, &legs, commit)?;
     Ok(Event {
-        by: Railway::read("R100")?,
-        no: MessageNumber::new(1).ok_or_else(|| Fail::new("no number"))?,
+        by,
+        no,
         at: None,
         body: EventBody::Planned(plan),
     })
@@ -86,68 +87,95 @@ fn word<'a>(words: &[&'a str], i: usize) -> Result<&'a str, Fail> {
         .ok_or_else(|| Fail::new("a word is missing"))
 }
 
+fn place(words: &[&str], i: usize) -> Result<Place, Fail> {
+    Ok(Place::read(word(words, i)?)?)
+}
+
+fn railway(words: &[&str], i: usize) -> Result<Railway, Fail> {
+    Ok(Railway::read(word(words, i)?)?)
+}
+
+fn time(alloc: Global, words: &[&str], i: usize) -> Result<Option<Moment>, Fail> {
+    match word(words, i)? {
+        "-" => Ok(None),
+        text => Ok(Some(moment(alloc, text)?)),
+    }
+}
+
 /// The event that a line says.
 pub(crate) fn event(alloc: Global, line: &str) -> Result<Event, Fail> {
     let words: Vec<&str> = line.split(' ').collect(alloc)?;
-    let at = match word(&words, 2)? {
-        "-" => None,
-        text => Some(moment(alloc, text)?),
-    };
-    Ok(Event {
-        by: Railway::read(word(&words, 0)?)?,
-        no: within!(MessageNumber, word(&words, 1)?),
-        at,
-        body: body(
-            alloc,
-            word(&words, 3)?,
-            words.get(4..).ok_or_else(|| Fail::new("no kind"))?,
-        )?,
-    })
+    let by = railway(&words, 0)?;
+    let no = number(word(&words, 1)?)?;
+    let at = time(alloc, &words, 2)?;
+    let kind = word(&words, 3)?;
+    let fields = words.get(4..).ok_or_else(|| Fail::new("no kind"))?;
+    let body = body(alloc, kind, fields)?;
+    Ok(Event { by, no, at, body })
 }
 
 fn body(alloc: Global, kind: &str, fields: &[&str]) -> Result<EventBody, Fail> {
     Ok(match kind {
         "eti_ask" => EventBody::EstimateAsked,
-        "leg_time" => EventBody::LegTimed {
-            leg: within!(LegIndex, word(fields, 0)?),
-            minutes: within!(LegMinutes, word(fields, 1)?),
-        },
-        "offer" => EventBody::Offered {
-            place: Place::read(word(fields, 0)?)?,
-            to: Railway::read(word(fields, 1)?)?,
-        },
-        "receive" => EventBody::Answered {
-            place: Place::read(word(fields, 0)?)?,
-            received: true,
-        },
-        "refuse" => EventBody::Answered {
-            place: Place::read(word(fields, 0)?)?,
-            received: false,
-        },
-        "withdraw" => EventBody::Withdrawn {
-            place: Place::read(word(fields, 0)?)?,
-        },
-        "reroute" => EventBody::Rerouted(Route::new(alloc, &legs(alloc, fields)?)?),
+        "leg_time" => leg_time(fields)?,
+        "offer" => offer(fields)?,
+        "receive" => answer(fields, true)?,
+        "refuse" => answer(fields, false)?,
+        "withdraw" => withdrawal(fields)?,
+        "reroute" => reroute(alloc, fields)?,
         _ => EventBody::Moved(movement(kind, fields)?),
     })
 }
 
+fn leg_time(fields: &[&str]) -> Result<EventBody, Fail> {
+    let leg = number(word(fields, 0)?)?;
+    let minutes = number(word(fields, 1)?)?;
+    Ok(EventBody::LegTimed { leg, minutes })
+}
+
+fn offer(fields: &[&str]) -> Result<EventBody, Fail> {
+    let place = place(fields, 0)?;
+    let to = railway(fields, 1)?;
+    Ok(EventBody::Offered { place, to })
+}
+
+fn answer(fields: &[&str], received: bool) -> Result<EventBody, Fail> {
+    let place = place(fields, 0)?;
+    Ok(EventBody::Answered { place, received })
+}
+
+fn withdrawal(fields: &[&str]) -> Result<EventBody, Fail> {
+    let place = place(fields, 0)?;
+    Ok(EventBody::Withdrawn { place })
+}
+
+fn reroute(alloc: Global, fields: &[&str]) -> Result<EventBody, Fail> {
+    let legs = legs(alloc, fields)?;
+    Ok(EventBody::Rerouted(Route::new(alloc, &legs)?))
+}
+
 fn movement(kind: &str, fields: &[&str]) -> Result<MovementKind, Fail> {
+    match kind {
+        "release" => Ok(MovementKind::Release),
+        "depart" => Ok(MovementKind::Departure),
+        "eti" => Ok(MovementKind::Estimate),
+        "arrival" => Ok(MovementKind::Arrival),
+        "delivery" => Ok(MovementKind::Delivery),
+        _ => movement_with_field(kind, fields),
+    }
+}
+
+fn movement_with_field(kind: &str, fields: &[&str]) -> Result<MovementKind, Fail> {
     Ok(match kind {
-        "release" => MovementKind::Release,
-        "depart" => MovementKind::Departure,
         "yard_in" => MovementKind::YardArrival {
-            place: Place::read(word(fields, 0)?)?,
+            place: place(fields, 0)?,
         },
         "yard_out" => MovementKind::YardDeparture {
-            place: Place::read(word(fields, 0)?)?,
+            place: place(fields, 0)?,
         },
         "exception" => MovementKind::Exception {
-            delay: within!(Delay, word(fields, 0)?),
+            delay: number(word(fields, 0)?)?,
         },
-        "eti" => MovementKind::Estimate,
-        "arrival" => MovementKind::Arrival,
-        "delivery" => MovementKind::Delivery,
         _ => return Err(Fail::new("no such kind")),
     })
 }
@@ -196,6 +224,31 @@ impl Run {
         self.seen(alloc)
     }
 
+    /// Goes on with the events of lines.
+    pub(crate) fn go_on(&mut self, alloc: Global, lines: &str) -> Result<(), Fail> {
+        for line in lines.lines() {
+            let _seen = self.step(alloc, line)?;
+        }
+        Ok(())
+    }
+
+    /// Goes on with the events of lines, behind each of which stands what is seen then. Tells the first line after which
+    /// another thing is seen.
+    pub(crate) fn first_difference(
+        &mut self,
+        alloc: Global,
+        lines: &str,
+    ) -> Result<Option<String>, Fail> {
+        for line in lines.lines() {
+            let (event, wanted) = line.split_once(" = ").ok_or_else(|| Fail::new(line))?;
+            let seen = self.step(alloc, event)?;
+            if seen.as_str() != wanted {
+                return Ok(Some(format!(in alloc; "{event}: {seen}")?));
+            }
+        }
+        Ok(None)
+    }
+
     /// Goes on with a prepared event, and tells whether it leads to the stage and the estimate that were foretold.
     pub(crate) fn put(&mut self, next: Prepared) -> Result<bool, Fail> {
         let admitted = self.track.admits(next.event()).is_none();
@@ -217,21 +270,26 @@ impl Run {
     }
 
     fn seen(&self, alloc: Global) -> Result<String, Fail> {
-        let track = &self.track;
-        let mut seen = format!(in alloc; "{:?} {}", track.stage(), track.leg_index())?;
-        match track.place() {
-            Some(place) => seen.push_str(&format!(in alloc; " {place}")?)?,
-            None => seen.push_str(" -------")?,
-        }
-        match track.responsible() {
-            Some(railway) => seen.push_str(&format!(in alloc; " {railway}")?)?,
-            None => seen.push_str(" ----")?,
-        }
+        let mut seen = self.seen_of_track(alloc)?;
         if let Some(at) = self.estimates().eta() {
             seen.push_str(&format!(in alloc; " {at}")?)?;
         }
         if let Some(minutes) = self.estimates().late_by() {
             seen.push_str(&format!(in alloc; " late by {minutes}")?)?;
+        }
+        Ok(seen)
+    }
+
+    fn seen_of_track(&self, alloc: Global) -> Result<String, Fail> {
+        let stage = self.track.stage();
+        let mut seen = format!(in alloc; "{stage:?} {}", self.track.leg_index())?;
+        match self.track.place() {
+            Some(place) => seen.push_str(&format!(in alloc; " {place}")?)?,
+            None => seen.push_str(" -------")?,
+        }
+        match self.track.responsible() {
+            Some(railway) => seen.push_str(&format!(in alloc; " {railway}")?)?,
+            None => seen.push_str(" ----")?,
         }
         Ok(seen)
     }

@@ -12,45 +12,25 @@ use wimo::may_see;
 
 const LEGS: [&str; 2] = ["R101:DE00001:AT00002:300", "R102:AT00002:IT00003:240"];
 
-fn two_legs(alloc: Global) -> Result<Run, Fail> {
+// A loaded wagon of two on both legs, which goes on with the events of these lines.
+fn two_legs(alloc: Global, lines: &str) -> Result<Run, Fail> {
     let wagons = [wagon("218124712173")?, wagon("338478961232")?];
-    Run::open(
-        alloc,
-        wagons[0],
-        planned(alloc, Load::Loaded, &wagons, &LEGS)?,
-    )
+    let plan = planned(alloc, Load::Loaded, &wagons, &LEGS)?;
+    let mut run = Run::open(alloc, wagons[0], plan)?;
+    run.go_on(alloc, lines)?;
+    Ok(run)
 }
 
 // Up to the departure at 06:00.
-const DEPARTED: [&str; 2] = ["R100 2 05:30 release", "R101 1 06:00 depart"];
+const DEPARTED: &str = "R100 2 05:30 release
+R101 1 06:00 depart";
 
 // Up to the reception by the second railway at 11:10.
-const RECEIVED: [&str; 5] = [
-    "R100 2 05:30 release",
-    "R101 1 06:00 depart",
-    "R101 2 10:40 yard_in AT00002",
-    "R101 6 10:50 offer AT00002 R102",
-    "R102 1 11:10 receive AT00002",
-];
-
-// The first line after which another thing is seen than is wanted, with what is seen.
-fn first_difference(
-    alloc: Global,
-    before: &[&str],
-    steps: &[(&str, &str)],
-) -> Result<Option<String>, Fail> {
-    let mut run = two_legs(alloc)?;
-    for line in before {
-        let _seen = run.step(alloc, line)?;
-    }
-    for (line, want) in steps {
-        let seen = run.step(alloc, line)?;
-        if seen.as_str() != *want {
-            return Ok(Some(format!(in alloc; "{line}: {seen}")?));
-        }
-    }
-    Ok(None)
-}
+const RECEIVED: &str = "R100 2 05:30 release
+R101 1 06:00 depart
+R101 2 10:40 yard_in AT00002
+R101 6 10:50 offer AT00002 R102
+R102 1 11:10 receive AT00002";
 
 fn eta_afresh(track: &Track) -> Option<Moment> {
     if !Estimates::fits(track) {
@@ -59,250 +39,130 @@ fn eta_afresh(track: &Track) -> Option<Moment> {
     Estimates::of(track).eta()
 }
 
+const FROM_THE_PLAN: &str = "R101 1 06:00 depart = WrongStage
+R101 2 05:30 release = NotYours
+R100 2 05:30 release = Released 0 DE00001 ---- 2025-03-01T14:30Z
+R101 2 06:00 depart = Running 0 ------- R101 2025-03-01T15:00Z
+R101 2 10:00 arrival = NotLastLeg";
+
+// Delays, until an estimate is reported.
+const DELAYS: &str =
+    "R101 2 07:00 exception 45 = Running 0 ------- R101 2025-03-01T15:45Z late by 15
+R101 3 11:10 eti = Running 0 ------- R101 2025-03-01T15:10Z
+R101 4 11:00 exception 5 = Running 0 ------- R101 2025-03-01T15:15Z";
+
+// Late only past the promise.
+const LATE: &str = "R101 2 11:30 eti = Running 0 ------- R101 2025-03-01T15:30Z
+R101 3 11:31 eti = Running 0 ------- R101 2025-03-01T15:31Z late by 1
+R101 4 11:32 eti = Running 0 ------- R101 2025-03-01T15:32Z late by 2";
+
+// The end of the calendar: on the first leg, and on the second.
+const PAST_THE_CALENDAR: &str = "R101 2 2199-12-31T23:59Z eti = BeyondCalendar";
+
+const LAST_OF_THE_CALENDAR: &str =
+    "R102 3 2199-12-31T23:59Z eti = InYard 1 AT00002 R102 2199-12-31T23:59Z late by 91954589";
+
+// An interchange, and the second leg.
+const INTERCHANGE: &str = "R101 6 10:50 offer AT00002 R102 = WrongStage
+R101 2 10:40 yard_in AT00002 = InYard 0 AT00002 R101 2025-03-01T15:00Z
+R101 5 10:45 offer AT00009 R102 = WrongPlace
+R101 5 10:45 offer AT00002 R103 = WrongNext
+R101 6 10:50 offer AT00002 R102 = Offered 0 AT00002 R101 2025-03-01T15:00Z
+R102 1 11:10 receive AT00002 = InYard 1 AT00002 R102 2025-03-01T15:10Z
+R102 2 11:10 receive AT00002 = WrongStage
+R102 3 11:30 yard_out AT00009 = WrongPlace
+R102 4 11:30 yard_out AT00002 = Running 1 ------- R102 2025-03-01T15:10Z
+R102 5 15:00 arrival = Arrived 1 IT00003 R102 2025-03-01T15:00Z
+R102 6 15:20 delivery = Delivered 1 IT00003 ---- 2025-03-01T15:20Z";
+
+// A refused offer, and one that is withdrawn.
+const NOT_RECEIVED: &str = "R101 5 10:45 yard_in AT00002 = InYard 0 AT00002 R101 2025-03-01T15:00Z
+R101 6 10:50 offer AT00002 R102 = Offered 0 AT00002 R101 2025-03-01T15:00Z
+R102 1 11:10 refuse AT00002 = InYard 0 AT00002 R101 2025-03-01T15:00Z
+R101 7 11:20 offer AT00002 R102 = Offered 0 AT00002 R101 2025-03-01T15:00Z
+R101 8 11:30 withdraw AT00002 = InYard 0 AT00002 R101 2025-03-01T15:00Z";
+
+const TIMES_OF_LEGS: &str = "R102 1 - leg_time 1 200 = Running 0 ------- R101 2025-03-01T14:20Z
+R101 2 - leg_time 0 200 = LegStarted
+R101 3 - leg_time 5 200 = NoSuchLeg
+R100 3 - eti_ask = Running 0 ------- R101 2025-03-01T14:20Z";
+
+const NEW_LEGS: &str = "R101 2 - reroute R103:AT00002:CH00004:180 = NotYours
+R100 4 - reroute R101:AT00002:CH00004:180 = WrongNext
+R100 5 - reroute R103:AT00009:CH00004:180 = WrongPlace
+R100 3 - reroute R103:AT00002:CH00004:180 = Running 0 ------- R101 2025-03-01T14:00Z";
+
+const EIGHT_LEGS_AT_MOST: &str = "R100 4 - reroute R103:IT00003:IT00004:60 R104:IT00004:IT00005:60 \
+    R105:IT00005:IT00006:60 R106:IT00006:IT00007:60 R107:IT00007:IT00008:60 \
+    R108:IT00008:IT00009:60 R109:IT00009:IT00010:60 = TooManyLegs
+R100 5 - reroute R103:IT00003:IT00004:60 R104:IT00004:IT00005:60 \
+    R105:IT00005:IT00006:60 R106:IT00006:IT00007:60 R107:IT00007:IT00008:60 \
+    R108:IT00008:IT00009:60 = InYard 1 AT00002 R102 2025-03-01T21:10Z late by 340";
+
+// What comes before, and the lines that go on from there with what is seen.
+const JOURNEYS: [(&str, &str); 10] = [
+    ("", FROM_THE_PLAN),
+    (DEPARTED, DELAYS),
+    (DEPARTED, LATE),
+    (DEPARTED, PAST_THE_CALENDAR),
+    (RECEIVED, LAST_OF_THE_CALENDAR),
+    (DEPARTED, INTERCHANGE),
+    (DEPARTED, NOT_RECEIVED),
+    (DEPARTED, TIMES_OF_LEGS),
+    (DEPARTED, NEW_LEGS),
+    (RECEIVED, EIGHT_LEGS_AT_MOST),
+];
+
 #[test]
 fn journeys(rt: HostRuntime) -> Result<(), Fail> {
-    let alloc = rt.alloc();
-    let table: [(&[&str], &[(&str, &str)]); 10] = [
-        // From the plan to the departure.
-        (
-            &[],
-            &[
-                ("R101 1 06:00 depart", "WrongStage"),
-                ("R101 2 05:30 release", "NotYours"),
-                (
-                    "R100 2 05:30 release",
-                    "Released 0 DE00001 ---- 2025-03-01T14:30Z",
-                ),
-                (
-                    "R101 2 06:00 depart",
-                    "Running 0 ------- R101 2025-03-01T15:00Z",
-                ),
-                ("R101 2 10:00 arrival", "NotLastLeg"),
-            ],
-        ),
-        // Delays, until an estimate is reported.
-        (
-            &DEPARTED,
-            &[
-                (
-                    "R101 2 07:00 exception 45",
-                    "Running 0 ------- R101 2025-03-01T15:45Z late by 15",
-                ),
-                (
-                    "R101 3 11:10 eti",
-                    "Running 0 ------- R101 2025-03-01T15:10Z",
-                ),
-                (
-                    "R101 4 11:00 exception 5",
-                    "Running 0 ------- R101 2025-03-01T15:15Z",
-                ),
-            ],
-        ),
-        // Late only past the promise.
-        (
-            &DEPARTED,
-            &[
-                (
-                    "R101 2 11:30 eti",
-                    "Running 0 ------- R101 2025-03-01T15:30Z",
-                ),
-                (
-                    "R101 3 11:31 eti",
-                    "Running 0 ------- R101 2025-03-01T15:31Z late by 1",
-                ),
-                (
-                    "R101 4 11:32 eti",
-                    "Running 0 ------- R101 2025-03-01T15:32Z late by 2",
-                ),
-            ],
-        ),
-        // The end of the calendar.
-        (
-            &DEPARTED,
-            &[("R101 2 2199-12-31T23:59Z eti", "BeyondCalendar")],
-        ),
-        (
-            &RECEIVED,
-            &[(
-                "R102 3 2199-12-31T23:59Z eti",
-                "InYard 1 AT00002 R102 2199-12-31T23:59Z late by 91954589",
-            )],
-        ),
-        // An interchange, and the second leg.
-        (
-            &DEPARTED,
-            &[
-                ("R101 6 10:50 offer AT00002 R102", "WrongStage"),
-                (
-                    "R101 2 10:40 yard_in AT00002",
-                    "InYard 0 AT00002 R101 2025-03-01T15:00Z",
-                ),
-                ("R101 5 10:45 offer AT00009 R102", "WrongPlace"),
-                ("R101 5 10:45 offer AT00002 R103", "WrongNext"),
-                (
-                    "R101 6 10:50 offer AT00002 R102",
-                    "Offered 0 AT00002 R101 2025-03-01T15:00Z",
-                ),
-                (
-                    "R102 1 11:10 receive AT00002",
-                    "InYard 1 AT00002 R102 2025-03-01T15:10Z",
-                ),
-                ("R102 2 11:10 receive AT00002", "WrongStage"),
-                ("R102 3 11:30 yard_out AT00009", "WrongPlace"),
-                (
-                    "R102 4 11:30 yard_out AT00002",
-                    "Running 1 ------- R102 2025-03-01T15:10Z",
-                ),
-                (
-                    "R102 5 15:00 arrival",
-                    "Arrived 1 IT00003 R102 2025-03-01T15:00Z",
-                ),
-                (
-                    "R102 6 15:20 delivery",
-                    "Delivered 1 IT00003 ---- 2025-03-01T15:20Z",
-                ),
-            ],
-        ),
-        // A refused offer, and one that is withdrawn.
-        (
-            &DEPARTED,
-            &[
-                (
-                    "R101 5 10:45 yard_in AT00002",
-                    "InYard 0 AT00002 R101 2025-03-01T15:00Z",
-                ),
-                (
-                    "R101 6 10:50 offer AT00002 R102",
-                    "Offered 0 AT00002 R101 2025-03-01T15:00Z",
-                ),
-                (
-                    "R102 1 11:10 refuse AT00002",
-                    "InYard 0 AT00002 R101 2025-03-01T15:00Z",
-                ),
-                (
-                    "R101 7 11:20 offer AT00002 R102",
-                    "Offered 0 AT00002 R101 2025-03-01T15:00Z",
-                ),
-                (
-                    "R101 8 11:30 withdraw AT00002",
-                    "InYard 0 AT00002 R101 2025-03-01T15:00Z",
-                ),
-            ],
-        ),
-        // Times of legs.
-        (
-            &DEPARTED,
-            &[
-                (
-                    "R102 1 - leg_time 1 200",
-                    "Running 0 ------- R101 2025-03-01T14:20Z",
-                ),
-                ("R101 2 - leg_time 0 200", "LegStarted"),
-                ("R101 3 - leg_time 5 200", "NoSuchLeg"),
-                (
-                    "R100 3 - eti_ask",
-                    "Running 0 ------- R101 2025-03-01T14:20Z",
-                ),
-            ],
-        ),
-        // New legs.
-        (
-            &DEPARTED,
-            &[
-                ("R101 2 - reroute R103:AT00002:CH00004:180", "NotYours"),
-                ("R100 4 - reroute R101:AT00002:CH00004:180", "WrongNext"),
-                ("R100 5 - reroute R103:AT00009:CH00004:180", "WrongPlace"),
-                (
-                    "R100 3 - reroute R103:AT00002:CH00004:180",
-                    "Running 0 ------- R101 2025-03-01T14:00Z",
-                ),
-            ],
-        ),
-        // Eight legs at most.
-        (
-            &RECEIVED,
-            &[
-                (
-                    "R100 4 - reroute R103:IT00003:IT00004:60 R104:IT00004:IT00005:60 \
-                     R105:IT00005:IT00006:60 R106:IT00006:IT00007:60 R107:IT00007:IT00008:60 \
-                     R108:IT00008:IT00009:60 R109:IT00009:IT00010:60",
-                    "TooManyLegs",
-                ),
-                (
-                    "R100 5 - reroute R103:IT00003:IT00004:60 R104:IT00004:IT00005:60 \
-                     R105:IT00005:IT00006:60 R106:IT00006:IT00007:60 R107:IT00007:IT00008:60 \
-                     R108:IT00008:IT00009:60",
-                    "InYard 1 AT00002 R102 2025-03-01T21:10Z late by 340",
-                ),
-            ],
-        ),
-    ];
-    for (before, steps) in table {
-        assert_eq!(rt; first_difference(alloc, before, steps)?, None);
+    for (before, lines) in JOURNEYS {
+        let mut run = two_legs(rt.alloc(), before)?;
+        assert_eq!(rt; run.first_difference(rt.alloc(), lines)?, None);
     }
     Ok(())
 }
 
-#[test]
-fn an_empty_wagon(rt: HostRuntime) -> Result<(), Fail> {
-    let alloc = rt.alloc();
+const EMPTY: &str = "R100 2 05:30 release = Released 0 DE00001 ---- 2025-03-01T10:30Z
+R201 1 06:00 depart = Running 0 ------- R201 2025-03-01T11:00Z
+R201 2 08:00 yard_in DE00003 = InYard 0 DE00003 R201 2025-03-01T11:00Z
+R201 3 08:10 yard_out DE00004 = WrongPlace
+R201 4 08:10 yard_out DE00003 = Running 0 ------- R201 2025-03-01T11:00Z
+R201 5 08:30 exception 45 = Running 0 ------- R201 2025-03-01T11:45Z
+R201 6 11:00 arrival = Arrived 0 AT00002 R201 2025-03-01T11:00Z
+R201 7 11:20 delivery = Delivered 0 AT00002 ---- 2025-03-01T11:20Z
+R201 8 11:20 delivery = WrongStage";
+
+fn empty_wagon(alloc: Global) -> Result<Run, Fail> {
     let empty = wagon("338478961232")?;
     let plan = planned(alloc, Load::Empty, &[empty], &["R201:DE00001:AT00002:300"])?;
-    let mut run = Run::open(alloc, empty, plan)?;
-    for (line, want) in [
-        (
-            "R100 2 05:30 release",
-            "Released 0 DE00001 ---- 2025-03-01T10:30Z",
-        ),
-        (
-            "R201 1 06:00 depart",
-            "Running 0 ------- R201 2025-03-01T11:00Z",
-        ),
-        (
-            "R201 2 08:00 yard_in DE00003",
-            "InYard 0 DE00003 R201 2025-03-01T11:00Z",
-        ),
-        ("R201 3 08:10 yard_out DE00004", "WrongPlace"),
-        (
-            "R201 4 08:10 yard_out DE00003",
-            "Running 0 ------- R201 2025-03-01T11:00Z",
-        ),
-        (
-            "R201 5 08:30 exception 45",
-            "Running 0 ------- R201 2025-03-01T11:45Z",
-        ),
-        (
-            "R201 6 11:00 arrival",
-            "Arrived 0 AT00002 R201 2025-03-01T11:00Z",
-        ),
-        (
-            "R201 7 11:20 delivery",
-            "Delivered 0 AT00002 ---- 2025-03-01T11:20Z",
-        ),
-        ("R201 8 11:20 delivery", "WrongStage"),
-    ] {
-        let seen = run.step(alloc, line)?;
-        assert_eq!(rt; seen.as_str(), want, "after {line}");
-    }
+    Run::open(alloc, empty, plan)
+}
+
+#[test]
+fn an_empty_wagon(rt: HostRuntime) -> Result<(), Fail> {
+    let mut run = empty_wagon(rt.alloc())?;
+    assert_eq!(rt; run.first_difference(rt.alloc(), EMPTY)?, None);
     assert_eq!(rt; run.track.events().len(), 8);
-    let shown = run.record(alloc)?;
+    let shown = run.record(rt.alloc())?;
     assert_eq!(rt; shown.status, Status::FleetControl);
     assert_eq!(rt; shown.events.as_slice().len(), 8);
     Ok(())
 }
 
-#[test]
-fn twenty_thousand_delays(rt: HostRuntime) -> Result<(), Fail> {
-    let alloc = rt.alloc();
-    let mut run = two_legs(alloc)?;
-    for line in DEPARTED {
-        let _seen = run.step(alloc, line)?;
-    }
+// What is seen after delays of a minute under the numbers from 2 up to the last.
+fn delayed(alloc: Global, run: &mut Run, last: u64) -> Result<String, Fail> {
     let mut seen = String::new(alloc);
-    for number in 2..20_002u64 {
+    for number in 2..=last {
         let line = format!(in alloc; "R101 {number} 07:00 exception 1")?;
         seen = run.step(alloc, &line)?;
     }
+    Ok(seen)
+}
+
+#[test]
+fn twenty_thousand_delays(rt: HostRuntime) -> Result<(), Fail> {
+    let mut run = two_legs(rt.alloc(), DEPARTED)?;
+    let seen = delayed(rt.alloc(), &mut run, 20_001)?;
     assert_eq!(rt;
         seen.as_str(),
         "Running 0 ------- R101 2025-03-15T12:20Z late by 19970"
@@ -312,70 +172,62 @@ fn twenty_thousand_delays(rt: HostRuntime) -> Result<(), Fail> {
     Ok(())
 }
 
+// Those of the railways that may see the wagon.
+fn seen_by(alloc: Global, track: &Track, railways: &str) -> Result<String, Fail> {
+    let mut seeing = String::new(alloc);
+    for railway in railways.split_ascii_whitespace() {
+        if may_see(track, Railway::read(railway)?) {
+            seeing.push_str(&format!(in alloc; " {railway}")?)?;
+        }
+    }
+    Ok(seeing)
+}
+
 #[test]
 fn who_may_see(rt: HostRuntime) -> Result<(), Fail> {
-    let alloc = rt.alloc();
-    let mut run = two_legs(alloc)?;
-    for line in DEPARTED {
-        let _seen = run.step(alloc, line)?;
-    }
-    for (railway, sees) in [
-        ("R100", true),
-        ("R101", true),
-        ("R102", true),
-        ("R103", false),
-        ("R999", false),
-    ] {
-        let by = Railway::read(railway)?;
-        assert_eq!(rt; may_see(&run.track, by), sees, "{railway}");
-    }
-    let rerouted = "R100 3 - reroute R103:AT00002:CH00004:180";
-    let _seen = run.step(alloc, rerouted)?;
-    for (railway, sees) in [
-        ("R100", true),
-        ("R101", true),
-        ("R102", false),
-        ("R103", true),
-    ] {
-        let by = Railway::read(railway)?;
-        assert_eq!(rt; may_see(&run.track, by), sees, "{railway} then");
-    }
+    let railways = "R100 R101 R102 R103 R999";
+    let mut run = two_legs(rt.alloc(), DEPARTED)?;
+    let seeing = seen_by(rt.alloc(), &run.track, railways)?;
+    assert_eq!(rt; seeing.as_str(), " R100 R101 R102");
+    run.go_on(rt.alloc(), "R100 3 - reroute R103:AT00002:CH00004:180")?;
+    let seeing = seen_by(rt.alloc(), &run.track, railways)?;
+    assert_eq!(rt; seeing.as_str(), " R100 R101 R103");
     Ok(())
 }
 
 #[test]
 fn parts_of_a_track(rt: HostRuntime) -> Result<(), Fail> {
-    let alloc = rt.alloc();
-    let mut run = two_legs(alloc)?;
-    for line in DEPARTED {
-        let _seen = run.step(alloc, line)?;
-    }
+    let run = two_legs(rt.alloc(), DEPARTED)?;
     let track = &run.track;
+    let second = Some(leg(rt.alloc(), "R102:AT00002:IT00003:240")?);
     assert_eq!(rt; track.wagon(), wagon("218124712173")?);
     assert_eq!(rt; track.plan().wagons().len(), 2);
-    let second = Some(leg(alloc, "R102:AT00002:IT00003:240")?);
     assert_eq!(rt; track.leg(1), second);
     assert_eq!(rt; track.leg(2), None);
     assert_eq!(rt; track.legs().last().copied(), second);
     assert!(rt; track.situation().is_on_its_way());
-    assert_eq!(rt; run.estimates().estimate(0), Some(moment(alloc, "11:00")?));
-    assert_eq!(rt; run.estimates().estimate(1), Some(moment(alloc, "15:00")?));
-    assert_eq!(rt; run.estimates().estimate(2), None);
+    Ok(())
+}
+
+#[test]
+fn estimates_of_a_track(rt: HostRuntime) -> Result<(), Fail> {
+    let run = two_legs(rt.alloc(), DEPARTED)?;
+    let first = Some(moment(rt.alloc(), "11:00")?);
+    let second = Some(moment(rt.alloc(), "15:00")?);
+    for (leg, at) in [(0, first), (1, second), (2, None)] {
+        assert_eq!(rt; run.estimates().estimate(leg), at, "leg {leg}");
+    }
     assert!(rt; !run.estimates().late());
     Ok(())
 }
 
 #[test]
 fn a_prepared_event(rt: HostRuntime) -> Result<(), Fail> {
-    let alloc = rt.alloc();
-    let mut run = two_legs(alloc)?;
-    for line in DEPARTED {
-        let _seen = run.step(alloc, line)?;
-    }
-    let next = event(alloc, "R101 2 10:40 yard_in AT00002")?.prepared(alloc)?;
-    assert!(rt; run.put(next)?);
+    let mut run = two_legs(rt.alloc(), DEPARTED)?;
+    let next = event(rt.alloc(), "R101 2 10:40 yard_in AT00002")?;
+    assert!(rt; run.put(next.prepared(rt.alloc())?)?);
     assert_eq!(rt; run.track.stage(), Stage::InYard);
-    assert_eq!(rt; run.estimates().eta(), Some(moment(alloc, "15:00")?));
+    assert_eq!(rt; run.estimates().eta(), Some(moment(rt.alloc(), "15:00")?));
     Ok(())
 }
 
@@ -385,12 +237,8 @@ const RECORD: &[u8] =
 
 #[test]
 fn the_record_of_a_wagon(rt: HostRuntime) -> Result<(), Fail> {
-    let alloc = rt.alloc();
-    let mut run = two_legs(alloc)?;
-    for line in DEPARTED {
-        let _seen = run.step(alloc, line)?;
-    }
-    let text = write_record(alloc, &run.record(alloc)?)?;
+    let run = two_legs(rt.alloc(), DEPARTED)?;
+    let text = write_record(rt.alloc(), &run.record(rt.alloc())?)?;
     assert_eq!(rt; text.as_slice(), RECORD);
     Ok(())
 }
