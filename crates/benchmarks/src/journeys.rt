@@ -82,7 +82,8 @@ impl Run {
         if self.track.admits(&event).is_some() {
             bail!("the sample is refused");
         }
-        if self.estimates().would_pass_calendar(&self.track, &event) {
+        let step = self.track.step(&event);
+        if self.estimates().step_passes_calendar(&step) {
             bail!("the sample passes the calendar");
         }
         if self.track.events().len() >= 1 << 62 {

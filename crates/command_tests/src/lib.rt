@@ -3,12 +3,12 @@
 //! | part | tests |
 //! |---|---|
 //! | `commands` | the commands of `taf_hub`: their texts, their faults and their statuses |
-//! | `benchmarks` | the words of `bench`, and how many lines each benchmark prints |
+//! | `measurements` | the words of `bench`, and how many lines each benchmark prints |
 //!
 //! The tests stand apart from the crates that they test, since a crate with tests is proved twice.
 #![tactic(auto)]
 
 #[cfg(test)]
-mod benchmarks;
-#[cfg(test)]
 mod commands;
+#[cfg(test)]
+mod measurements;
