@@ -1,5 +1,5 @@
 -- Each call that sends a message keeps the message's limits.
-use Rattle.std.proofs.Common.{◌≡◌, ℕ, ◌≤◌, List, [], length, Bool, true, false, Option, Some, None, Result, Ok, Err, All, is_some, ok_or, refl, ap, ◌∙◌, subst, arith, if◌then◌else◌}
+use Rattle.std.proofs.Common.{◌≡◌, ℕ, ◌≤◌, List, [], length, Bool, true, false, Option, Some, None, Result, Ok, Err, All, is_some, ok_or, refl, ap, sym, ◌∙◌, subst, arith, if◌then◌else◌}
 use Rattle.std.proofs.lemmas.List.Elements.{All-nil}
 use Rattle.serde_json.specs.Data.{Data, null, boolean, number, string, array, object}
 use Rattle.serde_json.specs.Find.{get, as_object}
@@ -11,7 +11,10 @@ use Rattle.trip_plan.specs.declared.parts.UnitLoad.{UnitLoad}
 use Rattle.trip_plan.specs.Trip.{Trip, plan_fault, route_fault}
 use Rattle.call_reader.specs.Good as good
 use Rattle.taf_messages.specs.Kept.{IsBetween, IsLeg, IsUnitLoad, IsTrip, IsMovementKind, IsMovement, IsOffer, AreAnswered, IsAnswer, IsRailwayIfThere, IsBody, IsMessage}
+use Rattle.std.specs.Prelude.{bytes_eq}
+use Rattle.taf_codes.specs.Equality.{texts}
 use Rattle.taf_messages.specs.Limits.{may_be_offered}
+use Rattle.taf_messages.specs.Leads.{is_sent_by_its_lead}
 use Rattle.taf_messages.specs.Names.{field_name}
 use Rattle.call_reader.specs.Reading.{◌>>=◌, good_or_fault, field_of, good_if_there, optional_field_of, plan_or_fault, plan_made, route_or_fault, listed_units, units_of, plan_of, route_of, movement_kind_of, movement_of, offer_of, answer_of, body_of, message_of, call_of_kind, kind_of, call_of, call_read}
 use Rattle.taf_messages.specs.declared.field.Field.{Field}
@@ -271,6 +274,20 @@ body_kept names.Reroute by d b h =
     let route = given (route_of d) (λ r. Ok (body.Reroute w.0 r)) b w.2 in
     let legs = route_kept d route.0 route.1 in
     subst (IsBody by) (same_ok (body.Reroute w.0 route.0) b route.2) (record { wagon = wagon_field d w.0 w.1; legs = legs.0; rules = legs.1 })
+
+-- the lead of a plan that is read is its sender
+from_its_lead : (by : List ℕ) (b : Body) → IsBody by b → is_sent_by_its_lead by b ≡ true
+from_its_lead by (body.Plan p) h = subst (λ t. bytes_eq t by ≡ true) (sym h.sender) (texts.itself by)
+from_its_lead by (body.Movement m) h = refl
+from_its_lead by (body.EtiAsk w) h = refl
+from_its_lead by (body.LegTime w leg minutes) h = refl
+from_its_lead by (body.Offer o) h = refl
+from_its_lead by (body.Answer a) h = refl
+from_its_lead by (body.Withdraw at offer) h = refl
+from_its_lead by (body.Reroute w route) h = refl
+
+pub read_from_its_lead : (name : BodyName) (by : List ℕ) (d : Data) (b : Body) → body_of name by d ≡ Ok b → is_sent_by_its_lead by b ≡ true
+read_from_its_lead name by d b h = from_its_lead by b (body_kept name by d b h)
 
 message_kept : (name : BodyName) (d : Data) (m : Message) → message_of name d ≡ Ok m → IsMessage m
 unfolding message_of

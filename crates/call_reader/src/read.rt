@@ -13,7 +13,7 @@ use serde_json::Value;
 use std::alloc::Global;
 use taf_codes::Railway;
 use taf_messages::{
-    Body, BodyName, Call, Field, Kind, Listed, Message, Movement, MovementKind, MovementName,
+    Body, BodyName, Call, Content, Field, Kind, Listed, Message, Movement, MovementKind, MovementName,
     RecordFault, Shared, TrainAnswer, TrainOffer,
 };
 use trip_plan::{Leg, Plan, PlanParts, Route};
@@ -170,16 +170,20 @@ fn read_record(fields: Fields) -> Result<Call, RecordFault>
     }
 }
 
-#[tactic(auto, unfolding(crate::specs::Reading::message_of))]
+#[tactic(auto, using(crate::proofs::SentLemmas::read_from_its_lead), unfolding(crate::specs::Reading::message_of))]
 fn read_message(fields: Fields, name: BodyName) -> Result<Message, RecordFault>
     ensures { Gives result (reading.message_of name (found_data fields.entry.value)) }
 {
     let by = fields.read(Field::From)?;
-    Ok(Message {
+    let content = Content {
         by,
         no: fields.read(Field::No)?,
         body: read_body(fields, by, name)?,
-    })
+    };
+    match Message::new(content) {
+        Some(message) => Ok(message),
+        None => unreachable!(),
+    }
 }
 
 #[tactic(auto, unfolding(crate::specs::Reading::body_of))]

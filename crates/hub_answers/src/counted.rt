@@ -34,7 +34,7 @@ impl<'a> Counted<'a> {
     pub(crate) fn of(tables: &'a Tables, message: &'a Message) -> Counted<'a>
         ensures { result ≡ counted (known tables.now) message.now message.now.body }
     {
-        match &message.body {
+        match message.body() {
             Body::Plan(plan) => Counted::listed(plan.wagons()),
             Body::Movement(movement) => Counted::one(&movement.wagon),
             Body::EtiAsk { wagon } => Counted::one(wagon),
@@ -42,7 +42,7 @@ impl<'a> Counted<'a> {
             Body::Reroute { wagon, .. } => Counted::one(wagon),
             Body::Offer(offer) => Counted::listed(offer.get().wagons.as_slice()),
             Body::Answer(answer) => Counted::answered(tables, answer.get()),
-            Body::Withdraw { offer, .. } => Counted::listed(offered(tables, message.by, *offer)),
+            Body::Withdraw { offer, .. } => Counted::listed(offered(tables, message.by(), *offer)),
         }
     }
 

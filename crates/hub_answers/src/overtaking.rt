@@ -46,7 +46,7 @@ fn any_counted(tables: &Tables, message: &Message, loads: &[UnitLoad]) -> bool
 fn counts_unit(tables: &Tables, message: &Message, unit: UnitCode) -> bool
     ensures { result ≡ of.counts_unit (known tables.now) message.now unit }
 {
-    if loads(units_in(&message.body), unit) {
+    if loads(units_in(message.body()), unit) {
         return true;
     }
     match tables.unit_wagon(unit) {
@@ -76,10 +76,10 @@ fn consignment_in(body: &Body) -> Option<ConsignmentId>
 fn offer_named(message: &Message) -> Option<(Railway, MessageNumber)>
     ensures { result ≡ of.offer_named message.now message.now.body }
 {
-    match &message.body {
-        Body::Offer(_) => Some((message.by, message.no)),
+    match message.body() {
+        Body::Offer(_) => Some((message.by(), message.no())),
         Body::Answer(answer) => Some((answer.get().offerer, answer.get().offer)),
-        Body::Withdraw { offer, .. } => Some((message.by, *offer)),
+        Body::Withdraw { offer, .. } => Some((message.by(), *offer)),
         _ => None,
     }
 }

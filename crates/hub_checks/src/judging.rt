@@ -21,13 +21,13 @@ pub fn fault(alloc: Global, tables: &Tables, message: &Message) -> Result<Option
     requires { OpenIsOffered (known tables.now) }
     ensures { IfOk result (λ f. f ≡ of.fault (known tables.now) message.now) }
 {
-    if let Some(why) = whole_fault(tables, message.by, &message.body) {
+    if let Some(why) = whole_fault(tables, message.by(), message.body()) {
         return Ok(Some(Fault { why, wagon: None }));
     }
     let wagons = tables.named(alloc, message)?;
     match first_fault(tables, message, wagons.as_slice())? {
         Some(found) => Ok(Some(found)),
-        None => Ok(unit_fault(tables, units_in(&message.body))),
+        None => Ok(unit_fault(tables, units_in(message.body()))),
     }
 }
 

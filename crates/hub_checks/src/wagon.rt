@@ -27,7 +27,7 @@ pub(crate) fn wagon_fault(
     requires is_named { has (named (known tables.now).offer message.now) wagon ≡ true }
     ensures { IfOk result (λ why. why ≡ of.wagon_fault (known tables.now) message.now message.now.body wagon) }
 {
-    match &message.body {
+    match message.body() {
         Body::Plan(_) => Ok(busy_fault(tables, wagon)),
         Body::Answer(_) => calendar_fault(tables, message, wagon),
         Body::Withdraw { .. } => Ok(None),

@@ -42,7 +42,7 @@ fn repeat_reply(books: &Books, position: u64, message: &Message) -> Result<Reply
                 copy_reply(&entry.reply)
             } else {
                 Ok(Reply::Refused {
-                    no: Some(message.no),
+                    no: Some(message.no()),
                     why: Why::NumberReused,
                     wagon: None,
                     last: None,
@@ -173,7 +173,7 @@ fn accept(alloc: Global, books: &mut Books, message: Shared<Message>) -> Result<
 fn note_moment(message: &Message)
     ensures { IsMoment (moment_in message.now.body) }
 {
-    let _minutes = match &message.body {
+    let _minutes = match message.body() {
         Body::Movement(movement) => movement.at.minutes(),
         Body::Offer(offer) => offer.get().at.minutes(),
         Body::Answer(answer) => answer.get().at.minutes(),
@@ -186,7 +186,7 @@ fn note_moment(message: &Message)
 fn note_lists(message: &Message)
     ensures { IsWithinLimits message.now }
 {
-    let _lengths = match &message.body {
+    let _lengths = match message.body() {
         Body::Plan(plan) => (plan.legs().len(), plan.wagons().len()),
         Body::Offer(offer) => (0, offer.get().wagons.as_slice().len()),
         Body::Answer(answer) => {

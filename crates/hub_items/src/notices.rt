@@ -33,7 +33,7 @@ pub(crate) fn notices(
         &ItemBody::Notice(notice.clone()?),
         railways.as_slice(),
     )?;
-    put_sub_notice(alloc, &mut items, message.by, &message.body)?;
+    put_sub_notice(alloc, &mut items, message.by(), message.body())?;
     Ok(items)
 }
 

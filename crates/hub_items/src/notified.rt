@@ -28,14 +28,14 @@ pub(crate) fn notified(
     requires many { tells_one message.now.body ≡ false }
     ensures { IfOk result (λ v. v.items ≡ of.notified (known tables.now) (journey_after (known tables.now) message.now) message.now.by message.now.body) }
 {
-    match &message.body {
+    match message.body() {
         Body::Plan(plan) => Ok(runners(alloc, plan.legs())?),
         Body::Movement(_) | Body::EtiAsk { .. } => unreachable!(),
         Body::LegTime { .. } => Ok(Vec::new(alloc)),
         Body::Offer(offer) => Ok(listed(alloc, Some(offer.get().to))?),
         Body::Answer(answer) => told_of_answer(alloc, tables, message, answer.get()),
         Body::Withdraw { offer, .. } => {
-            let asked = tables.offer(message.by, *offer).map(|found| found.to);
+            let asked = tables.offer(message.by(), *offer).map(|found| found.to);
             Ok(listed(alloc, asked)?)
         }
         Body::Reroute { wagon, route } => match tables.wagon(*wagon) {

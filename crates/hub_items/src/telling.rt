@@ -47,7 +47,7 @@ fn all_items(
     requires same { notice.now ≡ message.now }
     ensures { IfOk result (λ v. v.items ≡ told_by (known tables.now) message.now) }
 {
-    match &message.body {
+    match message.body() {
         Body::Movement(movement) => items_of_movement(alloc, tables, message, notice, movement),
         Body::EtiAsk { wagon } => {
             let next = Next::of(tables, message, *wagon)?;
@@ -198,7 +198,7 @@ fn put_of_wagon(
     ensures estimates { OnOk result (items.new.items ≡ items.old.items ++ of.estimate_items ((known tables.now).journey wagon) (journey_after (known tables.now) message.now wagon) wagon) }
     ensures alerts { OnOk result (alerts.new.items ≡ alerts.old.items ++ of.alert_items ((known tables.now).journey wagon) (journey_after (known tables.now) message.now wagon) wagon) }
 {
-    match &message.body {
+    match message.body() {
         Body::Plan(plan) => put_alert_end(alerts, tables, plan.lead(), wagon),
         _ => {
             let next = Next::of(tables, message, wagon)?;

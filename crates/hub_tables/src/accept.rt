@@ -29,7 +29,7 @@ impl Tables {
         ensures ok { OnOk result (known self.new ≡ tabled (accepted (known self.old) message.now)) }
         ensures err { OnErr result (known self.new ≡ known self.old) }
     {
-        match &message.body {
+        match message.body() {
             Body::Plan(plan) => self.take_plan(alloc, message, plan),
             Body::Offer(offer) => self.take_offer(alloc, message, offer.get()),
             Body::Answer(answer) => {
@@ -37,8 +37,8 @@ impl Tables {
                 self.settle(alloc, message, *offerer, *offer)
             }
             Body::Withdraw { offer, .. } => {
-                self.offered_differ(message.by, *offer);
-                self.settle(alloc, message, message.by, *offer)
+                self.offered_differ(message.by(), *offer);
+                self.settle(alloc, message, message.by(), *offer)
             }
             _ => self.take_events(alloc, message),
         }
@@ -152,7 +152,7 @@ impl Tables {
 fn alone(message: &Message) -> Option<WagonNumber>
     ensures { IfSome result (λ w. (offer : Railway → ℕ → Option Offer) → named offer message.now ≡ w ∷ []) }
 {
-    match &message.body {
+    match message.body() {
         Body::Movement(movement) => Some(movement.wagon),
         Body::EtiAsk { wagon } => Some(*wagon),
         Body::LegTime { wagon, .. } => Some(*wagon),
@@ -188,8 +188,8 @@ fn made_by(message: &Message, offer: &TrainOffer) -> Result<Offer, Memory>
     ensures { IfOk result (λ o. o ≡ record { by = message.now.by; no = message.now.no; to = offer.now.to; place = offer.now.place; wagons = offer.now.wagons }) }
 {
     Ok(Offer {
-        by: message.by,
-        no: message.no,
+        by: message.by(),
+        no: message.no(),
         to: offer.to,
         place: offer.place,
         wagons: offer.wagons.clone()?,

@@ -56,7 +56,7 @@ impl Tables {
     ) -> Result<CowSlice<'a, WagonNumber>, Memory>
         ensures { IfOk result (λ ws. cow_slice_items ws ≡ named (known self.now).offer message.now) }
     {
-        let wagons = match &message.body {
+        let wagons = match message.body() {
             Body::Plan(plan) => plan.wagons(),
             Body::Movement(movement) => slice::from_ref(&movement.wagon),
             Body::EtiAsk { wagon } => slice::from_ref(wagon),
@@ -68,7 +68,7 @@ impl Tables {
                 let wagons = both(alloc, answer.received.as_slice(), answer.refused.as_slice())?;
                 return Ok(CowSlice::Owned(wagons));
             }
-            Body::Withdraw { offer, .. } => self.offered(message.by, *offer),
+            Body::Withdraw { offer, .. } => self.offered(message.by(), *offer),
         };
         Ok(CowSlice::Borrowed(wagons))
     }
@@ -100,7 +100,7 @@ impl Tables {
         requires { whole_fault (known self.now) message.now.by message.now.body ≡ None }
         ensures { IfOk result (λ says. says ≡ said_of (known self.now).offer message.now.by message.now.body wagon) }
     {
-        Ok(match &message.body {
+        Ok(match message.body() {
             Body::Plan(plan) => EventBody::Planned(plan.copy()?),
             Body::Movement(movement) => EventBody::Moved(movement.what),
             Body::EtiAsk { .. } => EventBody::EstimateAsked,
@@ -117,7 +117,7 @@ impl Tables {
                 received: has(answer.get().received.as_slice(), wagon),
             },
             Body::Withdraw { offer, .. } => EventBody::Withdrawn {
-                place: self.place(message.by, *offer),
+                place: self.place(message.by(), *offer),
             },
             Body::Reroute { route, .. } => EventBody::Rerouted(route.copy()?),
         })
@@ -130,9 +130,9 @@ impl Tables {
         ensures { IfOk result (λ e. e ≡ share (known self.now).offer message.now wagon) }
     {
         Ok(Event {
-            by: message.by,
-            no: message.no,
-            at: moment_in(&message.body),
+            by: message.by(),
+            no: message.no(),
+            at: moment_in(message.body()),
             body: self.said(message, wagon)?,
         })
     }

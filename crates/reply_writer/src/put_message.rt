@@ -48,13 +48,13 @@ impl Object for Message {
 
     #[tactic(auto, unfolding(crate::specs::Shapes::body_fields))]
     fn put_members(&self, out: &mut Writer) -> Result<(), AllocError> {
-        match &self.body {
-            Body::Plan(plan) => put_plan(out, self.by, self.no, plan),
-            Body::Movement(movement) => put_movement(out, self.by, self.no, movement),
+        match self.body() {
+            Body::Plan(plan) => put_plan(out, self.by(), self.no(), plan),
+            Body::Movement(movement) => put_movement(out, self.by(), self.no(), movement),
             Body::EtiAsk { wagon } => {
-                put_field(out, "from", &self.by)?;
+                put_field(out, "from", &self.by())?;
                 put_field(out, "kind", &BodyName::EtiAsk)?;
-                put_field(out, "no", &self.no)?;
+                put_field(out, "no", &self.no())?;
                 put_field(out, "wagon", wagon)?;
                 Ok(())
             }
@@ -63,21 +63,21 @@ impl Object for Message {
                 leg,
                 minutes,
             } => put_leg_time(out, self, *wagon, *leg, *minutes),
-            Body::Offer(offer) => put_offer(out, self.by, self.no, offer.get()),
-            Body::Answer(answer) => put_answer(out, self.by, self.no, answer.get()),
+            Body::Offer(offer) => put_offer(out, self.by(), self.no(), offer.get()),
+            Body::Answer(answer) => put_answer(out, self.by(), self.no(), answer.get()),
             Body::Withdraw { at, offer } => {
                 put_field(out, "at", at)?;
-                put_field(out, "from", &self.by)?;
+                put_field(out, "from", &self.by())?;
                 put_field(out, "kind", &BodyName::Withdraw)?;
-                put_field(out, "no", &self.no)?;
+                put_field(out, "no", &self.no())?;
                 put_field(out, "offer", offer)?;
                 Ok(())
             }
             Body::Reroute { wagon, route } => {
-                put_field(out, "from", &self.by)?;
+                put_field(out, "from", &self.by())?;
                 put_field(out, "kind", &BodyName::Reroute)?;
                 put_field(out, "legs", &route.legs())?;
-                put_field(out, "no", &self.no)?;
+                put_field(out, "no", &self.no())?;
                 put_field(out, "wagon", wagon)?;
                 Ok(())
             }
@@ -131,11 +131,11 @@ fn put_leg_time(
     ensures ok { OnOk result (AddsFields out.old out.new (shape.leg_time_fields message.now.by message.now.no wagon leg minutes)) }
     ensures before { out.new.before ≡ out.old.before }
 {
-    put_field(out, "from", &message.by)?;
+    put_field(out, "from", &message.by())?;
     put_field(out, "kind", &BodyName::LegTime)?;
     put_field(out, "leg", &leg)?;
     put_field(out, "minutes", &minutes)?;
-    put_field(out, "no", &message.no)?;
+    put_field(out, "no", &message.no())?;
     put_field(out, "wagon", &wagon)?;
     Ok(())
 }

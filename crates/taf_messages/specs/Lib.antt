@@ -1,4 +1,5 @@
 pub mod Limits
+pub mod Leads
 pub mod Content
 pub mod Names
 pub mod Details

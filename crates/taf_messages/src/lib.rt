@@ -3,7 +3,8 @@
 //! The messages are those of wagon movement (4.2.7) and interchange (4.2.8) with the estimates of
 //! 4.2.6; records are what the operational database shows of a wagon (4.2.11).
 //!
-//! - [`Message`] with its [`Body`], [`Call`], [`Item`], [`Reply`] and [`Record`] are plain values.
+//! - [`Message`] with its [`Content`], [`Call`], [`Item`], [`Reply`] and [`Record`] are plain values.
+//!   No message says a plan of another lead than its sender.
 //!   Numbers keep their limits by type ([`Within`]), as do lists of wagons ([`Wagons`],
 //!   [`OfferedWagons`]). [`Listed`] is a list that contracts see as its elements, [`Shared`] a value
 //!   that copies share and that contracts see as itself.
@@ -43,7 +44,7 @@ pub use field::Field;
 pub use item::{Item, ItemBody, SubNotice};
 pub use kind::{BodyName, Kind, MovementName};
 pub use listed::{EstimateList, ItemList, Listed, RecordEvents, Records, Units};
-pub use message::{Body, Message, TrainAnswer, TrainOffer};
+pub use message::{Body, Content, Message, TrainAnswer, TrainOffer};
 pub use movement::{Movement, MovementKind};
 pub use number::{Delay, FetchLimit, ItemNumber, LegIndex, LegMinutes, MessageNumber, Within};
 pub use record::{EstimateAt, Record, Stage, Status};

@@ -1,18 +1,91 @@
+//! Messages of wagon movement (4.2.7), interchange (4.2.8) and estimates (4.2.6).
+ghost use Rattle.std.specs.Prelude.{◌≡◌, true, Some, None, if◌then◌else◌};
+
 use crate::movement::Movement;
 use crate::number::{LegIndex, LegMinutes, MessageNumber};
 use crate::shared::Shared;
 use crate::wagons::{OfferedWagons, Wagons};
+use std::marker::Model;
 use taf_codes::{Place, Railway, TrainId};
 use taf_moment::Moment;
 use trip_plan::{Plan, Route};
 use wagon_number::WagonNumber;
 
-/// A message with its sender and its number.
+/// The content of a message: its sender, its number and what it says.
 #[derive(Clone, Debug, PartialEq, Eq, Drop)]
-pub struct Message {
+pub struct Content {
     pub by: Railway,
     pub no: MessageNumber,
     pub body: Body,
+}
+
+/// A message. The lead of a plan that it says is its sender.
+#[derive(Clone, Debug, PartialEq, Eq, Drop)]
+pub struct Message {
+    content: Content,
+}
+
+impl Model for Message {
+    ghost use Rattle.std.specs.Prelude.{◌≡◌, true};
+    ghost use Rattle.taf_messages.specs.declared.message.Content.{Content};
+    ghost use Rattle.taf_messages.specs.Leads.{is_sent_by_its_lead};
+
+    ghost Value = { Content };
+
+    ghost view = { λ m. m.content };
+
+    ghost invariant = { λ m. is_sent_by_its_lead m.content.by m.content.body ≡ true };
+
+    ghost inverse = { λ content. record { content = content } };
+}
+
+impl Message {
+    ghost use Rattle.taf_messages.specs.Leads.{is_sent_by_its_lead};
+
+    /// The message with this content, unless it says a plan of another lead than its sender.
+    pub fn new(content: Content) -> Option<Message>
+        ensures { result ≡ (if is_sent_by_its_lead content.by content.body then Some content else None) }
+    {
+        let is_from_its_lead = match &content.body {
+            Body::Plan(plan) => plan.lead() == content.by,
+            _ => true,
+        };
+        if is_from_its_lead {
+            Some(Message { content })
+        } else {
+            None
+        }
+    }
+
+    pub fn content(&self) -> &Content
+        ensures value { result.now ≡ self.now }
+        ensures lead { is_sent_by_its_lead self.now.by self.now.body ≡ true }
+    {
+        &self.content
+    }
+
+    /// The sender.
+    #[inline]
+    pub fn by(&self) -> Railway
+        ensures { result ≡ self.now.by }
+    {
+        self.content.by
+    }
+
+    /// The number that the sender gave the message.
+    #[inline]
+    pub fn no(&self) -> MessageNumber
+        ensures { result ≡ self.now.no }
+    {
+        self.content.no
+    }
+
+    #[inline]
+    pub fn body(&self) -> &Body
+        ensures { result.now ≡ self.now.body }
+    {
+        &self.content.body
+    }
 }
 
 /// What a message says.

@@ -3,7 +3,7 @@ use call_reader::read_call;
 use std::alloc::Global;
 use std::test::Fail;
 use taf_codes::{ConsignmentId, Place, Railway};
-use taf_messages::{Body, Call, Message, Shared, Within};
+use taf_messages::{Body, Call, Content, Message, Shared, Within};
 use taf_moment::Moment;
 use wagon_number::WagonNumber;
 
@@ -55,8 +55,10 @@ pub(crate) fn wagons(alloc: Global, texts: &[&str]) -> Result<Vec<WagonNumber>, 
 pub(crate) fn send(alloc: Global, by: &str, no: u64, body: Body) -> Result<Call, Fail> {
     let by = railway(by)?;
     let no = within(no)?;
-    let message = Shared::new(alloc, Message { by, no, body })?;
-    Ok(Call::Send(message))
+    match Message::new(Content { by, no, body }) {
+        Some(message) => Ok(Call::Send(Shared::new(alloc, message)?)),
+        None => Err(Fail::new("a plan of another lead")),
+    }
 }
 
 /// The message that the line sends.
