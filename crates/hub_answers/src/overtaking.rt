@@ -21,7 +21,7 @@ pub fn apart(tables: &Tables, first: &Message, second: &Message) -> bool
     !Counted::of(tables, first).share(&Counted::of(tables, second))
         && !loads_counted(tables, first, second)
         && !loads_counted(tables, second, first)
-        && !shares(consignment_in(&first.body), consignment_in(&second.body))
+        && !shares(consignment_in(first.body()), consignment_in(second.body()))
         && !shares(offer_named(first), offer_named(second))
         && !same_name(first, second)
 }
@@ -30,7 +30,7 @@ pub fn apart(tables: &Tables, first: &Message, second: &Message) -> bool
 fn loads_counted(tables: &Tables, first: &Message, second: &Message) -> bool
     ensures { result ≡ of.loads_counted (known tables.now) first.now second.now }
 {
-    any_counted(tables, second, units_in(&first.body))
+    any_counted(tables, second, units_in(first.body()))
 }
 
 /// Whether the message counts with one of the units.
@@ -98,5 +98,5 @@ fn shares<T: PartialEq + Copy>(first: Option<T>, second: Option<T>) -> bool
 fn same_name(first: &Message, second: &Message) -> bool
     ensures { result ≡ same_name first.now.by first.now.no second.now.by second.now.no }
 {
-    first.by == second.by && first.no == second.no
+    first.by() == second.by() && first.no() == second.no()
 }

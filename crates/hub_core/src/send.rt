@@ -91,8 +91,8 @@ fn refuse(books: &mut Books, message: Shared<Message>, found: Fault) -> Result<R
     ensures err { OnErr result (books.new.history.entries ≡ books.old.history.entries) }
 {
     let said = message.get();
-    let by = said.by;
-    let no = said.no;
+    let by = said.by();
+    let no = said.no();
     let reply = verdict(no, Some(found));
     let told = copy_reply(&reply)?;
     books.seen.reserve(by, no)?;
@@ -155,8 +155,8 @@ fn accept(alloc: Global, books: &mut Books, message: Shared<Message>) -> Result<
 {
     boxes_keep_the_lists();
     let said = message.get();
-    let by = said.by;
-    let no = said.no;
+    let by = said.by();
+    let no = said.no();
     let items = few_items(alloc, &books.tables, &message)?;
     make_room(books, by, no, &items)?;
     books.tables.accept(alloc, said)?;
@@ -250,7 +250,7 @@ pub fn take_send(
     let said = message.get();
     note_moment(said);
     note_lists(said);
-    match books.seen.find(said.by, said.no) {
+    match books.seen.find(said.by(), said.no()) {
         Some(position) => take_again(books, position, message),
         None => take_new(alloc, books, message),
     }

@@ -32,7 +32,7 @@ pub fn items(
 {
     let said = message.get();
     let mut items = all_items(alloc, tables, said, message)?;
-    keep_others(&mut items, said.by);
+    keep_others(&mut items, said.by());
     Ok(items)
 }
 
