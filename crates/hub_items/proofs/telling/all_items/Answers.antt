@@ -18,8 +18,8 @@ returns-in_ok-next-in-EtiAsk c =
     let n = c.in_ok-next-in-EtiAsk.ensures in
     let same = c.progress-progress.ensures in
     let behind = ap after same ∙ n.after in
-    let alone = ap (wagons_in s.offer m.by) c.in-EtiAsk.is in
-    let told = ap (notified s (journey_after s m) m.by) c.in-EtiAsk.is ∙ ap (λ (es : List Event). option_to_list (responsible es)) (sym behind) ∙ ap option_to_list (sym c.responsible.ensures) in
-    let none = ap (sub_items m.by) c.in-EtiAsk.is in
+    let alone = ap (wagons_in s.offer m.by) (sym c.body.ensures ∙ c.in-EtiAsk.is) in
+    let told = ap (notified s (journey_after s m) m.by) (sym c.body.ensures ∙ c.in-EtiAsk.is) ∙ ap (λ (es : List Event). option_to_list (responsible es)) (sym behind) ∙ ap option_to_list (sym c.responsible.ensures) in
+    let none = ap (sub_items m.by) (sym c.body.ensures ∙ c.in-EtiAsk.is) in
     subst (λ (more : List Addressed). IfOk c.items_of_one.result (λ v. v.items ≡ more))
     (told_of_one s m _ _ _ _ c.requires.same alone told none (ap (λ (o : Onward). o.wagon) same ∙ n.wagon) (ap (λ (o : Onward). o.before) same ∙ n.before) behind) c.items_of_one.ensures

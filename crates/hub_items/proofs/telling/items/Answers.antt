@@ -1,5 +1,6 @@
 use Rattle.std.proofs.Common.{ap, ◌∙◌}
 use Rattle.std.specs.Prelude.{filter, not, bytes_eq}
+use Rattle.taf_codes.specs.declared.code.Railway.{Railway}
 use Rattle.taf_messages.specs.declared.message.Message.{Message}
 use Rattle.hub_model.specs.declared.addressed.Addressed.{Addressed}
 use Rattle.hub_tables.specs.Tabled.{known}
@@ -9,5 +10,6 @@ use Rattle.hub_items.proofs.telling.items.Goals as goal
 pub returns : goal.returns
 returns c =
     let said = c.get-said in
-    c.keep_others.ensures ∙ ap (filter (λ (i : Addressed). not (bytes_eq i.to said.result.now.by))) c.in_ok-items.ensures ∙
+    c.keep_others.ensures ∙ ap (λ (by : Railway). filter (λ (i : Addressed). not (bytes_eq i.to by)) c.in_ok-items.items.items) c.by.ensures ∙
+    ap (filter (λ (i : Addressed). not (bytes_eq i.to said.result.now.by))) c.in_ok-items.ensures ∙
     ap (λ (m : Message). filter (λ (i : Addressed). not (bytes_eq i.to m.by)) (told_by (known c.args.tables.now) m)) said.ensures

@@ -1,10 +1,11 @@
-use Rattle.std.proofs.Common.{refl}
+use Rattle.std.proofs.Common.{refl, sym, ◌∙◌}
 use Rattle.hub_tables.specs.Tabled.{known}
 use Rattle.hub_tables.proofs.Taken.{on_ok, answer_differs, single_taken, taken_known}
 use Rattle.hub_tables.proofs.tables.Tables.accept.Goals as goal
 
 pub settle-requires-clause-differ : goal.settle-requires-clause-differ
-settle-requires-clause-differ c = answer_differs (known c.args.self.now) c.args.message.now c.in-Answer.answer c.in-Answer.is c.requires.sound
+settle-requires-clause-differ c =
+    answer_differs (known c.args.self.now) c.args.message.now c.in-Answer.answer (sym c.body.ensures ∙ c.in-Answer.is) c.requires.sound
 
 pub returns-in_default-clause-ok : goal.returns-in_default-clause-ok
 returns-in_default-clause-ok c =
@@ -12,5 +13,5 @@ returns-in_default-clause-ok c =
     let new = c.take_events.new.self in
     let m = c.args.message.now in
     on_ok c.take_events.result
-    (λ on. taken_known old new m (single_taken old new m m.body refl c.in_default.not-Plan c.in_default.not-Offer c.in_default.not-Answer c.in_default.not-Withdraw on c.take_events.ensures.offers))
+    (λ on. taken_known old new m (single_taken old new m m.body refl (λ p e. c.in_default.not-Plan p (c.body.ensures ∙ e)) (λ o e. c.in_default.not-Offer o (c.body.ensures ∙ e)) (λ a e. c.in_default.not-Answer a (c.body.ensures ∙ e)) (λ at k e. c.in_default.not-Withdraw at k (c.body.ensures ∙ e)) on c.take_events.ensures.offers))
     c.take_events.ensures.ok
