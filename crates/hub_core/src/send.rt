@@ -90,9 +90,9 @@ fn refuse(books: &mut Books, message: Shared<Message>, found: Fault) -> Result<R
     ensures grows { IfOk result (λ r. books.new.history.entries ≡ books.old.history.entries ++ record { call = call.Send message; reply = r } ∷ []) }
     ensures err { OnErr result (books.new.history.entries ≡ books.old.history.entries) }
 {
-    let said = message.get();
-    let by = said.by();
-    let no = said.no();
+    let content = message.get().content();
+    let by = content.by;
+    let no = content.no;
     let reply = verdict(no, Some(found));
     let told = copy_reply(&reply)?;
     books.seen.reserve(by, no)?;
@@ -155,8 +155,9 @@ fn accept(alloc: Global, books: &mut Books, message: Shared<Message>) -> Result<
 {
     boxes_keep_the_lists();
     let said = message.get();
-    let by = said.by();
-    let no = said.no();
+    let content = said.content();
+    let by = content.by;
+    let no = content.no;
     let items = few_items(alloc, &books.tables, &message)?;
     make_room(books, by, no, &items)?;
     books.tables.accept(alloc, said)?;

@@ -40,7 +40,8 @@ pub returns-clause-kept : goal.returns-clause-kept
 returns-clause-kept c =
     let b = c.args.books.now in
     let m = c.args.message in
-    let same = c.get-said.ensures in
+    let sent = c.get-said.ensures in
+    let same = c.content-content.ensures.value ∙ sent in
     let n = c.make_room.new.books in
     let r = c.in_ok-make_room.ensures in
     let entry : Reply → Entry = λ reply. record { call = Send m; reply = reply } in
@@ -52,7 +53,7 @@ returns-clause-kept c =
     subst (λ (es : List Entry). AreKept es (known c.accept.new.self) (position_of c.note_reserved.new.self) (kept_for c.deliver.new.outboxes)) (sym entered)
     (kept_accepted b.history.entries m (known b.tables) (position_of b.seen) (kept_for b.outboxes) c.requires.kept c.requires.room c.requires.limits c.requires.new
     c.boxes_keep_the_lists.ensures.push (known c.accept.new.self) (position_of c.note_reserved.new.self) (kept_for c.deliver.new.outboxes) c.requires.acceptable.sound
-    (c.in_ok-accept.ensures.ok ∙ ap (λ (x : Message). tabled (accepted (known n.tables) x)) same ∙ ap (λ (t : Filings). tabled (accepted (known t) m)) r.tables)
+    (c.in_ok-accept.ensures.ok ∙ ap (λ (x : Message). tabled (accepted (known n.tables) x)) sent ∙ ap (λ (t : Filings). tabled (accepted (known t) m)) r.tables)
     (λ by k. c.note_reserved.ensures by k ∙
     ap (λ (x : Message). cond (same_name x.by x.no by k) (Some c.len-position.result) (position_of n.seen by k)) same ∙
     ap (λ (p : ℕ). cond (same_name m.by m.no by k) (Some p) (position_of n.seen by k)) len ∙
@@ -64,10 +65,10 @@ returns-clause-kept c =
 pub returns-clause-answered : goal.returns-clause-answered
 returns-clause-answered c =
     let b = c.args.books.now in
-    c.verdict-2.ensures ∙ ap (λ (x : Message). Accepted x.no) c.get-said.ensures ∙
+    c.verdict-2.ensures ∙ ap (λ (x : Message). Accepted x.no) (c.content-content.ensures.value ∙ c.get-said.ensures) ∙
     new_answer b.history.entries c.args.message (known b.tables) (position_of b.seen) (kept_for b.outboxes) c.requires.kept c.requires.room c.requires.limits c.requires.new None c.requires.acceptable.sound
 
 pub note_reserved-requires-clause-new : goal.note_reserved-requires-clause-new
 note_reserved-requires-clause-new c =
-    let said = c.get-said.result.now in
-    ap (λ (found : Railway → ℕ → Option ℕ). found said.by said.no) c.in_ok-make_room.ensures.positions ∙ ap (λ (x : Message). position_of c.args.books.now.seen x.by x.no) c.get-said.ensures ∙ c.requires.new
+    let said = c.content-content.result.now in
+    ap (λ (found : Railway → ℕ → Option ℕ). found said.by said.no) c.in_ok-make_room.ensures.positions ∙ ap (λ (x : Message). position_of c.args.books.now.seen x.by x.no) (c.content-content.ensures.value ∙ c.get-said.ensures) ∙ c.requires.new

@@ -18,7 +18,7 @@ pub returns-clause-kept : goal.returns-clause-kept
 returns-clause-kept c =
     let b = c.args.books.now in
     let m = c.args.message in
-    let same = c.get-said.ensures in
+    let same = (c.content-content.ensures.value ∙ c.get.ensures) in
     let entry : Reply → Entry = λ r. record { call = Send m; reply = r } in
     let entered : c.push_reserved.new.self.entries ≡ b.history.entries ++ entry (verdict m.no (Some c.args.found)) ∷ [] =
     ap (λ (p : Paged Entry). p.entries) c.push_reserved.ensures ∙ ap (λ (e : Entry). c.reserve-2.new.self.entries ++ e ∷ []) (c.entry_of.ensures ∙ ap entry (c.verdict-reply.ensures ∙ ap (λ (x : Message). verdict x.no (Some c.args.found)) same)) ∙
@@ -34,10 +34,10 @@ returns-clause-kept c =
 pub returns-clause-answered : goal.returns-clause-answered
 returns-clause-answered c =
     let b = c.args.books.now in
-    c.in_ok-told.ensures ∙ c.verdict-reply.ensures ∙ ap (λ (x : Message). verdict x.no (Some c.args.found)) c.get-said.ensures ∙
+    c.in_ok-told.ensures ∙ c.verdict-reply.ensures ∙ ap (λ (x : Message). verdict x.no (Some c.args.found)) (c.content-content.ensures.value ∙ c.get.ensures) ∙
     new_answer b.history.entries c.args.message (known b.tables) (position_of b.seen) (kept_for b.outboxes) c.requires.kept c.requires.room c.requires.limits c.requires.new (Some c.args.found) c.requires.fault
 
 pub note_reserved-requires-clause-new : goal.note_reserved-requires-clause-new
 note_reserved-requires-clause-new c =
-    let said = c.get-said.result.now in
-    ap (λ (found : Railway → ℕ → Option ℕ). found said.by said.no) c.reserve.ensures.positions ∙ ap (λ (x : Message). position_of c.args.books.now.seen x.by x.no) c.get-said.ensures ∙ c.requires.new
+    let said = c.content-content.result.now in
+    ap (λ (found : Railway → ℕ → Option ℕ). found said.by said.no) c.reserve.ensures.positions ∙ ap (λ (x : Message). position_of c.args.books.now.seen x.by x.no) (c.content-content.ensures.value ∙ c.get.ensures) ∙ c.requires.new
