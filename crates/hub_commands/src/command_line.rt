@@ -1,4 +1,4 @@
-use crate::fault::Fault;
+use hub_faults::Fault;
 use std::env;
 use std::env::Env;
 

@@ -1,11 +1,11 @@
 ghost use Rattle.std.specs.Prelude.{◌≡◌};
-ghost use Rattle.hub_commands.specs.Statuses.{status_of};
+ghost use Rattle.hub_faults.specs.Statuses.{status_of};
 
-use crate::fault::Fault;
 use crate::task::{Task, task_of};
 use crate::{number, replay};
 use clap::Error;
 use clap::error::ErrorKind;
+use hub_faults::Fault;
 use std::io::{Read, Write};
 use std::thread::Threads;
 

@@ -1,4 +1,4 @@
-//! The commands of the hub: words, what they are to do, faults and statuses.
+//! The commands of the hub: words, and what they are to do.
 //!
 //! | command | does | status |
 //! |---|---|---|
@@ -6,18 +6,16 @@
 //! | `taf_hub number TEXT` | prints the vehicle number that TEXT shows in the marked form | 0; 1 TEXT shows none |
 //!
 //! [`words`] reads the command line, and [`perform`] does what it names. `--help` prints clap's help, with status 0. Words
-//! that name no command end with status 2 and clap's text among the errors. A fault is one line there, by [`tell`], and
-//! [`Fault::status`] is the status that it ends with. Where the words cannot be read, the status is 4 if memory was
-//! refused and else 2.
+//! that name no command end with status 2 and clap's text among the errors. A [`Fault`] is one line there, by [`tell`],
+//! which gives its status. Where the words cannot be read, the status is 4 if memory was refused and else 2.
 #![tactic(auto)]
 
 mod command_line;
 mod commands;
-mod fault;
 mod number;
 mod replay;
 mod task;
 
 pub use command_line::words;
 pub use commands::{perform, tell};
-pub use fault::Fault;
+pub use hub_faults::Fault;

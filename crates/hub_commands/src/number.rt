@@ -1,4 +1,4 @@
-use crate::fault::Fault;
+use hub_faults::Fault;
 use std::io::Write;
 use wagon_number::{NumberFault, WagonNumber};
 

@@ -1,5 +1,5 @@
-use crate::fault::Fault;
 use hub_core::Hub;
+use hub_faults::Fault;
 use hub_replay::run;
 use std::alloc::Global;
 use std::io::{BufWriter, Read, Write};

@@ -6,8 +6,8 @@ use Rattle.wagon_number.specs.declared.fault.NumberFault.{NumberFault}
 use Rattle.wagon_number.specs.declared.fault.NumberFault.TheVariants as of_number
 use Rattle.hub_replay.specs.declared.fault.RunFault.{RunFault}
 use Rattle.hub_replay.specs.declared.fault.RunFault.TheVariants as of_run
-use Rattle.hub_commands.specs.declared.fault.Fault.{Fault}
-use Rattle.hub_commands.specs.declared.fault.Fault.TheVariants.{Words, NotTwelveDigits, BadCheckDigit, Read, Write, NoEnd, Memory}
+use Rattle.hub_faults.specs.declared.fault.Fault.{Fault}
+use Rattle.hub_faults.specs.declared.fault.Fault.TheVariants.{Words, NotTwelveDigits, BadCheckDigit, Read, Write, NoEnd, Memory}
 
 -- 1: the text is refused; 2: no words; 3: a stream failed or has no end; 4: memory was refused
 abbrev pub status_of : Fault → ℕ

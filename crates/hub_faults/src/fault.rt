@@ -1,7 +1,7 @@
 ghost use Rattle.std.specs.Prelude.{◌≡◌};
 ghost use Rattle.std.specs.IoError.{error_kind};
-ghost use Rattle.hub_commands.specs.Statuses.{status_of, fault_of_words, fault_of_number, fault_of_run};
-ghost use Rattle.hub_commands.specs.declared.fault.Fault.TheVariants as faults;
+ghost use Rattle.hub_faults.specs.Statuses.{status_of, fault_of_words, fault_of_number, fault_of_run};
+ghost use Rattle.hub_faults.specs.declared.fault.Fault.TheVariants as faults;
 
 use hub_replay::RunFault;
 use std::alloc::AllocError;
