@@ -33,7 +33,7 @@ pub fn plan(alloc: Global) -> Result<Plan> {
     let Call::Send(message) = &call else {
         bail!("the sample is no message");
     };
-    match &message.get().body {
+    match message.get().body() {
         Body::Plan(plan) => Ok(plan.copy()?),
         _ => bail!("the sample is no plan"),
     }
