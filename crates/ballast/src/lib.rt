@@ -12,8 +12,6 @@
 //! In contracts a ballast is how many blocks it holds of each kind. How much memory that leaves no contract says.
 #![tactic(auto)]
 
-#[cfg(test)]
-mod tests;
 mod weight;
 
 pub use weight::Ballast;

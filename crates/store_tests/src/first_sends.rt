@@ -1,5 +1,5 @@
 //! The first sends of messages, found under their senders and numbers.
-use crate::given::number_of;
+use crate::given::{number_of, railway};
 use ballast::Ballast;
 use replay_numbers::Seen;
 use std::alloc::Global;
@@ -15,31 +15,39 @@ fn note_new(seen: &mut Seen, by: Railway, number: u64, position: u64) -> Result<
     seen.note(by, number, position)
 }
 
-#[test]
-fn first_sends_are_found(rt: HostRuntime) -> Result<(), Fail> {
-    let (sender, other) = (Railway::read("R100")?, Railway::read("R101")?);
-    let one = number_of(1)?;
-    let mut seen = Seen::new(rt.alloc());
-    assert_eq!(rt; seen.find(sender, one), None);
-    note_new(&mut seen, sender, 1, 0)?;
-    assert_eq!(rt; seen.find(sender, one), Some(0));
-    assert_eq!(rt; seen.find(sender, number_of(2)?), None);
-    assert_eq!(rt; seen.find(other, one), None);
+// Whether each of the names is found where it stands beside it.
+fn are_found(seen: &Seen, names: &[(&str, u64, Option<u64>)]) -> Result<bool, Memory> {
+    for (code, number, position) in names {
+        if seen.find(railway(code)?, number_of(*number)?) != *position {
+            return Ok(false);
+        }
+    }
+    Ok(true)
+}
+
+// Notes a new name at a position, where there is room for it.
+fn note_reserved(seen: &mut Seen, by: Railway, number: u64, position: u64) -> Result<(), Memory> {
+    let number = number_of(number)?;
+    seen.reserve(by, number)?;
+    if seen.find(by, number).is_none() {
+        seen.note_reserved(by, number, position);
+    }
     Ok(())
 }
 
 #[test]
-fn room_is_made_beforehand(rt: HostRuntime) -> Result<(), Fail> {
-    let (sender, other) = (Railway::read("R100")?, Railway::read("R101")?);
-    let one = number_of(1)?;
+fn first_sends_are_found(rt: HostRuntime) -> Result<(), Fail> {
     let mut seen = Seen::new(rt.alloc());
-    note_new(&mut seen, sender, 1, 0)?;
-    seen.reserve(other, one)?;
-    if seen.find(other, one).is_none() {
-        seen.note_reserved(other, one, 7);
-    }
-    assert_eq!(rt; seen.find(other, one), Some(7));
-    assert_eq!(rt; seen.find(sender, one), Some(0));
+    assert!(rt; are_found(&seen, &[("R100", 1, None)])?);
+    note_new(&mut seen, railway("R100")?, 1, 0)?;
+    assert!(rt;
+        are_found(
+            &seen,
+            &[("R100", 1, Some(0)), ("R100", 2, None), ("R101", 1, None)]
+        )?
+    );
+    note_reserved(&mut seen, railway("R101")?, 1, 7)?;
+    assert!(rt; are_found(&seen, &[("R100", 1, Some(0)), ("R101", 1, Some(7))])?);
     Ok(())
 }
 

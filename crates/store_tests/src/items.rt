@@ -1,6 +1,6 @@
 //! The items of a railway: numbered, fetched and acknowledged.
 
-use crate::given::limit;
+use crate::given::{limit, railway};
 use outbox::{AckAhead, Outboxes};
 use std::alloc::Global;
 use std::test::Fail;
@@ -37,60 +37,47 @@ fn with_items(alloc: Global, railway: Railway, count: u64) -> Result<Outboxes, F
     Ok(outboxes)
 }
 
-// The numbers of the first items that wait, with a blank before each. A 0 stands for an item that says another thing than
-// the end of an alert.
-fn fetched(
-    alloc: Global,
+// The number of the last of the first items that wait, so many at most. Fails unless they are ends of alerts that follow
+// this number and one another.
+fn last_fetched(
     outboxes: &Outboxes,
     railway: Railway,
     most: u64,
-) -> Result<String, Fail> {
-    let mut numbers = String::new(alloc);
+    before: u64,
+) -> Result<u64, Fail> {
+    let mut last = before;
     for item in outboxes.fetch(railway, limit(most)?)?.as_slice() {
+        last = last.saturating_add(1);
         let is_end = matches!(item.body, ItemBody::AlertEnds { wagon: _ });
-        let number = if is_end { item.number } else { 0 };
-        numbers.push_str(&format!(in alloc; " {number}")?)?;
+        if !is_end || item.number != last {
+            return Err(Fail::new("not in order"));
+        }
     }
-    Ok(numbers)
+    Ok(last)
 }
+
+// A railway, how many items it fetches at most, the numbers before the first and of the last that it is given, which
+// number it acknowledges then, and the answer.
+const STEPS: [(&str, u64, u64, u64, u64, Result<u64, AckAhead>); 6] = [
+    ("R100", 1, 0, 1, 0, Ok(0)),
+    ("R100", 2, 0, 2, 1, Ok(1)),
+    ("R100", 2, 1, 3, 99, Err(AckAhead { last: 5 })),
+    ("R100", 50, 1, 5, 0, Ok(1)),
+    ("R999", 50, 0, 0, 0, Ok(0)),
+    ("R999", 50, 0, 0, 1, Err(AckAhead { last: 0 })),
+];
 
 #[test]
 fn items_wait_until_they_are_acknowledged(rt: HostRuntime) -> Result<(), Fail> {
-    let railway = Railway::read("R100")?;
-    let mut outboxes = with_items(rt.alloc(), railway, 5)?;
-    assert_eq!(rt; fetched(rt.alloc(), &outboxes, railway, 1)?.as_str(), " 1");
-    assert_eq!(rt;
-        fetched(rt.alloc(), &outboxes, railway, 2)?.as_str(),
-        " 1 2"
-    );
-    assert_eq!(rt; outboxes.ack(railway, 1), Ok(1));
-    assert_eq!(rt;
-        fetched(rt.alloc(), &outboxes, railway, 2)?.as_str(),
-        " 2 3"
-    );
-    Ok(())
-}
-
-#[test]
-fn acknowledgements_are_answered(rt: HostRuntime) -> Result<(), Fail> {
-    let railway = Railway::read("R100")?;
-    let mut outboxes = with_items(rt.alloc(), railway, 5)?;
-    for (number, answer) in [(1, Ok(1)), (99, Err(AckAhead { last: 5 })), (0, Ok(1))] {
+    let owner = Railway::read("R100")?;
+    let mut outboxes = with_items(rt.alloc(), owner, 5)?;
+    for (code, most, before, last, number, answer) in STEPS {
+        let railway = railway(code)?;
+        assert_eq!(rt; last_fetched(&outboxes, railway, most, before)?, last);
         assert_eq!(rt; outboxes.ack(railway, number), answer);
     }
-    assert_eq!(rt; outboxes.acknowledged(railway), 1);
-    assert_eq!(rt; outboxes.last(railway), 5);
-    Ok(())
-}
-
-#[test]
-fn a_railway_without_a_box(rt: HostRuntime) -> Result<(), Fail> {
-    let unknown = Railway::read("R999")?;
-    let mut outboxes = with_items(rt.alloc(), Railway::read("R100")?, 5)?;
-    for (number, answer) in [(0, Ok(0)), (1, Err(AckAhead { last: 0 }))] {
-        assert_eq!(rt; outboxes.ack(unknown, number), answer);
-    }
-    assert_eq!(rt; fetched(rt.alloc(), &outboxes, unknown, 50)?.as_str(), "");
+    assert_eq!(rt; outboxes.acknowledged(owner), 1);
+    assert_eq!(rt; outboxes.last(owner), 5);
     Ok(())
 }
 
@@ -111,24 +98,24 @@ fn a_box_is_opened_with_its_room(rt: HostRuntime) -> Result<(), Fail> {
     for number in 1..4u64 {
         assert_eq!(rt; put(&mut outboxes, railway, alert_ends()?)?, number);
     }
-    assert_eq!(rt;
-        fetched(rt.alloc(), &outboxes, railway, 50)?.as_str(),
-        " 1 2 3"
-    );
+    assert_eq!(rt; last_fetched(&outboxes, railway, 50, 0)?, 3);
     Ok(())
 }
 
-// The number of the last of the first fifty items that wait after this one, where they follow it and one another.
-fn last_in_order(outboxes: &Outboxes, railway: Railway, acknowledged: u64) -> Result<u64, Fail> {
-    let mut last = acknowledged;
-    for item in outboxes.fetch(railway, limit(50)?)?.as_slice() {
-        last = last.saturating_add(1);
-        let is_end = matches!(item.body, ItemBody::AlertEnds { wagon: _ });
-        if !is_end || item.number != last {
-            return Err(Fail::new("not in order"));
+// How many items there are, where a railway fetches and acknowledges them until none waits.
+fn count_pages(outboxes: &mut Outboxes, railway: Railway) -> Result<u64, Fail> {
+    let mut seen = 0;
+    for _ in 0..1000u32 {
+        let last = last_fetched(outboxes, railway, 50, seen)?;
+        if last == seen {
+            break;
+        }
+        seen = last;
+        if outboxes.ack(railway, seen) != Ok(seen) {
+            return Err(Fail::new("not acknowledged"));
         }
     }
-    Ok(last)
+    Ok(seen)
 }
 
 #[test]
@@ -136,16 +123,7 @@ fn many_items_are_pushed_fetched_and_acknowledged(rt: HostRuntime) -> Result<(),
     let railway = Railway::read("R100")?;
     let mut outboxes = with_items(rt.alloc(), railway, 40_003)?;
     assert_eq!(rt; outboxes.last(railway), 40_003);
-    let mut seen = 0;
-    for _ in 0..1000u32 {
-        let last = last_in_order(&outboxes, railway, seen)?;
-        if last == seen {
-            break;
-        }
-        seen = last;
-        assert_eq!(rt; outboxes.ack(railway, seen), Ok(seen));
-    }
-    assert_eq!(rt; seen, 40_003);
+    assert_eq!(rt; count_pages(&mut outboxes, railway)?, 40_003);
     assert_eq!(rt; outboxes.acknowledged(railway), 40_003);
     assert_eq!(rt; outboxes.last(railway), 40_003);
     Ok(())
@@ -156,7 +134,7 @@ fn many_items_are_acknowledged_at_once(rt: HostRuntime) -> Result<(), Fail> {
     let railway = Railway::read("R100")?;
     let mut outboxes = with_items(rt.alloc(), railway, 40_003)?;
     assert_eq!(rt; outboxes.ack(railway, 40_003), Ok(40_003));
-    assert_eq!(rt; fetched(rt.alloc(), &outboxes, railway, 50)?.as_str(), "");
+    assert_eq!(rt; last_fetched(&outboxes, railway, 50, 40_003)?, 40_003);
     assert_eq!(rt; push(&mut outboxes, railway, alert_ends()?)?, 40_004);
     Ok(())
 }

@@ -1,0 +1,31 @@
+//! What a ballast leaves.
+use ballast::Ballast;
+use std::alloc::Global;
+use std::test::Fail;
+
+// Whether so many bytes can be had.
+fn can_be_had(alloc: Global, bytes: usize) -> bool {
+    let block: Result<Vec<u8>, _> = Vec::with_capacity(alloc, bytes);
+    block.is_ok()
+}
+
+#[test]
+fn what_goes_past_the_budget_is_refused(rt: HostRuntime) -> Result<(), Fail> {
+    let mut ballast = Ballast::new(rt.alloc())?;
+    assert!(rt; ballast.large_blocks() > 0);
+    assert_eq!(rt; ballast.small_blocks(), 0);
+    for budget in [0, 64, 1024, 65_536usize] {
+        let past = budget.saturating_add(8192);
+        ballast.leave(budget)?;
+        let is_held = ballast.small_blocks() > 0;
+        let is_refused = !can_be_had(rt.alloc(), past);
+        let is_given = can_be_had(rt.alloc(), budget / 2);
+        ballast.ease();
+        let is_eased = can_be_had(rt.alloc(), past);
+        assert!(rt;
+            is_held && is_refused && is_given && is_eased,
+            "at {budget}"
+        );
+    }
+    Ok(())
+}
