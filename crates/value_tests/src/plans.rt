@@ -5,79 +5,115 @@ use taf_moment::Moment;
 use trip_plan::{Leg, Load, Plan, PlanFault, Route, UnitLoad};
 use wagon_number::WagonNumber;
 
-// The wagons whose first eleven digits are 21812471000 and those that follow it.
-fn wagons(alloc: Global, count: u32) -> Result<Vec<WagonNumber>, Fail> {
+// The wagons whose first eleven digits are 21812471000 to 21812471060.
+const WAGONS: &str =
+    "218124710003 218124710011 218124710029 218124710037 218124710045 218124710052 218124710060 218124710078
+218124710086 218124710094 218124710102 218124710110 218124710128 218124710136 218124710144 218124710151
+218124710169 218124710177 218124710185 218124710193 218124710201 218124710219 218124710227 218124710235
+218124710243 218124710250 218124710268 218124710276 218124710284 218124710292 218124710300 218124710318
+218124710326 218124710334 218124710342 218124710359 218124710367 218124710375 218124710383 218124710391
+218124710409 218124710417 218124710425 218124710433 218124710441 218124710458 218124710466 218124710474
+218124710482 218124710490 218124710508 218124710516 218124710524 218124710532 218124710540 218124710557
+218124710565 218124710573 218124710581 218124710599 218124710607";
+
+fn wagons(alloc: Global, count: usize) -> Result<Vec<WagonNumber>, Fail> {
     let mut wagons = Vec::new(alloc);
-    for serial in 0..count {
-        for last in 0..10u32 {
-            let text = format!(in alloc; "218124710{serial:02}{last}")?;
-            if let Ok(wagon) = WagonNumber::read(&text) {
-                wagons.push(wagon)?;
-            }
-        }
+    for text in WAGONS.split_ascii_whitespace().take(count) {
+        wagons.push(WagonNumber::read(text)?)?;
     }
     Ok(wagons)
 }
 
-fn leg(ru: &str, origin: &str, target: &str, minutes: u32) -> Result<Leg, Fail> {
+// Legs by their letters. Of two legs of a plan: the first, the last, and in its place one from elsewhere, one of the same
+// railway again and one that takes no time; a first one that takes too long. Of a route: its leg, and behind it one from
+// elsewhere, one of the same railway again and one that takes too long. Nine legs in a row, each as long as a leg may be.
+const LEGS: &str = "f R101 DE00001 AT00002 300
+l R102 AT00002 IT00003 240
+e R102 AT00009 IT00003 240
+a R101 AT00002 IT00003 240
+n R102 AT00002 IT00003 0
+s R101 DE00001 AT00002 100001
+R R103 AT00002 CH00004 180
+E R104 CH00005 IT00003 0
+A R103 CH00004 IT00003 0
+S R104 CH00004 IT00003 100001
+1 R101 DE00001 DE00002 100000
+2 R102 DE00002 DE00003 100000
+3 R103 DE00003 DE00004 100000
+4 R104 DE00004 DE00005 100000
+5 R105 DE00005 DE00006 100000
+6 R106 DE00006 DE00007 100000
+7 R107 DE00007 DE00008 100000
+8 R108 DE00008 DE00009 100000
+9 R109 DE00009 DE00010 100000";
+
+fn leg(words: &str) -> Result<Leg, Fail> {
+    let mut words = words.split_ascii_whitespace();
+    let ru = Railway::read(words.next().unwrap_or(""))?;
+    let origin = Place::read(words.next().unwrap_or(""))?;
+    let target = Place::read(words.next().unwrap_or(""))?;
+    let minutes = words.next().unwrap_or("").parse::<u32>()?;
     Ok(Leg {
-        ru: Railway::read(ru)?,
-        origin: Place::read(origin)?,
-        target: Place::read(target)?,
+        ru,
+        origin,
+        target,
         minutes,
     })
 }
 
-// Legs of R101, R102 and so on, from DE00001 to DE00002 and so on.
-fn legs(alloc: Global, count: u32, minutes: u32) -> Result<Vec<Leg>, Fail> {
+fn leg_of(letter: char) -> Result<Leg, Fail> {
+    for line in LEGS.lines() {
+        if let Some(words) = line.strip_prefix(letter) {
+            return leg(words);
+        }
+    }
+    Err(Fail::new("no such leg"))
+}
+
+fn legs_of(alloc: Global, letters: &str) -> Result<Vec<Leg>, Fail> {
     let mut legs = Vec::new(alloc);
-    for i in 0..count {
-        let i = u64::from(i);
-        let ru = format!(in alloc; "R{}", i + 101)?;
-        let origin = format!(in alloc; "DE{:05}", i + 1)?;
-        let target = format!(in alloc; "DE{:05}", i + 2)?;
-        legs.push(leg(&ru, &origin, &target, minutes)?)?;
+    for letter in letters.chars() {
+        legs.push(leg_of(letter)?)?;
     }
     Ok(legs)
 }
 
-fn longest(alloc: Global, wagons: &[WagonNumber], legs: &[Leg]) -> Result<Plan, Fail> {
-    let lead = Railway::read("R100")?;
-    let consignment = ConsignmentId::read("C-1")?;
-    let commit = Moment::read("2025-03-01T15:30Z")?;
-    let plan = Plan::new(alloc, lead, consignment, Load::Empty, wagons, legs, commit)?;
-    Ok(plan)
+// The first wagon, the second, or another.
+fn wagon_of(letter: char) -> Result<WagonNumber, Fail> {
+    let text = match letter {
+        '1' => "218124712173",
+        '2' => "338478961232",
+        _ => "318066552148",
+    };
+    Ok(WagonNumber::read(text)?)
 }
 
-#[test]
-fn the_longest_plan(rt: HostRuntime) -> Result<(), Fail> {
-    let wagons = wagons(rt.alloc(), 60)?;
-    let legs = legs(rt.alloc(), 8, 100_000)?;
-    assert_eq!(rt; (wagons.len(), legs.len()), (60, 8));
-    let plan = longest(rt.alloc(), &wagons, &legs)?;
-    assert_eq!(rt; plan.wagons(), wagons.as_slice());
-    assert_eq!(rt; plan.legs(), legs.as_slice());
-    assert_eq!(rt; plan.leg(7).copied(), legs.last().copied());
-    assert_eq!(rt; plan.leg(8).copied(), None);
-    assert_eq!(rt; plan.copy()?, plan);
-    Ok(())
+fn wagons_of(alloc: Global, letters: &str) -> Result<Vec<WagonNumber>, Fail> {
+    let mut wagons = Vec::new(alloc);
+    for letter in letters.chars() {
+        wagons.push(wagon_of(letter)?)?;
+    }
+    Ok(wagons)
 }
 
-#[test]
-fn the_terms_of_a_plan(rt: HostRuntime) -> Result<(), Fail> {
-    let wagons = wagons(rt.alloc(), 60)?;
-    let legs = legs(rt.alloc(), 8, 100_000)?;
-    let plan = longest(rt.alloc(), &wagons, &legs)?;
-    let text = format!(in rt.alloc();
-        "{} {} {:?} {}",
-        plan.lead(),
-        plan.consignment(),
-        plan.load(),
-        plan.commit()
-    )?;
-    assert_eq!(rt; text.as_str(), "R100 C-1 Empty 2025-03-01T15:30Z");
-    assert!(rt; plan.units().is_empty());
-    Ok(())
+// A unit on the first wagon, on the second or on another, and a small one on the first.
+fn unit_of(letter: char) -> Result<UnitLoad, Fail> {
+    let (unit, wagon) = match letter {
+        's' => ("AAAU0000060", '1'),
+        _ => ("CSQU3054383", letter),
+    };
+    Ok(UnitLoad {
+        unit: UnitCode::read(unit)?,
+        wagon: wagon_of(wagon)?,
+    })
+}
+
+fn units_of(alloc: Global, letters: &str) -> Result<Vec<UnitLoad>, Fail> {
+    let mut units = Vec::new(alloc);
+    for letter in letters.chars() {
+        units.push(unit_of(letter)?)?;
+    }
+    Ok(units)
 }
 
 fn with_units(
@@ -94,77 +130,6 @@ fn with_units(
     Ok(Plan::with_units(alloc, lead, consignment, load, wagons, legs, units, commit))
 }
 
-#[test]
-fn longer_plans(rt: HostRuntime) -> Result<(), Fail> {
-    for (wagon_count, leg_count, code) in [(60, 9, 1), (61, 8, 4)] {
-        let wagons = wagons(rt.alloc(), wagon_count)?;
-        let legs = legs(rt.alloc(), leg_count, 100_000)?;
-        let refused = with_units(rt.alloc(), &wagons, &legs, &[])?;
-        assert_eq!(rt; refused, Err(PlanFault::BadPlan(code)), "code {code}");
-    }
-    Ok(())
-}
-
-// The first wagon, the second, or another.
-fn wagon_of(letter: u8) -> Result<WagonNumber, Fail> {
-    let text = match letter {
-        b'1' => "218124712173",
-        b'2' => "338478961232",
-        _ => "318066552148",
-    };
-    Ok(WagonNumber::read(text)?)
-}
-
-fn wagons_of(alloc: Global, letters: &str) -> Result<Vec<WagonNumber>, Fail> {
-    let mut wagons = Vec::new(alloc);
-    for letter in letters.bytes() {
-        wagons.push(wagon_of(letter)?)?;
-    }
-    Ok(wagons)
-}
-
-// The first leg, the last one, one from elsewhere, one of the same railway again, one that takes no time, and one that
-// takes too long.
-fn leg_of(letter: u8) -> Result<Leg, Fail> {
-    let (ru, origin, target, minutes) = match letter {
-        b'f' => ("R101", "DE00001", "AT00002", 300),
-        b'l' => ("R102", "AT00002", "IT00003", 240),
-        b'e' => ("R102", "AT00009", "IT00003", 240),
-        b'a' => ("R101", "AT00002", "IT00003", 240),
-        b'n' => ("R102", "AT00002", "IT00003", 0),
-        _ => ("R101", "DE00001", "AT00002", 100_001),
-    };
-    leg(ru, origin, target, minutes)
-}
-
-fn legs_of(alloc: Global, letters: &str) -> Result<Vec<Leg>, Fail> {
-    let mut legs = Vec::new(alloc);
-    for letter in letters.bytes() {
-        legs.push(leg_of(letter)?)?;
-    }
-    Ok(legs)
-}
-
-// A unit on the first wagon, on the second or on another, and a small one on the first.
-fn unit_of(letter: u8) -> Result<UnitLoad, Fail> {
-    let (unit, wagon) = match letter {
-        b's' => ("AAAU0000060", b'1'),
-        _ => ("CSQU3054383", letter),
-    };
-    Ok(UnitLoad {
-        unit: UnitCode::read(unit)?,
-        wagon: wagon_of(wagon)?,
-    })
-}
-
-fn units_of(alloc: Global, letters: &str) -> Result<Vec<UnitLoad>, Fail> {
-    let mut units = Vec::new(alloc);
-    for letter in letters.bytes() {
-        units.push(unit_of(letter)?)?;
-    }
-    Ok(units)
-}
-
 // The plan of the wagons, legs and units that these letters stand for.
 fn plan_of(
     alloc: Global,
@@ -176,6 +141,48 @@ fn plan_of(
     let legs = legs_of(alloc, legs)?;
     let units = units_of(alloc, units)?;
     with_units(alloc, &wagons, &legs, &units)
+}
+
+fn longest(alloc: Global, wagons: &[WagonNumber], legs: &[Leg]) -> Result<Plan, Fail> {
+    let lead = Railway::read("R100")?;
+    let consignment = ConsignmentId::read("C-1")?;
+    let commit = Moment::read("2025-03-01T15:30Z")?;
+    Ok(Plan::new(alloc, lead, consignment, Load::Empty, wagons, legs, commit)?)
+}
+
+fn terms(alloc: Global, plan: &Plan) -> Result<String, Fail> {
+    let (lead, consignment) = (plan.lead(), plan.consignment());
+    let (load, commit) = (plan.load(), plan.commit());
+    Ok(format!(in alloc; "{lead} {consignment} {load:?} {commit}")?)
+}
+
+#[test]
+fn the_longest_plan(rt: HostRuntime) -> Result<(), Fail> {
+    let wagons = wagons(rt.alloc(), 60)?;
+    let legs = legs_of(rt.alloc(), "12345678")?;
+    let plan = longest(rt.alloc(), &wagons, &legs)?;
+    assert_eq!(rt; (plan.wagons().len(), plan.legs().len()), (60, 8));
+    assert_eq!(rt; plan.wagons(), wagons.as_slice());
+    assert_eq!(rt; plan.legs(), legs.as_slice());
+    assert!(rt; plan.units().is_empty());
+    for i in 0..9 {
+        assert_eq!(rt; plan.leg(i).copied(), legs.get(i).copied());
+    }
+    assert_eq!(rt; plan.copy()?, plan);
+    let terms = terms(rt.alloc(), &plan)?;
+    assert_eq!(rt; terms.as_str(), "R100 C-1 Empty 2025-03-01T15:30Z");
+    Ok(())
+}
+
+#[test]
+fn longer_plans(rt: HostRuntime) -> Result<(), Fail> {
+    for (count, legs, code) in [(60, "123456789", 1), (61, "12345678", 4)] {
+        let wagons = wagons(rt.alloc(), count)?;
+        let legs = legs_of(rt.alloc(), legs)?;
+        let refused = with_units(rt.alloc(), &wagons, &legs, &[])?;
+        assert_eq!(rt; refused, Err(PlanFault::BadPlan(code)), "code {code}");
+    }
+    Ok(())
 }
 
 #[test]
@@ -230,39 +237,24 @@ fn faults_in_words(rt: HostRuntime) -> Result<(), Fail> {
 
 #[test]
 fn routes(rt: HostRuntime) -> Result<(), Fail> {
-    let only = [leg("R103", "AT00002", "CH00004", 180)?];
-    let route = Route::new(rt.alloc(), &only)?;
-    assert_eq!(rt; route.legs(), only.as_slice());
-    assert_eq!(rt; route.copy()?, route);
-    let seven = legs(rt.alloc(), 7, 100_000)?;
-    let longest = Route::new(rt.alloc(), &seven)?;
-    assert_eq!(rt; longest.legs(), seven.as_slice());
-    assert!(rt; longest != route);
+    for letters in ["R", "1234567"] {
+        let legs = legs_of(rt.alloc(), letters)?;
+        let route = Route::new(rt.alloc(), &legs)?;
+        assert_eq!(rt; route.legs(), legs.as_slice());
+        assert_eq!(rt; route.copy()?, route);
+    }
+    let one = Route::new(rt.alloc(), &legs_of(rt.alloc(), "1")?)?;
+    let two = Route::new(rt.alloc(), &legs_of(rt.alloc(), "12")?)?;
+    assert!(rt; one != two);
     Ok(())
-}
-
-// The leg of the route, one from elsewhere, one of the same railway again, and one that takes too long.
-fn route_leg_of(letter: u8) -> Result<Leg, Fail> {
-    let (ru, origin, target, minutes) = match letter {
-        b'r' => ("R103", "AT00002", "CH00004", 180),
-        b'e' => ("R104", "CH00005", "IT00003", 0),
-        b'a' => ("R103", "CH00004", "IT00003", 0),
-        _ => ("R104", "CH00004", "IT00003", 100_001),
-    };
-    leg(ru, origin, target, minutes)
 }
 
 #[test]
 fn routes_that_break_a_rule(rt: HostRuntime) -> Result<(), Fail> {
-    for (letters, code) in [("", 1), ("re", 2), ("ra", 3), ("rs", 6)] {
-        let mut legs = Vec::new(rt.alloc());
-        for letter in letters.bytes() {
-            legs.push(route_leg_of(letter)?)?;
-        }
+    for (letters, code) in [("", 1), ("12345678", 1), ("RE", 2), ("RA", 3), ("RS", 6)] {
+        let legs = legs_of(rt.alloc(), letters)?;
         let refused = Route::new(rt.alloc(), &legs);
         assert_eq!(rt; refused, Err(PlanFault::BadPlan(code)), "code {code}");
     }
-    let eight = legs(rt.alloc(), 8, 100_000)?;
-    assert_eq!(rt; Route::new(rt.alloc(), &eight), Err(PlanFault::BadPlan(1)));
     Ok(())
 }

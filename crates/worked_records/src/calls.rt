@@ -1,8 +1,7 @@
 //! A line of each kind, and the call that it is.
-use crate::checks::is_call;
-use crate::lines::PLAN;
+use crate::checks::are_call;
 use crate::parts::{
-    ONE, THREE, TWO, consignment, moment, place, railway, send, wagon, wagons, within,
+    ONE, THREE, TWO, consignment, leg, moment, place, railway, send, wagon, wagons, within,
 };
 use std::alloc::Global;
 use std::test::Fail;
@@ -10,128 +9,85 @@ use taf_codes::{Railway, TrainId, UnitCode};
 use taf_messages::{
     Body, Call, Movement, MovementKind, OfferedWagons, Shared, TrainAnswer, TrainOffer, Wagons,
 };
-use trip_plan::{Leg, Load, Plan, Route, UnitLoad};
+use trip_plan::{Load, Plan, Route, UnitLoad};
 
-// A movement of the first wagon.
-fn moved(alloc: Global, by: &str, no: u64, time: &str, what: MovementKind) -> Result<Call, Fail> {
-    let wagon = wagon(ONE)?;
-    let at = moment(time)?;
-    send(alloc, by, no, Body::Movement(Movement { wagon, at, what }))
-}
+// Movements of the first wagon.
+const MOVEMENTS: &str =
+    r#"{"kind":"release","from":"R100","no":2,"wagon":"218124712173","at":"2025-03-01T05:30Z"}
+{"kind":"depart","from":"R101","no":1,"wagon":"218124712173","at":"2025-03-01T06:00Z"}
+{"kind":"eti","from":"R101","no":3,"wagon":"218124712173","at":"2025-03-01T11:10Z"}
+{"kind":"arrival","from":"R102","no":5,"wagon":"218124712173","at":"2025-03-01T15:00Z"}
+{"kind":"delivery","from":"R102","no":6,"wagon":"218124712173","at":"2025-03-01T15:20Z"}
+{"kind":"yard_in","from":"R101","no":2,"wagon":"218124712173","at":"2025-03-01T10:40Z","place":"AT00002"}
+{"kind":"yard_out","from":"R102","no":4,"wagon":"218124712173","at":"2025-03-01T11:30Z","place":"AT00002"}
+{"kind":"exception","from":"R101","no":2,"wagon":"218124712173","at":"2025-03-01T07:00Z","delay":45}"#;
 
 #[test]
 fn movements(rt: HostRuntime) -> Result<(), Fail> {
-    let alloc = rt.alloc();
-    is_call(
-        alloc,
-        r#"{"kind":"release","from":"R100","no":2,"wagon":"218124712173","at":"2025-03-01T05:30Z"}"#,
-        moved(alloc, "R100", 2, "2025-03-01T05:30Z", MovementKind::Release),
-    )?;
-    is_call(
-        alloc,
-        r#"{"kind":"depart","from":"R101","no":1,"wagon":"218124712173","at":"2025-03-01T06:00Z"}"#,
-        moved(
-            alloc,
-            "R101",
-            1,
-            "2025-03-01T06:00Z",
-            MovementKind::Departure,
-        ),
-    )?;
-    is_call(
-        alloc,
-        r#"{"kind":"eti","from":"R101","no":3,"wagon":"218124712173","at":"2025-03-01T11:10Z"}"#,
-        moved(
-            alloc,
-            "R101",
-            3,
-            "2025-03-01T11:10Z",
-            MovementKind::Estimate,
-        ),
-    )?;
-    is_call(
-        alloc,
-        r#"{"kind":"arrival","from":"R102","no":5,"wagon":"218124712173","at":"2025-03-01T15:00Z"}"#,
-        moved(alloc, "R102", 5, "2025-03-01T15:00Z", MovementKind::Arrival),
-    )?;
-    is_call(
-        alloc,
-        r#"{"kind":"delivery","from":"R102","no":6,"wagon":"218124712173","at":"2025-03-01T15:20Z"}"#,
-        moved(
-            alloc,
-            "R102",
-            6,
-            "2025-03-01T15:20Z",
-            MovementKind::Delivery,
-        ),
-    )
-}
-
-#[test]
-fn movements_that_say_more(rt: HostRuntime) -> Result<(), Fail> {
-    let alloc = rt.alloc();
+    let wagon = wagon(ONE)?;
     let place = place("AT00002")?;
     let delay = within(45)?;
-    is_call(
-        alloc,
-        r#"{"kind":"yard_in","from":"R101","no":2,"wagon":"218124712173","at":"2025-03-01T10:40Z","place":"AT00002"}"#,
-        moved(
-            alloc,
+    let mut lines = MOVEMENTS.lines();
+    for (by, no, at, what) in [
+        ("R100", 2, "2025-03-01T05:30Z", MovementKind::Release),
+        ("R101", 1, "2025-03-01T06:00Z", MovementKind::Departure),
+        ("R101", 3, "2025-03-01T11:10Z", MovementKind::Estimate),
+        ("R102", 5, "2025-03-01T15:00Z", MovementKind::Arrival),
+        ("R102", 6, "2025-03-01T15:20Z", MovementKind::Delivery),
+        (
             "R101",
             2,
             "2025-03-01T10:40Z",
             MovementKind::YardArrival { place },
         ),
-    )?;
-    is_call(
-        alloc,
-        r#"{"kind":"yard_out","from":"R102","no":4,"wagon":"218124712173","at":"2025-03-01T11:30Z","place":"AT00002"}"#,
-        moved(
-            alloc,
+        (
             "R102",
             4,
             "2025-03-01T11:30Z",
             MovementKind::YardDeparture { place },
         ),
-    )?;
-    is_call(
-        alloc,
-        r#"{"kind":"exception","from":"R101","no":2,"wagon":"218124712173","at":"2025-03-01T07:00Z","delay":45}"#,
-        moved(
-            alloc,
+        (
             "R101",
             2,
             "2025-03-01T07:00Z",
             MovementKind::Exception { delay },
         ),
-    )
+    ] {
+        let Some(line) = lines.next() else {
+            return Err(Fail::new("no line"));
+        };
+        let at = moment(at)?;
+        let body = Body::Movement(Movement { wagon, at, what });
+        are_call(rt.alloc(), line, &send(rt.alloc(), by, no, body)?)?;
+    }
+    Ok(())
 }
 
-#[test]
-fn times_of_legs(rt: HostRuntime) -> Result<(), Fail> {
-    let alloc = rt.alloc();
+fn estimate_asked(alloc: Global) -> Result<Call, Fail> {
     let wagon = wagon(ONE)?;
-    let leg = within(1)?;
-    let minutes = within(200)?;
-    is_call(
-        alloc,
-        r#"{"kind":"eti_ask","from":"R100","no":3,"wagon":"218124712173"}"#,
-        send(alloc, "R100", 3, Body::EtiAsk { wagon }),
-    )?;
-    is_call(
-        alloc,
-        r#"{"kind":"leg_time","from":"R102","no":1,"wagon":"218124712173","leg":1,"minutes":200}"#,
-        send(
-            alloc,
-            "R102",
-            1,
-            Body::LegTime {
-                wagon,
-                leg,
-                minutes,
-            },
-        ),
-    )
+    send(alloc, "R100", 3, Body::EtiAsk { wagon })
+}
+
+fn leg_time(alloc: Global) -> Result<Call, Fail> {
+    let body = Body::LegTime {
+        wagon: wagon(ONE)?,
+        leg: within(1)?,
+        minutes: within(200)?,
+    };
+    send(alloc, "R102", 1, body)
+}
+
+fn withdrawal(alloc: Global) -> Result<Call, Fail> {
+    let at = moment("2025-03-01T11:00Z")?;
+    let offer = within(6)?;
+    send(alloc, "R101", 7, Body::Withdraw { at, offer })
+}
+
+fn reroute(alloc: Global) -> Result<Call, Fail> {
+    let wagon = wagon(ONE)?;
+    let leg = leg("R103", "AT00002", "CH00004", 180)?;
+    let route = Route::new(alloc, &[leg])?;
+    send(alloc, "R100", 3, Body::Reroute { wagon, route })
 }
 
 fn offer(alloc: Global) -> Result<Call, Fail> {
@@ -150,39 +106,6 @@ fn offer(alloc: Global) -> Result<Call, Fail> {
         wagons,
     };
     send(alloc, "R101", 6, Body::Offer(Shared::new(alloc, offer)?))
-}
-
-fn withdrawal(alloc: Global) -> Result<Call, Fail> {
-    let at = moment("2025-03-01T11:00Z")?;
-    let offer = within(6)?;
-    send(alloc, "R101", 7, Body::Withdraw { at, offer })
-}
-
-fn reroute(alloc: Global) -> Result<Call, Fail> {
-    let wagon = wagon(ONE)?;
-    let leg = leg("R103", "AT00002", "CH00004", 180)?;
-    let route = Route::new(alloc, &[leg])?;
-    send(alloc, "R100", 3, Body::Reroute { wagon, route })
-}
-
-#[test]
-fn offers_and_reroutings(rt: HostRuntime) -> Result<(), Fail> {
-    let alloc = rt.alloc();
-    is_call(
-        alloc,
-        r#"{"kind":"offer","from":"R101","no":6,"at":"2025-03-01T10:50Z","train":"T-77","place":"AT00002","to":"R102","wagons":["218124712173","338478961232"]}"#,
-        offer(alloc),
-    )?;
-    is_call(
-        alloc,
-        r#"{"kind":"withdraw","from":"R101","no":7,"at":"2025-03-01T11:00Z","offer":6}"#,
-        withdrawal(alloc),
-    )?;
-    is_call(
-        alloc,
-        r#"{"kind":"reroute","from":"R100","no":3,"wagon":"218124712173","legs":[{"ru":"R103","origin":"AT00002","target":"CH00004","minutes":180}]}"#,
-        reroute(alloc),
-    )
 }
 
 fn some_wagons(alloc: Global, texts: &[&str]) -> Result<Wagons, Fail> {
@@ -216,39 +139,59 @@ fn answer(
     send(alloc, "R102", no, Body::Answer(Shared::new(alloc, answer)?))
 }
 
-// An answer may name no manager.
 #[test]
-fn answers(rt: HostRuntime) -> Result<(), Fail> {
+fn other_messages(rt: HostRuntime) -> Result<(), Fail> {
     let alloc = rt.alloc();
-    let manager = Some(railway("I300")?);
-    is_call(
+    are_call(
         alloc,
-        r#"{"kind":"answer","from":"R102","no":1,"at":"2025-03-01T11:10Z","offerer":"R101","offer":6,"received":["218124712173"],"refused":["338478961232"],"manager":"I300"}"#,
-        answer(alloc, 1, &[ONE], &[TWO], manager),
+        r#"{"kind":"eti_ask","from":"R100","no":3,"wagon":"218124712173"}"#,
+        &estimate_asked(alloc)?,
     )?;
-    is_call(
+    are_call(
         alloc,
-        r#"{"kind":"answer","from":"R102","no":3,"at":"2025-03-01T11:10Z","offerer":"R101","offer":6,"received":["218124712173","338478961232"],"refused":[]}"#,
-        answer(alloc, 3, &[ONE, TWO], &[], None),
+        r#"{"kind":"leg_time","from":"R102","no":1,"wagon":"218124712173","leg":1,"minutes":200}"#,
+        &leg_time(alloc)?,
     )?;
-    is_call(
+    are_call(
         alloc,
-        r#"{"kind":"answer","from":"R102","no":3,"at":"2025-03-01T11:10Z","offerer":"R101","offer":6,"received":["218124712173","338478961232"],"refused":[],"manager":null}"#,
-        answer(alloc, 3, &[ONE, TWO], &[], None),
+        r#"{"kind":"withdraw","from":"R101","no":7,"at":"2025-03-01T11:00Z","offer":6}"#,
+        &withdrawal(alloc)?,
+    )?;
+    are_call(
+        alloc,
+        r#"{"kind":"reroute","from":"R100","no":3,"wagon":"218124712173","legs":[{"ru":"R103","origin":"AT00002","target":"CH00004","minutes":180}]}"#,
+        &reroute(alloc)?,
     )
 }
 
-fn leg(ru: &str, origin: &str, target: &str, minutes: u32) -> Result<Leg, Fail> {
-    Ok(Leg {
-        ru: railway(ru)?,
-        origin: place(origin)?,
-        target: place(target)?,
-        minutes,
-    })
+// An answer may name no manager.
+const NO_MANAGER: &str =
+    r#"{"kind":"answer","from":"R102","no":3,"at":"2025-03-01T11:10Z","offerer":"R101","offer":6,"received":["218124712173","338478961232"],"refused":[]}
+{"kind":"answer","from":"R102","no":3,"at":"2025-03-01T11:10Z","offerer":"R101","offer":6,"received":["218124712173","338478961232"],"refused":[],"manager":null}"#;
+
+#[test]
+fn trains(rt: HostRuntime) -> Result<(), Fail> {
+    let alloc = rt.alloc();
+    let manager = Some(railway("I300")?);
+    are_call(
+        alloc,
+        r#"{"kind":"offer","from":"R101","no":6,"at":"2025-03-01T10:50Z","train":"T-77","place":"AT00002","to":"R102","wagons":["218124712173","338478961232"]}"#,
+        &offer(alloc)?,
+    )?;
+    are_call(
+        alloc,
+        r#"{"kind":"answer","from":"R102","no":1,"at":"2025-03-01T11:10Z","offerer":"R101","offer":6,"received":["218124712173"],"refused":["338478961232"],"manager":"I300"}"#,
+        &answer(alloc, 1, &[ONE], &[TWO], manager)?,
+    )?;
+    are_call(
+        alloc,
+        NO_MANAGER,
+        &answer(alloc, 3, &[ONE, TWO], &[], None)?,
+    )
 }
 
-// The plan of the first two wagons over two legs, with a unit on the first wagon or with none.
-fn plan(alloc: Global, unit: Option<UnitCode>) -> Result<Call, Fail> {
+/// The plan of the first two wagons over two legs, with a unit on the first wagon or with none.
+pub(crate) fn plan(alloc: Global, unit: Option<UnitCode>) -> Result<Plan, Fail> {
     let lead = railway("R100")?;
     let consignment = consignment("C-1")?;
     let wagons = [wagon(ONE)?, wagon(TWO)?];
@@ -258,24 +201,21 @@ fn plan(alloc: Global, unit: Option<UnitCode>) -> Result<Call, Fail> {
         leg("R102", "AT00002", "IT00003", 240)?,
     ];
     let load = Load::Loaded;
-    let plan = match unit {
-        None => Plan::new(alloc, lead, consignment, load, &wagons, &legs, commit)?,
-        Some(unit) => {
-            let wagon = wagons[0];
-            let units = [UnitLoad { unit, wagon }];
-            Plan::with_units(
-                alloc,
-                lead,
-                consignment,
-                load,
-                &wagons,
-                &legs,
-                &units,
-                commit,
-            )?
-        }
+    let Some(unit) = unit else {
+        return Ok(Plan::new(alloc, lead, consignment, load, &wagons, &legs, commit)?);
     };
-    send(alloc, "R100", 1, Body::Plan(plan))
+    let wagon = wagons[0];
+    let units = [UnitLoad { unit, wagon }];
+    Ok(Plan::with_units(
+        alloc,
+        lead,
+        consignment,
+        load,
+        &wagons,
+        &legs,
+        &units,
+        commit,
+    )?)
 }
 
 // Lines of the plan without units, and then with one.
@@ -292,16 +232,20 @@ const PLANS_WITH_A_UNIT: &str =
 #[test]
 fn plans(rt: HostRuntime) -> Result<(), Fail> {
     let alloc = rt.alloc();
-    is_call(alloc, PLAN, plan(alloc, None))?;
-    for line in PLANS.lines() {
-        is_call(alloc, line, plan(alloc, None))?;
-    }
     let unit = Some(UnitCode::read("CSQU3054383")?);
-    for line in PLANS_WITH_A_UNIT.lines() {
-        is_call(alloc, line, plan(alloc, unit))?;
-    }
-    Ok(())
+    let bare = send(alloc, "R100", 1, Body::Plan(plan(alloc, None)?))?;
+    are_call(alloc, PLANS, &bare)?;
+    let loaded = send(alloc, "R100", 1, Body::Plan(plan(alloc, unit)?))?;
+    are_call(alloc, PLANS_WITH_A_UNIT, &loaded)
 }
+
+// Key order, blanks, escapes, unknown fields and repeated keys make no other call.
+const ASK: &str = r#"{"kind":"ask","from":"R100","wagon":"318066552148"}
+{"wagon":"318066552148","from":"R100","kind":"ask"}
+{"k\u0069nd":"\u0061sk","from":"R100","wagon":"318066552148"}
+{"kind":"ask","from":"R100","wagon":"318066552148","no":-1.5e3,"note":[null,{"kind":"ack"}]}
+{"kind":"fetch","kind":"ask","from":7,"from":"R100","wagon":"318066552148"}
+{"kind":"ask","from":"R100","wagon":"318066552148","note":"\ud83d\ude82 \u00e4"}"#;
 
 #[test]
 fn questions(rt: HostRuntime) -> Result<(), Fail> {
@@ -310,49 +254,29 @@ fn questions(rt: HostRuntime) -> Result<(), Fail> {
     let wagon = wagon(THREE)?;
     let unit = UnitCode::read("CSQU3054383")?;
     let consignment = consignment("C-1")?;
-    is_call(
-        alloc,
-        r#"{"kind":"ask","from":"R100","wagon":"318066552148"}"#,
-        Ok(Call::Ask { by, wagon }),
-    )?;
-    is_call(
-        alloc,
-        r#"{"kind":"ask_unit","from":"R100","unit":"CSQU3054383"}"#,
-        Ok(Call::AskUnit { by, unit }),
-    )?;
-    is_call(
-        alloc,
-        r#"{"kind":"deviation","from":"R100","consignment":"C-1"}"#,
-        Ok(Call::Deviation { by, consignment }),
-    )?;
     let (limit, item) = (within(10)?, within(0)?);
-    is_call(
-        alloc,
-        r#"{"kind":"fetch","from":"R100","limit":10}"#,
-        Ok(Call::Fetch { by, limit }),
-    )?;
-    is_call(
-        alloc,
-        r#"{"kind":"ack","from":"R100","item":0}"#,
-        Ok(Call::Ack { by, item }),
-    )
-}
-
-// Key order, blanks, escapes, unknown fields and repeated keys make no other call.
-const FORMS: &str = r#"{"wagon":"318066552148","from":"R100","kind":"ask"}
-{"k\u0069nd":"\u0061sk","from":"R100","wagon":"318066552148"}
-{"kind":"ask","from":"R100","wagon":"318066552148","no":-1.5e3,"note":[null,{"kind":"ack"}]}
-{"kind":"fetch","kind":"ask","from":7,"from":"R100","wagon":"318066552148"}
-{"kind":"ask","from":"R100","wagon":"318066552148","note":"\ud83d\ude82 \u00e4"}"#;
-
-#[test]
-fn forms_of_one_line(rt: HostRuntime) -> Result<(), Fail> {
-    let alloc = rt.alloc();
-    let by = railway("R100")?;
-    let wagon = wagon(THREE)?;
-    for line in FORMS.lines() {
-        is_call(alloc, line, Ok(Call::Ask { by, wagon }))?;
-    }
     let blanks = "\t{ \"kind\" : \"ask\" , \"from\" : \"R100\" , \"wagon\" : \"318066552148\" } \r";
-    is_call(alloc, blanks, Ok(Call::Ask { by, wagon }))
+    for (lines, call) in [
+        (ASK, Call::Ask { by, wagon }),
+        (blanks, Call::Ask { by, wagon }),
+        (
+            r#"{"kind":"ask_unit","from":"R100","unit":"CSQU3054383"}"#,
+            Call::AskUnit { by, unit },
+        ),
+        (
+            r#"{"kind":"deviation","from":"R100","consignment":"C-1"}"#,
+            Call::Deviation { by, consignment },
+        ),
+        (
+            r#"{"kind":"fetch","from":"R100","limit":10}"#,
+            Call::Fetch { by, limit },
+        ),
+        (
+            r#"{"kind":"ack","from":"R100","item":0}"#,
+            Call::Ack { by, item },
+        ),
+    ] {
+        are_call(alloc, lines, &call)?;
+    }
+    Ok(())
 }

@@ -22,14 +22,14 @@ pub(crate) fn is_text(written: Result<Vec<u8>, Memory>, text: &str) -> Result<()
     }
 }
 
-/// Fails with the line, unless it is this call.
-pub(crate) fn is_call(alloc: Global, line: &str, call: Result<Call, Fail>) -> Result<(), Fail> {
-    let call = call?;
-    if read_call(alloc, line.as_bytes()) == Ok(call) {
-        Ok(())
-    } else {
-        Err(Fail::new(line))
+/// Fails with the first of the lines that is not this call.
+pub(crate) fn are_call(alloc: Global, lines: &str, call: &Call) -> Result<(), Fail> {
+    for line in lines.lines() {
+        if read_call(alloc, line.as_bytes())? != *call {
+            return Err(Fail::new(line));
+        }
     }
+    Ok(())
 }
 
 /// Fails with the line, unless its fault has this text. A line that is a call has the text `good`.
@@ -66,9 +66,39 @@ pub(crate) fn have_faults(alloc: Global, cases: &str) -> Result<(), Fail> {
 
 fn have_fault(alloc: Global, lines: &str, text: &str) -> Result<(), Fail> {
     for line in lines.lines() {
-        has_fault(alloc, line.as_bytes(), text)?;
+        has_fault(alloc, in_full(alloc, line)?.as_bytes(), text)?;
     }
     Ok(())
+}
+
+// The line with its lists in full: `<9 null>` stands for a list of nine times null, and `<60 wagons>` for
+// one of sixty different wagons.
+fn in_full(alloc: Global, line: &str) -> Result<String, Fail> {
+    let mut whole = String::new(alloc);
+    for part in line.split('>') {
+        let (before, list) = part.split_once('<').unwrap_or((part, ""));
+        whole.push_str(before)?;
+        if let Some((count, element)) = list.split_once(' ') {
+            add_list(&mut whole, count.parse::<u32>()?, element)?;
+        }
+    }
+    Ok(whole)
+}
+
+// Different wagons, as texts of JSON.
+const WAGONS: &str =
+    r#""218124710003" "218124710011" "218124710029" "218124710037" "218124710045" "218124710052" "218124710060" "218124710078" "218124710086" "218124710094" "218124710102" "218124710110" "218124710128" "218124710136" "218124710144" "218124710151" "218124710169" "218124710177" "218124710185" "218124710193" "218124710201" "218124710219" "218124710227" "218124710235" "218124710243" "218124710250" "218124710268" "218124710276" "218124710284" "218124710292" "218124710300" "218124710318" "218124710326" "218124710334" "218124710342" "218124710359" "218124710367" "218124710375" "218124710383" "218124710391" "218124710409" "218124710417" "218124710425" "218124710433" "218124710441" "218124710458" "218124710466" "218124710474" "218124710482" "218124710490" "218124710508" "218124710516" "218124710524" "218124710532" "218124710540" "218124710557" "218124710565" "218124710573" "218124710581" "218124710599" "218124710607""#;
+
+fn add_list(whole: &mut String, count: u32, element: &str) -> Result<(), Fail> {
+    let elements = if element == "wagons" { WAGONS } else { element };
+    let mut rest = elements.split(' ');
+    let mut before = '[';
+    for _ in 0..count {
+        whole.push(before)?;
+        whole.push_str(rest.next().unwrap_or(element))?;
+        before = ',';
+    }
+    Ok(whole.push(']')?)
 }
 
 /// Fails unless the reply has this text, alone and behind other text.

@@ -1,10 +1,57 @@
 //! The first fault of a line: no JSON, no kind, and then each field in its place.
 use crate::checks::{has_fault, have_faults, is_text, shown};
+use crate::lists::{ANSWERS, OFFERS};
+use crate::numbers::NUMBERS;
+use crate::plans::{LISTS, PLANS, ROUTES};
 use reply_writer::{append_fault, write_fault};
 use std::alloc::Global;
-use std::fmt::Write;
 use std::test::Fail;
 use taf_messages::{Field, RecordFault};
+
+const NO_RECORDS: &str = r#"={"fault":"bad_json"}
+{"kind":"ask","from":"R1
+{"kind":"ask","from":"DE
+[]
+null
+"ask"
+[{"kind":"ask"}]
+{} {}
+{"kind":"ask",}
+{"note":"\ud800"}
+{"note":1e400}
+{"note":-1e400,"note":0}
+={"fault":"bad_kind"}
+{}
+{"kind":null}
+{"kind":7,"from":"r100"}
+{"kind":"Ask","from":"R100"}
+{"kind":"hello","from":"R100"}
+{"kind":"ask","kind":["ask"]}
+={"fault":"missing_field","field":"from"}
+{"kind":"","kind":"ask"}"#;
+
+#[test]
+fn lines_with_faults(rt: HostRuntime) -> Result<(), Fail> {
+    for cases in [NO_RECORDS, NUMBERS, OFFERS, ANSWERS, LISTS, PLANS, ROUTES] {
+        have_faults(rt.alloc(), cases)?;
+    }
+    Ok(())
+}
+
+#[test]
+fn bytes_that_are_no_record(rt: HostRuntime) -> Result<(), Fail> {
+    let open = Vec::from_elem(rt.alloc(), b'[', 30_000)?;
+    for bytes in [
+        open.as_slice(),
+        b"",
+        b"{\"kind\":\"ask\",\"note\":\"\xff\"}",
+        b"\xef\xbb\xbf{}",
+        b"\x0c{}",
+    ] {
+        has_fault(rt.alloc(), bytes, r#"{"fault":"bad_json"}"#)?;
+    }
+    Ok(())
+}
 
 // Fields, each with a value that is good for it and with one that is not.
 const FIELDS: &str = r#"from "R101" "r100"
@@ -33,15 +80,16 @@ item 999999999999 1000000000000
 unit "AAAU0000060" "CSQU3054384""#;
 
 // A good value of the field, and a bad one.
-fn values(field: &str) -> Result<(&'static str, &'static str), Fail> {
+fn values(field: &str) -> Result<(&str, &str), Fail> {
     for row in FIELDS.lines() {
         if let Some((name, values)) = row.split_once(' ')
             && name == field
+            && let Some(values) = values.split_once(' ')
         {
-            return values.split_once(' ').ok_or_else(|| Fail::new(row));
+            return Ok(values);
         }
     }
-    Err(Fail::new("no such field"))
+    Err(Fail::new(field))
 }
 
 // The kinds of records with their fields in order, of which those with `?` may be absent.
@@ -66,79 +114,67 @@ deviation from consignment
 fetch from limit
 ack from item";
 
-// Behind what a line begins with, a field is missing or may be absent, and a bad value is found.
-fn is_field(alloc: Global, start: &str, word: &str) -> Result<(), Fail> {
-    let absent = format!(in alloc; "{start}}}")?;
-    let Some(field) = word.strip_suffix('?') else {
-        let fault = format!(in alloc; "{{\"fault\":\"missing_field\",\"field\":\"{word}\"}}")?;
-        has_fault(alloc, absent.as_bytes(), &fault)?;
-        return is_bad_field(alloc, start, word);
-    };
-    has_fault(alloc, absent.as_bytes(), "good")?;
-    is_bad_field(alloc, start, field)
+fn add(text: &mut String, parts: &[&str]) -> Result<(), Fail> {
+    for part in parts {
+        text.push_str(part)?;
+    }
+    Ok(())
 }
 
-fn is_bad_field(alloc: Global, start: &str, field: &str) -> Result<(), Fail> {
+// Adds the cases of a field behind what a line begins with: it is missing or may be absent, and a bad value
+// is found.
+fn add_field<'a>(cases: &mut String, start: &'a str, word: &'a str) -> Result<(), Fail> {
+    let field = word.strip_suffix('?').unwrap_or(word);
     let (_, bad) = values(field)?;
-    let line = format!(in alloc; "{start},\"{field}\":{bad}}}")?;
-    let fault = format!(in alloc; "{{\"fault\":\"bad_field\",\"field\":\"{field}\"}}")?;
-    has_fault(alloc, line.as_bytes(), &fault)
+    if field == word {
+        add(
+            cases,
+            &["={\"fault\":\"missing_field\",\"field\":\"", field, "\"}\n"],
+        )?;
+    } else {
+        add(cases, &["=good\n"])?;
+    }
+    add(
+        cases,
+        &[
+            start,
+            "}\n={\"fault\":\"bad_field\",\"field\":\"",
+            field,
+            "\"}\n",
+        ],
+    )?;
+    add(cases, &[start, ",\"", field, "\":", bad, "}\n"])
 }
 
-// With good values up to a field, the line is checked at that field, and with all it is a call.
-fn are_fields(alloc: Global, kind: &str) -> Result<(), Fail> {
-    let (kind, fields) = kind.split_once(' ').ok_or_else(|| Fail::new("no field"))?;
-    let mut line = format!(in alloc; "{{\"kind\":\"{kind}\"")?;
+fn add_good(cases: &mut String, start: &str) -> Result<(), Fail> {
+    add(cases, &["=good\n", start, "}\n"])
+}
+
+// The cases of a kind: with good values up to a field the line is checked at that field, and with all it is
+// a call.
+fn cases_of(alloc: Global, kind: &str) -> Result<String, Fail> {
+    let Some((name, fields)) = kind.split_once(' ') else {
+        return Err(Fail::new(kind));
+    };
+    let mut cases = String::new(alloc);
+    let mut start = String::new(alloc);
+    add(&mut start, &["{\"kind\":\"", name, "\""])?;
     for word in fields.split(' ') {
-        is_field(alloc, &line, word)?;
+        add_field(&mut cases, &start, word)?;
         let field = word.strip_suffix('?').unwrap_or(word);
         let (good, _) = values(field)?;
-        write!(line, ",\"{field}\":{good}")?;
+        add(&mut start, &[",\"", field, "\":", good])?;
     }
-    line.push('}')?;
-    has_fault(alloc, line.as_bytes(), "good")
+    add_good(&mut cases, &start)?;
+    Ok(cases)
 }
 
 #[test]
 fn fields_in_their_order(rt: HostRuntime) -> Result<(), Fail> {
     for kind in KINDS.lines() {
-        are_fields(rt.alloc(), kind)?;
+        have_faults(rt.alloc(), &cases_of(rt.alloc(), kind)?)?;
     }
     Ok(())
-}
-
-const NO_RECORDS: &str = r#"={"fault":"bad_json"}
-{"kind":"ask","from":"DE
-[]
-null
-"ask"
-[{"kind":"ask"}]
-{} {}
-{"kind":"ask",}
-{"note":"\ud800"}
-{"note":1e400}
-{"note":-1e400,"note":0}
-={"fault":"bad_kind"}
-{}
-{"kind":null}
-{"kind":7,"from":"r100"}
-{"kind":"Ask","from":"R100"}
-{"kind":"hello","from":"R100"}
-{"kind":"ask","kind":["ask"]}
-={"fault":"missing_field","field":"from"}
-{"kind":"","kind":"ask"}"#;
-
-#[test]
-fn lines_that_are_no_record(rt: HostRuntime) -> Result<(), Fail> {
-    let alloc = rt.alloc();
-    have_faults(alloc, NO_RECORDS)?;
-    let bad_json = r#"{"fault":"bad_json"}"#;
-    let open = Vec::from_elem(alloc, b'[', 30_000)?;
-    has_fault(alloc, &open, bad_json)?;
-    has_fault(alloc, b"", bad_json)?;
-    has_fault(alloc, b"{\"kind\":\"ask\",\"note\":\"\xff\"}", bad_json)?;
-    has_fault(alloc, b"\xef\xbb\xbf{}", bad_json)?;
-    has_fault(alloc, b"\x0c{}", bad_json)
 }
 
 // Fails unless the fault has this text, alone and behind other text.
@@ -158,27 +194,25 @@ fn is_written(alloc: Global, fault: RecordFault, text: &str) -> Result<(), Fail>
 // The text of a fault names the field.
 #[test]
 fn texts_of_faults(rt: HostRuntime) -> Result<(), Fail> {
-    let alloc = rt.alloc();
-    is_written(alloc, RecordFault::BadJson, r#"{"fault":"bad_json"}"#)?;
-    is_written(alloc, RecordFault::BadKind, r#"{"fault":"bad_kind"}"#)?;
-    is_written(
-        alloc,
-        RecordFault::MissingField(Field::From),
-        r#"{"fault":"missing_field","field":"from"}"#,
-    )?;
-    is_written(
-        alloc,
-        RecordFault::BadField(Field::Delay),
-        r#"{"fault":"bad_field","field":"delay"}"#,
-    )?;
-    is_written(
-        alloc,
-        RecordFault::BadPlan(1),
-        r#"{"code":1,"fault":"bad_plan"}"#,
-    )?;
-    is_written(
-        alloc,
-        RecordFault::BadPlan(8),
-        r#"{"code":8,"fault":"bad_plan"}"#,
-    )
+    for (fault, text) in [
+        (RecordFault::BadJson, r#"{"fault":"bad_json"}"#),
+        (RecordFault::BadKind, r#"{"fault":"bad_kind"}"#),
+        (
+            RecordFault::MissingField(Field::From),
+            r#"{"fault":"missing_field","field":"from"}"#,
+        ),
+        (
+            RecordFault::BadField(Field::Delay),
+            r#"{"fault":"bad_field","field":"delay"}"#,
+        ),
+        (
+            RecordFault::BadField(Field::Consignment),
+            r#"{"fault":"bad_field","field":"consignment"}"#,
+        ),
+        (RecordFault::BadPlan(1), r#"{"code":1,"fault":"bad_plan"}"#),
+        (RecordFault::BadPlan(8), r#"{"code":8,"fault":"bad_plan"}"#),
+    ] {
+        is_written(rt.alloc(), fault, text)?;
+    }
+    Ok(())
 }

@@ -1,10 +1,12 @@
 //! Each growth refused in turn: the answer is Memory, nothing is lost, and the call made again gives
 //! what it gives with ample memory.
+use crate::calls::plan;
 use crate::checks::shown;
-use crate::copies::{items, replies};
-use crate::lines::MESSAGES;
-use crate::parts::{ONE, consignment, message, place, railway, wagon};
-use crate::records::{planned, running};
+use crate::items::items;
+use crate::lines::{MESSAGES, messages};
+use crate::parts::leg;
+use crate::records::running;
+use crate::replies::replies;
 use ballast::Ballast;
 use call_reader::read_call;
 use reply_writer::{
@@ -14,46 +16,131 @@ use std::alloc::Global;
 use std::test::Fail;
 use taf_codes::{Memory, UnitCode};
 use taf_messages::{
-    Call, Field, Item, ItemBody, Message, Record, RecordFault, Reply, Shared, copy, copy_call,
-    copy_item, copy_reply, same,
+    Call, Field, Item, ItemBody, Message, Record, RecordFault, Reply, copy, copy_call, copy_item,
+    copy_reply,
 };
-use taf_moment::Moment;
-use trip_plan::{Leg, Load, Plan, PlanFault, Route, UnitLoad};
-use wagon_number::WagonNumber;
+use trip_plan::{Plan, PlanFault, Route};
 
 // How many budgets are tried, each of sixteen bytes more than the one before.
 const BUDGETS: usize = 4000;
 
-// Whether this is what the line is read as. Another answer must be that memory was refused.
-fn is_whole(
-    answer: Result<Call, RecordFault>,
-    whole: &Result<Call, RecordFault>,
-) -> Result<bool, Fail> {
-    if answer == *whole {
-        Ok(true)
-    } else if answer == Err(RecordFault::Memory) {
-        Ok(false)
-    } else {
-        Err(Fail::new("another answer"))
+// What is made with little memory, beside what it is with ample memory.
+#[derive(Drop)]
+enum Attempt<'a> {
+    Read(&'a str, &'a Result<Call, RecordFault>),
+    Reply(&'a Reply, &'a [u8]),
+    AppendedReply(&'a Reply, &'a [u8]),
+    Item(&'a Item, &'a [u8]),
+    Record(&'a Record, &'a [u8]),
+    Fault(RecordFault, &'a [u8]),
+    AppendedFault(RecordFault, &'a [u8]),
+    Plan(&'a Plan),
+    Route(&'a Route),
+}
+
+impl Attempt<'_> {
+    // Whether it is made as with ample memory: none where memory was refused. What is appended goes to `out`.
+    fn is_made(&self, alloc: Global, out: &mut Vec<u8>) -> Option<bool> {
+        match self {
+            Attempt::Read(line, whole) => is_read(read_call(alloc, line.as_bytes()), whole),
+            Attempt::Reply(reply, text) => is_text(write_reply(alloc, reply), text),
+            Attempt::AppendedReply(reply, text) => {
+                let appended = append_reply(alloc, out, reply);
+                is_appended(appended, out, text)
+            }
+            Attempt::Item(item, text) => is_text(write_item(alloc, item), text),
+            Attempt::Record(known, text) => is_text(write_record(alloc, known), text),
+            Attempt::Fault(fault, text) => is_fault(alloc, *fault, text),
+            Attempt::AppendedFault(fault, text) => is_fault_appended(alloc, out, *fault, text),
+            Attempt::Plan(plan) => is_whole(planned_again(alloc, plan), plan),
+            Attempt::Route(route) => is_whole(Route::new(alloc, route.legs()), route),
+        }
     }
 }
 
-// How often the line's reading was refused before it was read as with ample memory. Each time that
-// it was refused, it is read with ample memory again.
-fn refused_reads(alloc: Global, ballast: &mut Ballast, line: &str) -> Result<u64, Fail> {
-    let whole = read_call(alloc, line.as_bytes());
-    let mut refusals: u64 = 0;
+fn is_read(answer: Result<Call, RecordFault>, whole: &Result<Call, RecordFault>) -> Option<bool> {
+    if answer == Err(RecordFault::Memory) {
+        None
+    } else {
+        Some(answer == *whole)
+    }
+}
+
+fn is_text(answer: Result<Vec<u8>, Memory>, text: &[u8]) -> Option<bool> {
+    let answer = answer.ok()?;
+    Some(answer.as_slice() == text)
+}
+
+// A text that is refused leaves what was there.
+fn is_appended(appended: Result<(), Memory>, out: &[u8], text: &[u8]) -> Option<bool> {
+    let rest = out.strip_prefix(b"before")?;
+    match appended {
+        Ok(()) => Some(rest == text),
+        Err(Memory) if rest.is_empty() => None,
+        Err(Memory) => Some(false),
+    }
+}
+
+fn is_fault(alloc: Global, fault: RecordFault, text: &[u8]) -> Option<bool> {
+    if fault == RecordFault::Memory {
+        return None;
+    }
+    is_text(write_fault(alloc, &fault), text)
+}
+
+fn is_fault_appended(
+    alloc: Global,
+    out: &mut Vec<u8>,
+    fault: RecordFault,
+    text: &[u8],
+) -> Option<bool> {
+    if fault == RecordFault::Memory {
+        return None;
+    }
+    let appended = append_fault(alloc, out, &fault);
+    is_appended(appended, out, text)
+}
+
+fn planned_again(alloc: Global, plan: &Plan) -> Result<Plan, PlanFault> {
+    let units = plan.units();
+    if units.len() > 120 {
+        return Err(PlanFault::BadPlan(0));
+    }
+    Plan::with_units(
+        alloc,
+        plan.lead(),
+        plan.consignment(),
+        plan.load(),
+        plan.wagons(),
+        plan.legs(),
+        units,
+        plan.commit(),
+    )
+}
+
+fn is_whole<T: PartialEq + Drop>(answer: Result<T, PlanFault>, whole: &T) -> Option<bool> {
+    match answer {
+        Ok(made) => Some(made == *whole),
+        Err(PlanFault::Memory) => None,
+        Err(PlanFault::BadPlan(_)) => Some(false),
+    }
+}
+
+// How often it was refused before it was made. Each time that it was refused, it is made with ample memory then.
+fn refusals(alloc: Global, ballast: &mut Ballast, attempt: &Attempt) -> Result<usize, Fail> {
     for budget in 0..BUDGETS {
+        let mut out = Vec::from_slice(alloc, b"before")?;
         ballast.leave(budget * 16)?;
-        let answer = read_call(alloc, line.as_bytes());
+        let made = attempt.is_made(alloc, &mut out);
         ballast.ease();
-        if is_whole(answer, &whole)? {
-            return Ok(refusals);
+        match made {
+            Some(true) => return Ok(budget),
+            Some(false) => return Err(Fail::new("made otherwise")),
+            None => {}
         }
-        if !is_whole(read_call(alloc, line.as_bytes()), &whole)? {
-            return Err(Fail::new("refused with ample memory"));
+        if attempt.is_made(alloc, &mut out) != Some(true) {
+            return Err(Fail::new("not made afterwards"));
         }
-        refusals = refusals.saturating_add(1);
     }
     Err(Fail::new("always refused"))
 }
@@ -67,48 +154,15 @@ const QUESTIONS: &str = r#"{"kind":"ask","from":"R100","wagon":"318066552148"}
 fn reading(rt: HostRuntime) -> Result<(), Fail> {
     let alloc = rt.alloc();
     let mut ballast = Ballast::new(alloc)?;
-    let mut refusals: u64 = 0;
+    let mut refused: usize = 0;
     for line in MESSAGES.lines().chain(QUESTIONS.lines()) {
-        refusals = refusals.saturating_add(refused_reads(alloc, &mut ballast, line)?);
+        let whole = read_call(alloc, line.as_bytes());
+        let attempt = Attempt::Read(line, &whole);
+        refused = refused.saturating_add(refusals(alloc, &mut ballast, &attempt)?);
     }
     // A record without lists takes so little that what was just given back may serve it. The others are refused often.
-    assert!(rt; refusals > 20, "{refusals}");
+    assert!(rt; refused > 20, "{refused}");
     Ok(())
-}
-
-// What is written.
-#[derive(Clone, Copy)]
-enum Written<'a> {
-    Reply(&'a Reply),
-    Item(&'a Item),
-    Record(&'a Record),
-}
-
-impl Written<'_> {
-    fn text(self, alloc: Global) -> Result<Vec<u8>, Memory> {
-        match self {
-            Written::Reply(reply) => write_reply(alloc, reply),
-            Written::Item(item) => write_item(alloc, item),
-            Written::Record(known) => write_record(alloc, known),
-        }
-    }
-}
-
-// How often the text was refused before it was written as with ample memory.
-fn refused_texts(alloc: Global, ballast: &mut Ballast, written: Written) -> Result<u64, Fail> {
-    let whole = written.text(alloc)?;
-    let mut refusals: u64 = 0;
-    for budget in 0..BUDGETS {
-        ballast.leave(budget * 16)?;
-        let answer = written.text(alloc);
-        ballast.ease();
-        match answer {
-            Ok(text) if text == whole => return Ok(refusals),
-            Ok(_) => return Err(Fail::new("another text")),
-            Err(Memory) => refusals = refusals.saturating_add(1),
-        }
-    }
-    Err(Fail::new("always refused"))
 }
 
 #[test]
@@ -116,7 +170,11 @@ fn writing_replies(rt: HostRuntime) -> Result<(), Fail> {
     let alloc = rt.alloc();
     let mut ballast = Ballast::new(alloc)?;
     for reply in replies(alloc)?.iter() {
-        assert!(rt; refused_texts(alloc, &mut ballast, Written::Reply(reply))? > 0);
+        let text = write_reply(alloc, reply)?;
+        let attempt = Attempt::Reply(reply, &text);
+        assert!(rt; refusals(alloc, &mut ballast, &attempt)? > 0);
+        let attempt = Attempt::AppendedReply(reply, &text);
+        assert!(rt; refusals(alloc, &mut ballast, &attempt)? > 0);
     }
     Ok(())
 }
@@ -126,251 +184,92 @@ fn writing_items(rt: HostRuntime) -> Result<(), Fail> {
     let alloc = rt.alloc();
     let mut ballast = Ballast::new(alloc)?;
     for item in items(alloc)?.iter() {
-        assert!(rt; refused_texts(alloc, &mut ballast, Written::Item(item))? > 0);
+        let text = write_item(alloc, item)?;
+        let attempt = Attempt::Item(item, &text);
+        assert!(rt; refusals(alloc, &mut ballast, &attempt)? > 0);
     }
     Ok(())
 }
 
 #[test]
-fn writing_a_record(rt: HostRuntime) -> Result<(), Fail> {
+fn writing_records_and_faults(rt: HostRuntime) -> Result<(), Fail> {
     let alloc = rt.alloc();
     let mut ballast = Ballast::new(alloc)?;
     let known = running(alloc, true)?;
-    assert!(rt; refused_texts(alloc, &mut ballast, Written::Record(&known))? > 1);
-    Ok(())
-}
-
-#[test]
-fn writing_a_fault(rt: HostRuntime) -> Result<(), Fail> {
-    let alloc = rt.alloc();
-    let mut ballast = Ballast::new(alloc)?;
+    let text = write_record(alloc, &known)?;
     let fault = RecordFault::BadField(Field::Consignment);
-    ballast.leave(0)?;
-    let answer = write_fault(alloc, &fault);
-    ballast.ease();
-    assert!(rt; answer.is_err());
-    let text = write_fault(alloc, &fault)?;
-    assert_eq!(rt;
-        shown(&text),
-        r#"{"fault":"bad_field","field":"consignment"}"#
-    );
-    Ok(())
-}
-
-// How often the reply was refused before it was appended. A text that is refused leaves what was there.
-fn refused_appends(alloc: Global, ballast: &mut Ballast, reply: &Reply) -> Result<u64, Fail> {
-    let whole = write_reply(alloc, reply)?;
-    let mut out = Vec::from_slice(alloc, b"before")?;
-    let mut refusals: u64 = 0;
-    for budget in 0..BUDGETS {
-        ballast.leave(budget * 16)?;
-        let answer = append_reply(alloc, &mut out, reply);
-        ballast.ease();
-        let rest = shown(&out).strip_prefix("before");
-        match (answer, rest) {
-            (Ok(()), Some(rest)) if rest == shown(&whole) => return Ok(refusals),
-            (Err(Memory), Some("")) => refusals = refusals.saturating_add(1),
-            _ => return Err(Fail::new("another text")),
-        }
-    }
-    Err(Fail::new("always refused"))
-}
-
-#[test]
-fn appending_a_reply(rt: HostRuntime) -> Result<(), Fail> {
-    let alloc = rt.alloc();
-    let mut ballast = Ballast::new(alloc)?;
-    let reply = Reply::One(Shared::new(alloc, planned(alloc)?)?);
-    assert!(rt; refused_appends(alloc, &mut ballast, &reply)? > 1);
-    Ok(())
-}
-
-#[test]
-fn appending_a_fault(rt: HostRuntime) -> Result<(), Fail> {
-    let alloc = rt.alloc();
-    let mut ballast = Ballast::new(alloc)?;
-    let fault = RecordFault::BadPlan(1);
-    let mut out = Vec::from_slice(alloc, b"before")?;
-    ballast.leave(0)?;
-    let answer = append_fault(alloc, &mut out, &fault);
-    ballast.ease();
-    assert!(rt; answer.is_err());
-    assert_eq!(rt; shown(&out), "before");
-    append_fault(alloc, &mut out, &fault)?;
-    assert_eq!(rt; shown(&out), r#"before{"code":1,"fault":"bad_plan"}"#);
-    Ok(())
-}
-
-// Whether the reply is copied where no memory is left.
-fn copies_reply(ballast: &mut Ballast, reply: &Reply) -> Result<bool, Fail> {
-    ballast.leave(0)?;
-    let copied = copy_reply(reply);
-    ballast.ease();
-    Ok(copied? == *reply)
-}
-
-// Copies of replies share the records and the items.
-#[test]
-fn copying_replies(rt: HostRuntime) -> Result<(), Fail> {
-    let alloc = rt.alloc();
-    let mut ballast = Ballast::new(alloc)?;
-    for reply in replies(alloc)?.iter() {
-        assert!(rt; copies_reply(&mut ballast, reply)?);
+    let fault_text = br#"{"fault":"bad_field","field":"consignment"}"#;
+    for (attempt, least) in [
+        (Attempt::Record(&known, &text), 1),
+        (Attempt::Fault(fault, fault_text), 0),
+        (Attempt::AppendedFault(fault, fault_text), 0),
+    ] {
+        assert!(rt; refusals(alloc, &mut ballast, &attempt)? > least);
     }
     Ok(())
 }
 
-fn copies_message(ballast: &mut Ballast, message: &Message) -> Result<bool, Fail> {
-    ballast.leave(0)?;
-    let copied = copy(message).is_ok();
-    ballast.ease();
-    Ok(copied)
+// Whether it is the copy that was asked for. Copies share what they hold and take no memory.
+fn is_copy<T: PartialEq + Drop>(copied: Result<T, Memory>, source: &T) -> bool {
+    match copied {
+        Ok(copied) => copied == *source,
+        Err(Memory) => false,
+    }
 }
 
-fn copies_call(ballast: &mut Ballast, call: &Call) -> Result<bool, Fail> {
+// A plan is made of three lists and what they are kept in.
+#[test]
+fn making_plans_and_routes(rt: HostRuntime) -> Result<(), Fail> {
+    let alloc = rt.alloc();
+    let plan = plan(alloc, Some(UnitCode::read("CSQU3054383")?))?;
+    let route = Route::new(alloc, &[leg("R103", "AT00002", "CH00004", 180)?])?;
+    let mut ballast = Ballast::new(alloc)?;
+    assert!(rt; refusals(alloc, &mut ballast, &Attempt::Plan(&plan))? > 3);
+    assert!(rt; refusals(alloc, &mut ballast, &Attempt::Route(&route))? > 1);
     ballast.leave(0)?;
-    let copied = copy_call(call).is_ok();
+    let copied = (is_copy(plan.copy(), &plan), is_copy(route.copy(), &route));
     ballast.ease();
-    Ok(copied)
+    assert_eq!(rt; copied, (true, true));
+    Ok(())
 }
 
-fn copies_item(ballast: &mut Ballast, item: &Item) -> Result<bool, Fail> {
+fn are_copied(
+    ballast: &mut Ballast,
+    message: &Message,
+    call: &Call,
+    item: &Item,
+) -> Result<[bool; 3], Fail> {
     ballast.leave(0)?;
-    let copied = copy_item(item).is_ok();
+    let copied = [
+        is_copy(copy(message), message),
+        is_copy(copy_call(call), call),
+        is_copy(copy_item(item), item),
+    ];
     ballast.ease();
     Ok(copied)
-}
-
-// Whether the message of this line, its notice and its call are copied where no memory is left.
-fn copied(alloc: Global, ballast: &mut Ballast, line: &str) -> Result<[bool; 3], Fail> {
-    let message = message(alloc, line)?;
-    let first = copies_message(ballast, message.get())?;
-    let body = ItemBody::Notice(message);
-    let item = Item { number: 1, body };
-    let second = copies_item(ballast, &item)?;
-    let call = read_call(alloc, line.as_bytes())?;
-    let third = copies_call(ballast, &call)?;
-    Ok([first, second, third])
 }
 
 #[test]
 fn copying_messages(rt: HostRuntime) -> Result<(), Fail> {
-    let alloc = rt.alloc();
-    let mut ballast = Ballast::new(alloc)?;
-    for line in MESSAGES.lines() {
-        let copied = copied(alloc, &mut ballast, line)?;
-        assert_eq!(rt; copied, [true, true, true], "{line}");
+    let mut ballast = Ballast::new(rt.alloc())?;
+    for message in messages(rt.alloc())? {
+        let call = Call::Send(message.clone()?);
+        let body = ItemBody::Notice(message.clone()?);
+        let item = Item { number: 1, body };
+        let copied = are_copied(&mut ballast, message.get(), &call, &item)?;
+        assert_eq!(rt; copied, [true, true, true]);
     }
     Ok(())
 }
 
-fn leg() -> Result<Leg, Fail> {
-    let ru = railway("R101")?;
-    let origin = place("DE00001")?;
-    let target = place("AT00002")?;
-    Ok(Leg {
-        ru,
-        origin,
-        target,
-        minutes: 300,
-    })
-}
-
-fn plan(
-    alloc: Global,
-    wagon: WagonNumber,
-    unit: UnitCode,
-) -> Result<Result<Plan, PlanFault>, Fail> {
-    let lead = railway("R100")?;
-    let consignment = consignment("C-1")?;
-    let leg = leg()?;
-    let commit = Moment::read("2025-03-01T15:30Z")?;
-    let units = [UnitLoad { unit, wagon }];
-    Ok(Plan::with_units(
-        alloc,
-        lead,
-        consignment,
-        Load::Empty,
-        &[wagon],
-        &[leg],
-        &units,
-        commit,
-    ))
-}
-
-// Whether this is the plan. Another answer must be that memory was refused.
-fn is_plan(answer: Result<Plan, PlanFault>, whole: &Plan) -> Result<bool, Fail> {
-    match answer {
-        Ok(plan) if plan == *whole => Ok(true),
-        Err(PlanFault::Memory) => Ok(false),
-        _ => Err(Fail::new("another plan")),
-    }
-}
-
-// How often the plan was refused before it was made as with ample memory.
-fn refused_plans(alloc: Global, ballast: &mut Ballast, whole: &Plan) -> Result<u64, Fail> {
-    let wagon = wagon(ONE)?;
-    let unit = UnitCode::read("CSQU3054383")?;
-    let mut refusals: u64 = 0;
-    for budget in 0..BUDGETS {
-        ballast.leave(budget * 16)?;
-        let answer = plan(alloc, wagon, unit)?;
-        ballast.ease();
-        if is_plan(answer, whole)? {
-            return Ok(refusals);
-        }
-        refusals = refusals.saturating_add(1);
-    }
-    Err(Fail::new("always refused"))
-}
-
-// A plan is made of three lists and what they are kept in; its copy takes no memory.
 #[test]
-fn making_a_plan(rt: HostRuntime) -> Result<(), Fail> {
-    let alloc = rt.alloc();
-    let whole = plan(alloc, wagon(ONE)?, UnitCode::read("CSQU3054383")?)??;
-    let mut ballast = Ballast::new(alloc)?;
-    assert!(rt; refused_plans(alloc, &mut ballast, &whole)? > 3);
-    ballast.leave(0)?;
-    let copy = whole.copy();
-    ballast.ease();
-    assert!(rt; copy? == whole);
-    Ok(())
-}
-
-fn is_route(answer: Result<Route, PlanFault>, whole: &Route) -> Result<bool, Fail> {
-    match answer {
-        Ok(route) if route == *whole => Ok(true),
-        Err(PlanFault::Memory) => Ok(false),
-        _ => Err(Fail::new("another route")),
-    }
-}
-
-// How often the route was refused before it was made as with ample memory.
-fn refused_routes(alloc: Global, ballast: &mut Ballast, whole: &Route) -> Result<u64, Fail> {
-    let legs = [leg()?];
-    let mut refusals: u64 = 0;
-    for budget in 0..BUDGETS {
-        ballast.leave(budget * 16)?;
-        let answer = Route::new(alloc, &legs);
+fn copying_replies(rt: HostRuntime) -> Result<(), Fail> {
+    let mut ballast = Ballast::new(rt.alloc())?;
+    for reply in replies(rt.alloc())?.iter() {
+        ballast.leave(0)?;
+        let copied = is_copy(copy_reply(reply), reply);
         ballast.ease();
-        if is_route(answer, whole)? {
-            return Ok(refusals);
-        }
-        refusals = refusals.saturating_add(1);
+        assert!(rt; copied);
     }
-    Err(Fail::new("always refused"))
-}
-
-#[test]
-fn making_a_route(rt: HostRuntime) -> Result<(), Fail> {
-    let alloc = rt.alloc();
-    let whole = Route::new(alloc, &[leg()?])?;
-    let mut ballast = Ballast::new(alloc)?;
-    assert!(rt; refused_routes(alloc, &mut ballast, &whole)? > 1);
-    ballast.leave(0)?;
-    let copy = whole.copy();
-    ballast.ease();
-    assert!(rt; copy? == whole);
     Ok(())
 }

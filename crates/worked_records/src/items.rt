@@ -1,5 +1,6 @@
 //! Texts of items: notices of each kind, and what else a railway is told.
-use crate::checks::{is_call, is_text};
+use crate::checks::{are_call, is_text};
+use crate::lines::messages;
 use crate::parts::{ONE, message, moment, railway, wagon, wagons, within};
 use reply_writer::write_item;
 use std::alloc::Global;
@@ -46,9 +47,9 @@ const NOTICES: &str =
 // A notice carries its message, and that text is read as the call that sent it.
 fn notice(alloc: Global, line: &str, text: &str) -> Result<(), Fail> {
     let body = ItemBody::Notice(message(alloc, line)?);
-    let whole = format!(in alloc; "{{\"item\":7,\"message\":{text},\"type\":\"notice\"}}")?;
+    let whole = ["{\"item\":7,\"message\":", text, ",\"type\":\"notice\"}"].concat(alloc)?;
     is_text(write_item(alloc, &Item { number: 7, body }), &whole)?;
-    is_call(alloc, text, Ok(Call::Send(message(alloc, line)?)))
+    are_call(alloc, text, &Call::Send(message(alloc, line)?))
 }
 
 #[test]
@@ -84,58 +85,93 @@ fn sub(alloc: Global) -> Result<ItemBody, Fail> {
     Ok(ItemBody::Sub(Shared::new(alloc, sub)?))
 }
 
-// Fails unless the item of this number has the text.
-fn is_item(alloc: Global, number: u64, body: ItemBody, text: &str) -> Result<(), Fail> {
-    is_text(write_item(alloc, &Item { number, body }), text)
+const DEPARTURE: &str =
+    r#"{"kind":"depart","from":"R101","no":1,"wagon":"218124712173","at":"2025-03-01T06:00Z"}"#;
+
+/// The first two items of the lead: the notice of a departure, and when the wagon is expected.
+pub(crate) fn two_items(alloc: Global) -> Result<Vec<Item>, Fail> {
+    let wagon = wagon(ONE)?;
+    let at = moment("2025-03-01T15:00Z")?;
+    let mut items = Vec::new(alloc);
+    let notice = ItemBody::Notice(message(alloc, DEPARTURE)?);
+    add(&mut items, 1, notice)?;
+    add(&mut items, 2, ItemBody::Eta { wagon, at })?;
+    Ok(items)
+}
+
+const TWO_ITEMS: &str =
+    r#"{"item":1,"message":{"at":"2025-03-01T06:00Z","from":"R101","kind":"depart","no":1,"wagon":"218124712173"},"type":"notice"}
+{"at":"2025-03-01T15:00Z","item":2,"type":"eta","wagon":"218124712173"}"#;
+
+fn add(items: &mut Vec<Item>, number: u64, body: ItemBody) -> Result<(), Fail> {
+    Ok(items.push(Item { number, body })?)
+}
+
+// Adds items of this number that carry no message.
+fn add_others(alloc: Global, items: &mut Vec<Item>, number: u64) -> Result<(), Fail> {
+    let wagon = wagon(ONE)?;
+    let at = moment("2025-03-01T10:30Z")?;
+    add(items, number, sub(alloc)?)?;
+    for leg in 0..2 {
+        let leg = within(leg)?;
+        add(items, number, ItemBody::Eti { wagon, leg, at })?;
+    }
+    add(items, number, ItemBody::Eta { wagon, at })?;
+    for late_by in [15, u32::MAX] {
+        add(items, number, ItemBody::AlertBegins { wagon, late_by })?;
+    }
+    add(items, number, ItemBody::AlertEnds { wagon })
+}
+
+const OTHERS: &str =
+    r#"{"at":"2025-03-01T11:10Z","from":"R102","item":1,"offer":6,"offerer":"R101","type":"sub","wagons":["218124712173"]}
+{"at":"2025-03-01T10:30Z","item":1,"leg":0,"type":"eti","wagon":"218124712173"}
+{"at":"2025-03-01T10:30Z","item":1,"leg":1,"type":"eti","wagon":"218124712173"}
+{"at":"2025-03-01T10:30Z","item":1,"type":"eta","wagon":"218124712173"}
+{"item":1,"late_by":15,"type":"alert_begins","wagon":"218124712173"}
+{"item":1,"late_by":4294967295,"type":"alert_begins","wagon":"218124712173"}
+{"item":1,"type":"alert_ends","wagon":"218124712173"}"#;
+
+const OTHERS_OF_THE_GREATEST_NUMBER: &str =
+    r#"{"at":"2025-03-01T11:10Z","from":"R102","item":18446744073709551615,"offer":6,"offerer":"R101","type":"sub","wagons":["218124712173"]}
+{"at":"2025-03-01T10:30Z","item":18446744073709551615,"leg":0,"type":"eti","wagon":"218124712173"}
+{"at":"2025-03-01T10:30Z","item":18446744073709551615,"leg":1,"type":"eti","wagon":"218124712173"}
+{"at":"2025-03-01T10:30Z","item":18446744073709551615,"type":"eta","wagon":"218124712173"}
+{"item":18446744073709551615,"late_by":15,"type":"alert_begins","wagon":"218124712173"}
+{"item":18446744073709551615,"late_by":4294967295,"type":"alert_begins","wagon":"218124712173"}
+{"item":18446744073709551615,"type":"alert_ends","wagon":"218124712173"}"#;
+
+/// Items of which no two say the same: notices, and what else a railway is told.
+pub(crate) fn items(alloc: Global) -> Result<Vec<Item>, Fail> {
+    let mut items = Vec::new(alloc);
+    for number in [1, 2] {
+        add_others(alloc, &mut items, number)?;
+        for message in messages(alloc)? {
+            add(&mut items, number, ItemBody::Notice(message))?;
+        }
+    }
+    Ok(items)
+}
+
+// Fails unless the items have the texts of these lines.
+fn have_texts(alloc: Global, items: &[Item], texts: &str) -> Result<(), Fail> {
+    let mut texts = texts.lines();
+    for item in items {
+        let Some(text) = texts.next() else {
+            return Err(Fail::new("no text"));
+        };
+        is_text(write_item(alloc, item), text)?;
+    }
+    Ok(())
 }
 
 #[test]
-fn sub_notices_and_estimates(rt: HostRuntime) -> Result<(), Fail> {
-    let alloc = rt.alloc();
-    let wagon = wagon(ONE)?;
-    let (leg, at) = (within(0)?, moment("2025-03-01T10:30Z")?);
-    is_item(
-        alloc,
-        1,
-        sub(alloc)?,
-        r#"{"at":"2025-03-01T11:10Z","from":"R102","item":1,"offer":6,"offerer":"R101","type":"sub","wagons":["218124712173"]}"#,
-    )?;
-    is_item(
-        alloc,
-        2,
-        ItemBody::Eti { wagon, leg, at },
-        r#"{"at":"2025-03-01T10:30Z","item":2,"leg":0,"type":"eti","wagon":"218124712173"}"#,
-    )?;
-    is_item(
-        alloc,
-        4,
-        ItemBody::Eta { wagon, at },
-        r#"{"at":"2025-03-01T10:30Z","item":4,"type":"eta","wagon":"218124712173"}"#,
-    )
-}
-
-#[test]
-fn alerts(rt: HostRuntime) -> Result<(), Fail> {
-    let alloc = rt.alloc();
-    let wagon = wagon(ONE)?;
-    let late_by = 15;
-    is_item(
-        alloc,
-        5,
-        ItemBody::AlertBegins { wagon, late_by },
-        r#"{"item":5,"late_by":15,"type":"alert_begins","wagon":"218124712173"}"#,
-    )?;
-    let late_by = u32::MAX;
-    is_item(
-        alloc,
-        u64::MAX,
-        ItemBody::AlertBegins { wagon, late_by },
-        r#"{"item":18446744073709551615,"late_by":4294967295,"type":"alert_begins","wagon":"218124712173"}"#,
-    )?;
-    is_item(
-        alloc,
-        7,
-        ItemBody::AlertEnds { wagon },
-        r#"{"item":7,"type":"alert_ends","wagon":"218124712173"}"#,
-    )
+fn texts_of_items(rt: HostRuntime) -> Result<(), Fail> {
+    have_texts(rt.alloc(), &two_items(rt.alloc())?, TWO_ITEMS)?;
+    for (number, texts) in [(1, OTHERS), (u64::MAX, OTHERS_OF_THE_GREATEST_NUMBER)] {
+        let mut others = Vec::new(rt.alloc());
+        add_others(rt.alloc(), &mut others, number)?;
+        have_texts(rt.alloc(), &others, texts)?;
+    }
+    Ok(())
 }

@@ -5,6 +5,7 @@ use std::test::Fail;
 use taf_codes::{ConsignmentId, Place, Railway};
 use taf_messages::{Body, Call, Content, Message, Shared, Within};
 use taf_moment::Moment;
+use trip_plan::Leg;
 use wagon_number::WagonNumber;
 
 /// Three wagons.
@@ -49,6 +50,15 @@ pub(crate) fn wagons(alloc: Global, texts: &[&str]) -> Result<Vec<WagonNumber>, 
         wagons.push(WagonNumber::read(text)?)?;
     }
     Ok(wagons)
+}
+
+pub(crate) fn leg(ru: &str, origin: &str, target: &str, minutes: u32) -> Result<Leg, Fail> {
+    Ok(Leg {
+        ru: railway(ru)?,
+        origin: place(origin)?,
+        target: place(target)?,
+        minutes,
+    })
 }
 
 /// The call of sending a message.

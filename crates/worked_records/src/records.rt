@@ -6,16 +6,16 @@ use std::alloc::Global;
 use std::test::Fail;
 use taf_codes::UnitCode;
 use taf_messages::{
-    EstimateAt, EstimateList, Happened, Listed, MovementKind, Record, RecordEvent, RecordEvents,
-    Stage, Status, Units,
+    EstimateAt, EstimateList, Happened, Listed, MovementKind, Record, RecordEvent, Stage, Status,
 };
 use taf_moment::Moment;
 use trip_plan::Load;
 
-fn estimates(alloc: Global, times: &[Moment]) -> Result<EstimateList, Fail> {
+fn estimates(alloc: Global, times: &[&str]) -> Result<EstimateList, Fail> {
     let mut estimates = Vec::new(alloc);
-    for (leg, at) in times.iter().copied().enumerate() {
-        let leg = within(leg as u64)?;
+    for time in times {
+        let leg = within(estimates.len() as u64)?;
+        let at = moment(time)?;
         estimates.push(EstimateAt { leg, at })?;
     }
     Ok(Listed::from_vec(estimates))
@@ -32,17 +32,8 @@ fn movement(by: &str, no: u64, time: &str, what: MovementKind) -> Result<RecordE
     event(by, no, Some(at), Happened::Moved(what))
 }
 
-fn events(alloc: Global, events: &[RecordEvent]) -> Result<RecordEvents, Fail> {
-    Ok(Listed::from_vec(Vec::from_slice(alloc, events)?))
-}
-
-// The record of the first wagon with these lists, as it is planned.
-fn known(
-    alloc: Global,
-    estimates: EstimateList,
-    events: RecordEvents,
-    units: Units,
-) -> Result<Record, Fail> {
+// The record of the first wagon as it is planned, with nothing in its lists.
+fn bare(alloc: Global) -> Result<Record, Fail> {
     let wagon = wagon(ONE)?;
     let lead = railway("R100")?;
     let consignment = consignment("C-1")?;
@@ -60,64 +51,58 @@ fn known(
         leg,
         place,
         responsible: None,
-        estimates,
+        estimates: Listed::from_vec(Vec::new(alloc)),
         eta: None,
         late: false,
-        events,
-        units,
+        events: Listed::from_vec(Vec::new(alloc)),
+        units: Listed::from_vec(Vec::new(alloc)),
     })
 }
 
 // The record as it is planned, with a unit and these events.
-fn planned_with(alloc: Global, events: RecordEvents) -> Result<Record, Fail> {
+fn planned_with(alloc: Global, events: &[RecordEvent]) -> Result<Record, Fail> {
     let unit = UnitCode::read("CSQU3054383")?;
-    let units = Listed::from_vec(Vec::from_slice(alloc, &[unit])?);
-    let estimates = estimates(alloc, &[])?;
-    known(alloc, estimates, events, units)
+    let mut planned = bare(alloc)?;
+    planned.events = Listed::from_vec(Vec::from_slice(alloc, events)?);
+    planned.units = Listed::from_vec(Vec::from_slice(alloc, &[unit])?);
+    Ok(planned)
 }
 
 // The first events of the first wagon's journey: its plan, release and departure, and a delay.
-fn journey(alloc: Global, count: usize) -> Result<RecordEvents, Fail> {
-    let delay = within(45)?;
-    let journey = [
+fn journey() -> Result<[RecordEvent; 4], Fail> {
+    let delay = MovementKind::Exception { delay: within(45)? };
+    Ok([
         event("R100", 1, None, Happened::Planned)?,
         movement("R100", 2, "2025-03-01T05:30Z", MovementKind::Release)?,
         movement("R101", 1, "2025-03-01T06:00Z", MovementKind::Departure)?,
-        movement(
-            "R101",
-            2,
-            "2025-03-01T07:00Z",
-            MovementKind::Exception { delay },
-        )?,
-    ];
-    match journey.get(..count) {
-        Some(first) => events(alloc, first),
-        None => Err(Fail::new("no such event")),
-    }
+        movement("R101", 2, "2025-03-01T07:00Z", delay)?,
+    ])
 }
 
 /// The record of the first wagon as it is planned, with a unit.
 pub(crate) fn planned(alloc: Global) -> Result<Record, Fail> {
-    planned_with(alloc, journey(alloc, 1)?)
+    planned_with(alloc, &journey()?[..1])
 }
 
 /// The record of the first wagon, which runs late if it was delayed.
 pub(crate) fn running(alloc: Global, late: bool) -> Result<Record, Fail> {
-    let (first, last) = if late {
-        (moment("2025-03-01T11:45Z")?, moment("2025-03-01T15:45Z")?)
+    let times = if late {
+        ["2025-03-01T11:45Z", "2025-03-01T15:45Z"]
     } else {
-        (moment("2025-03-01T11:00Z")?, moment("2025-03-01T15:00Z")?)
+        ["2025-03-01T11:00Z", "2025-03-01T15:00Z"]
     };
-    let responsible = railway("R101")?;
-    let estimates = estimates(alloc, &[first, last])?;
-    let events = journey(alloc, if late { 4 } else { 3 })?;
-    let units = Listed::from_vec(Vec::new(alloc));
-    let mut running = known(alloc, estimates, events, units)?;
+    let journey = journey()?;
+    let events = if late { &journey[..] } else { &journey[..3] };
+    let eta = Some(moment(times[1])?);
+    let responsible = Some(railway("R101")?);
+    let mut running = bare(alloc)?;
+    running.estimates = estimates(alloc, &times)?;
+    running.events = Listed::from_vec(Vec::from_slice(alloc, events)?);
     running.stage = Stage::Running;
     running.status = Status::LoadedOnJourney;
     running.place = None;
-    running.responsible = Some(responsible);
-    running.eta = Some(last);
+    running.responsible = responsible;
+    running.eta = eta;
     running.late = late;
     Ok(running)
 }
@@ -149,119 +134,73 @@ fn has_part(alloc: Global, known: &Record, part: &str) -> Result<(), Fail> {
     }
 }
 
-// Fails unless the record as it is planned shows these events as the text.
-fn are_events(alloc: Global, shown: &[RecordEvent], text: &str) -> Result<(), Fail> {
-    let part = format!(in alloc; "\"events\":[{text}],\"late\"")?;
-    let known = planned_with(alloc, events(alloc, shown)?)?;
-    has_part(alloc, &known, &part)
-}
-
-// The third message of R100.
-fn third(at: Option<Moment>, what: Happened) -> Result<RecordEvent, Fail> {
-    event("R100", 3, at, what)
-}
-
-// Each kind of event, with what it shows beside its sender, number and moment.
+// The third message of R100, for each kind of event: with what it shows beside its sender, number and moment.
 #[test]
-fn events_of_plans_and_estimates(rt: HostRuntime) -> Result<(), Fail> {
-    let (leg, minutes) = (within(1)?, within(200)?);
-    let at = moment("2025-03-01T11:10Z")?;
-    let events = [
-        third(None, Happened::Planned)?,
-        third(None, Happened::LegTimed { leg, minutes })?,
-        third(None, Happened::Rerouted { leg })?,
-        third(None, Happened::EstimateAsked)?,
-        third(Some(at), Happened::Moved(MovementKind::Estimate))?,
-    ];
-    are_events(
-        rt.alloc(),
-        &events,
-        r#"{"by":"R100","kind":"plan","no":3},{"by":"R100","kind":"leg_time","leg":1,"minutes":200,"no":3},{"by":"R100","kind":"reroute","leg":1,"no":3},{"by":"R100","kind":"eti_ask","no":3},{"at":"2025-03-01T11:10Z","by":"R100","kind":"eti","no":3}"#,
-    )
-}
-
-#[test]
-fn events_of_offers(rt: HostRuntime) -> Result<(), Fail> {
+fn events_of_each_kind(rt: HostRuntime) -> Result<(), Fail> {
+    let (by, no) = (railway("R100")?, within(3)?);
+    let (leg, minutes, delay) = (within(1)?, within(200)?, within(45)?);
     let place = place("AT00002")?;
-    let at_yard = moment("2025-03-01T10:40Z")?;
-    let at_offer = moment("2025-03-01T10:50Z")?;
-    let at_withdrawal = moment("2025-03-01T11:00Z")?;
-    let yard_arrival = MovementKind::YardArrival { place };
-    let events = [
-        third(Some(at_yard), Happened::Moved(yard_arrival))?,
-        third(Some(at_offer), Happened::Offered { place })?,
-        third(Some(at_withdrawal), Happened::Withdrawn)?,
-    ];
-    are_events(
-        rt.alloc(),
-        &events,
-        r#"{"at":"2025-03-01T10:40Z","by":"R100","kind":"yard_in","no":3,"place":"AT00002"},{"at":"2025-03-01T10:50Z","by":"R100","kind":"offer","no":3,"place":"AT00002"},{"at":"2025-03-01T11:00Z","by":"R100","kind":"withdraw","no":3}"#,
-    )
+    let moment = Some(moment("2025-03-01T11:10Z")?);
+    let mut events = Vec::new(rt.alloc());
+    for (at, what) in [
+        (None, Happened::Planned),
+        (None, Happened::LegTimed { leg, minutes }),
+        (None, Happened::Rerouted { leg }),
+        (None, Happened::EstimateAsked),
+        (moment, Happened::Moved(MovementKind::Estimate)),
+        (moment, Happened::Moved(MovementKind::YardArrival { place })),
+        (moment, Happened::Offered { place }),
+        (moment, Happened::Withdrawn),
+        (moment, Happened::Answered { received: true }),
+        (moment, Happened::Answered { received: false }),
+        (
+            moment,
+            Happened::Moved(MovementKind::YardDeparture { place }),
+        ),
+        (moment, Happened::Moved(MovementKind::Exception { delay })),
+        (moment, Happened::Moved(MovementKind::Release)),
+        (moment, Happened::Moved(MovementKind::Departure)),
+        (moment, Happened::Moved(MovementKind::Arrival)),
+        (moment, Happened::Moved(MovementKind::Delivery)),
+    ] {
+        events.push(RecordEvent { by, no, at, what })?;
+    }
+    let known = planned_with(rt.alloc(), &events)?;
+    has_part(rt.alloc(), &known, EVENTS)
 }
 
-#[test]
-fn events_of_answers(rt: HostRuntime) -> Result<(), Fail> {
-    let place = place("AT00002")?;
-    let at_answer = moment("2025-03-01T11:10Z")?;
-    let at_yard = moment("2025-03-01T11:30Z")?;
-    let yard_departure = MovementKind::YardDeparture { place };
-    let events = [
-        third(Some(at_answer), Happened::Answered { received: true })?,
-        third(Some(at_answer), Happened::Answered { received: false })?,
-        third(Some(at_yard), Happened::Moved(yard_departure))?,
-    ];
-    are_events(
-        rt.alloc(),
-        &events,
-        r#"{"at":"2025-03-01T11:10Z","by":"R100","kind":"answer","no":3,"received":true},{"at":"2025-03-01T11:10Z","by":"R100","kind":"answer","no":3,"received":false},{"at":"2025-03-01T11:30Z","by":"R100","kind":"yard_out","no":3,"place":"AT00002"}"#,
-    )
-}
+const EVENTS: &str =
+    r#""events":[{"by":"R100","kind":"plan","no":3},{"by":"R100","kind":"leg_time","leg":1,"minutes":200,"no":3},{"by":"R100","kind":"reroute","leg":1,"no":3},{"by":"R100","kind":"eti_ask","no":3},{"at":"2025-03-01T11:10Z","by":"R100","kind":"eti","no":3},{"at":"2025-03-01T11:10Z","by":"R100","kind":"yard_in","no":3,"place":"AT00002"},{"at":"2025-03-01T11:10Z","by":"R100","kind":"offer","no":3,"place":"AT00002"},{"at":"2025-03-01T11:10Z","by":"R100","kind":"withdraw","no":3},{"at":"2025-03-01T11:10Z","by":"R100","kind":"answer","no":3,"received":true},{"at":"2025-03-01T11:10Z","by":"R100","kind":"answer","no":3,"received":false},{"at":"2025-03-01T11:10Z","by":"R100","kind":"yard_out","no":3,"place":"AT00002"},{"at":"2025-03-01T11:10Z","by":"R100","delay":45,"kind":"exception","no":3},{"at":"2025-03-01T11:10Z","by":"R100","kind":"release","no":3},{"at":"2025-03-01T11:10Z","by":"R100","kind":"depart","no":3},{"at":"2025-03-01T11:10Z","by":"R100","kind":"arrival","no":3},{"at":"2025-03-01T11:10Z","by":"R100","kind":"delivery","no":3}],"late""#;
 
-#[test]
-fn events_at_the_end(rt: HostRuntime) -> Result<(), Fail> {
-    let events = [
-        movement("R100", 3, "2025-03-01T15:00Z", MovementKind::Arrival)?,
-        movement("R100", 3, "2025-03-01T15:20Z", MovementKind::Delivery)?,
-    ];
-    are_events(
-        rt.alloc(),
-        &events,
-        r#"{"at":"2025-03-01T15:00Z","by":"R100","kind":"arrival","no":3},{"at":"2025-03-01T15:20Z","by":"R100","kind":"delivery","no":3}"#,
-    )
-}
-
-// Fails unless the stage and the status have these names.
-fn are_named(alloc: Global, stage: Stage, status: Status, names: (&str, &str)) -> Result<(), Fail> {
-    let (stage_name, status_name) = names;
-    let mut known = planned(alloc)?;
-    known.stage = stage;
-    known.status = status;
-    known.load = Load::Empty;
-    let part = format!(in alloc;
-        "\"load\":\"empty\",\"place\":\"DE00001\",\"responsible\":null,\"stage\":\"{stage_name}\",\"status\":\"{status_name}\",\"units\""
-    )?;
-    has_part(alloc, &known, &part)
-}
+const STAGES: &str =
+    r#""load":"empty","place":"DE00001","responsible":null,"stage":"planned","status":"loading","units"
+"load":"empty","place":"DE00001","responsible":null,"stage":"released","status":"fleet_control","units"
+"load":"empty","place":"DE00001","responsible":null,"stage":"running","status":"loaded_on_journey","units"
+"load":"empty","place":"DE00001","responsible":null,"stage":"in_yard","status":"empty_on_journey","units"
+"load":"empty","place":"DE00001","responsible":null,"stage":"offered","status":"loaded_on_journey","units"
+"load":"empty","place":"DE00001","responsible":null,"stage":"arrived","status":"empty_on_journey","units"
+"load":"empty","place":"DE00001","responsible":null,"stage":"delivered","status":"unloading","units""#;
 
 #[test]
 fn stages_and_statuses(rt: HostRuntime) -> Result<(), Fail> {
-    let alloc = rt.alloc();
-    are_named(
-        alloc,
-        Stage::Planned,
-        Status::Loading,
-        ("planned", "loading"),
-    )?;
-    let names = ("released", "fleet_control");
-    are_named(alloc, Stage::Released, Status::FleetControl, names)?;
-    let names = ("running", "loaded_on_journey");
-    are_named(alloc, Stage::Running, Status::LoadedOnJourney, names)?;
-    let names = ("in_yard", "empty_on_journey");
-    are_named(alloc, Stage::InYard, Status::EmptyOnJourney, names)?;
-    let names = ("offered", "loaded_on_journey");
-    are_named(alloc, Stage::Offered, Status::LoadedOnJourney, names)?;
-    let names = ("arrived", "empty_on_journey");
-    are_named(alloc, Stage::Arrived, Status::EmptyOnJourney, names)?;
-    let names = ("delivered", "unloading");
-    are_named(alloc, Stage::Delivered, Status::Unloading, names)
+    let mut parts = STAGES.lines();
+    for (stage, status) in [
+        (Stage::Planned, Status::Loading),
+        (Stage::Released, Status::FleetControl),
+        (Stage::Running, Status::LoadedOnJourney),
+        (Stage::InYard, Status::EmptyOnJourney),
+        (Stage::Offered, Status::LoadedOnJourney),
+        (Stage::Arrived, Status::EmptyOnJourney),
+        (Stage::Delivered, Status::Unloading),
+    ] {
+        let Some(part) = parts.next() else {
+            return Err(Fail::new("no part"));
+        };
+        let mut known = planned(rt.alloc())?;
+        known.stage = stage;
+        known.status = status;
+        known.load = Load::Empty;
+        has_part(rt.alloc(), &known, part)?;
+    }
+    Ok(())
 }

@@ -1,64 +1,38 @@
-//! Texts of replies.
+//! Replies and their texts.
 use crate::checks::is_written;
-use crate::parts::{ONE, THREE, message, moment, wagon, within};
-use crate::records::{LATE, RUNNING, running};
+use crate::items::{items, two_items};
+use crate::parts::{ONE, THREE, wagon, within};
+use crate::records::{LATE, RUNNING, planned, running};
 use std::alloc::Global;
 use std::test::Fail;
-use taf_messages::{Item, ItemBody, Listed, MessageNumber, Reply, Shared, Why};
-use wagon_number::WagonNumber;
+use taf_messages::{Item, Listed, Reply, Shared, Why};
 
-#[test]
-fn acceptances(rt: HostRuntime) -> Result<(), Fail> {
-    let alloc = rt.alloc();
-    let no = within(1)?;
-    let text = r#"{"no":1,"reply":"accepted"}"#;
-    is_written(alloc, &Reply::Accepted { no }, text)?;
-    let no = within(999_999_999_999)?;
-    let text = r#"{"no":999999999999,"reply":"accepted"}"#;
-    is_written(alloc, &Reply::Accepted { no }, text)?;
-    let text = r#"{"acknowledged":1,"reply":"acknowledged"}"#;
-    is_written(alloc, &Reply::Acknowledged(1), text)
+fn add_acceptances(replies: &mut Vec<Reply>) -> Result<(), Fail> {
+    for no in [1, 999_999_999_999] {
+        replies.push(Reply::Accepted { no: within(no)? })?;
+    }
+    Ok(replies.push(Reply::Acknowledged(1))?)
 }
 
-// Fails unless the refusal has this text.
-fn is_refusal(
-    alloc: Global,
-    no: Option<MessageNumber>,
-    wagon: Option<WagonNumber>,
-    why: Why,
-    text: &str,
-) -> Result<(), Fail> {
-    let reply = Reply::Refused {
-        no,
-        why,
-        wagon,
-        last: None,
-    };
-    is_written(alloc, &reply, text)
-}
-
-#[test]
-fn refusals(rt: HostRuntime) -> Result<(), Fail> {
-    let alloc = rt.alloc();
+fn add_refusals(replies: &mut Vec<Reply>) -> Result<(), Fail> {
     let one = Some(wagon(ONE)?);
     let three = Some(wagon(THREE)?);
     let two = Some(within(2)?);
-    let text = r#"{"reply":"refused","wagon":"318066552148","why":"unknown_wagon"}"#;
-    is_refusal(alloc, None, three, Why::UnknownWagon, text)?;
-    let text = r#"{"no":2,"reply":"refused","wagon":"218124712173","why":"wrong_stage"}"#;
-    is_refusal(alloc, two, one, Why::WrongStage, text)?;
-    let text = r#"{"no":2,"reply":"refused","why":"number_reused"}"#;
-    is_refusal(alloc, two, None, Why::NumberReused, text)?;
-    let text = r#"{"no":2,"reply":"refused","why":"offer_closed"}"#;
-    is_refusal(alloc, two, None, Why::OfferClosed, text)?;
-    let reply = Reply::Refused {
-        no: None,
-        why: Why::AckAhead,
-        wagon: None,
-        last: Some(5),
-    };
-    let text = r#"{"last":5,"reply":"refused","why":"ack_ahead"}"#;
-    is_written(alloc, &reply, text)
+    for (no, why, wagon, last) in [
+        (None, Why::UnknownWagon, three, None),
+        (two, Why::WrongStage, one, None),
+        (two, Why::NumberReused, None, None),
+        (two, Why::OfferClosed, None, None),
+        (None, Why::AckAhead, None, Some(5)),
+    ] {
+        replies.push(Reply::Refused {
+            no,
+            why,
+            wagon,
+            last,
+        })?;
+    }
+    Ok(())
 }
 
 // The reasons in the order of their names.
@@ -85,46 +59,84 @@ const REASONS: [Why; 20] = [
     Why::AckAhead,
 ];
 
-const NAMES: &str = "unknown_wagon
-unknown_consignment
-unknown_offer
-unknown_unit
-consignment_taken
-wagon_busy
-unit_busy
-wrong_stage
-not_yours
-wrong_place
-wrong_next
-too_many_legs
-no_such_leg
-leg_started
-not_last_leg
-offer_closed
-lists_differ
-beyond_calendar
-number_reused
-ack_ahead";
-
-#[test]
-fn reasons(rt: HostRuntime) -> Result<(), Fail> {
-    let alloc = rt.alloc();
-    let mut named: usize = 0;
-    for (why, name) in REASONS.iter().zip(NAMES.lines()) {
-        let text = format!(in alloc; "{{\"reply\":\"refused\",\"why\":\"{name}\"}}")?;
-        is_refusal(alloc, None, None, *why, &text)?;
-        named = named.saturating_add(1);
+fn add_reasons(replies: &mut Vec<Reply>) -> Result<(), Fail> {
+    for why in REASONS {
+        replies.push(Reply::Refused {
+            no: None,
+            why,
+            wagon: None,
+            last: None,
+        })?;
     }
-    assert_eq!(rt; named, 20);
     Ok(())
 }
 
+fn add_items(alloc: Global, replies: &mut Vec<Reply>, items: Vec<Item>) -> Result<(), Fail> {
+    let items = Shared::new(alloc, Listed::from_vec(items))?;
+    Ok(replies.push(Reply::Items(items))?)
+}
+
+// The replies with the texts of the lines below.
+fn short_replies(alloc: Global) -> Result<Vec<Reply>, Fail> {
+    let mut replies = Vec::new(alloc);
+    add_acceptances(&mut replies)?;
+    add_refusals(&mut replies)?;
+    add_reasons(&mut replies)?;
+    let none = Shared::new(alloc, Listed::from_vec(Vec::new(alloc)))?;
+    replies.push(Reply::Many(none))?;
+    add_items(alloc, &mut replies, Vec::new(alloc))?;
+    add_items(alloc, &mut replies, two_items(alloc)?)?;
+    Ok(replies)
+}
+
+const TEXTS: &str = r#"{"no":1,"reply":"accepted"}
+{"no":999999999999,"reply":"accepted"}
+{"acknowledged":1,"reply":"acknowledged"}
+{"reply":"refused","wagon":"318066552148","why":"unknown_wagon"}
+{"no":2,"reply":"refused","wagon":"218124712173","why":"wrong_stage"}
+{"no":2,"reply":"refused","why":"number_reused"}
+{"no":2,"reply":"refused","why":"offer_closed"}
+{"last":5,"reply":"refused","why":"ack_ahead"}
+{"reply":"refused","why":"unknown_wagon"}
+{"reply":"refused","why":"unknown_consignment"}
+{"reply":"refused","why":"unknown_offer"}
+{"reply":"refused","why":"unknown_unit"}
+{"reply":"refused","why":"consignment_taken"}
+{"reply":"refused","why":"wagon_busy"}
+{"reply":"refused","why":"unit_busy"}
+{"reply":"refused","why":"wrong_stage"}
+{"reply":"refused","why":"not_yours"}
+{"reply":"refused","why":"wrong_place"}
+{"reply":"refused","why":"wrong_next"}
+{"reply":"refused","why":"too_many_legs"}
+{"reply":"refused","why":"no_such_leg"}
+{"reply":"refused","why":"leg_started"}
+{"reply":"refused","why":"not_last_leg"}
+{"reply":"refused","why":"offer_closed"}
+{"reply":"refused","why":"lists_differ"}
+{"reply":"refused","why":"beyond_calendar"}
+{"reply":"refused","why":"number_reused"}
+{"reply":"refused","why":"ack_ahead"}
+{"records":[],"reply":"records"}
+{"items":[],"reply":"items"}
+{"items":[{"item":1,"message":{"at":"2025-03-01T06:00Z","from":"R101","kind":"depart","no":1,"wagon":"218124712173"},"type":"notice"},{"at":"2025-03-01T15:00Z","item":2,"type":"eta","wagon":"218124712173"}],"reply":"items"}"#;
+
 #[test]
-fn a_reply_with_a_record(rt: HostRuntime) -> Result<(), Fail> {
-    let alloc = rt.alloc();
-    let reply = Reply::One(Shared::new(alloc, running(alloc, false)?)?);
-    let text = format!(in alloc; "{{\"record\":{RUNNING},\"reply\":\"record\"}}")?;
-    is_written(alloc, &reply, &text)
+fn texts_of_replies(rt: HostRuntime) -> Result<(), Fail> {
+    let mut texts = TEXTS.lines();
+    for reply in short_replies(rt.alloc())? {
+        let Some(text) = texts.next() else {
+            return Err(Fail::new("no text"));
+        };
+        is_written(rt.alloc(), &reply, text)?;
+    }
+    assert_eq!(rt; texts.next(), None);
+    Ok(())
+}
+
+// The reply with one record, of a wagon that runs late or not.
+fn one_record(alloc: Global, late: bool) -> Result<Reply, Fail> {
+    Ok(Reply::One(Shared::new(alloc, running(alloc, late)?)?))
 }
 
 fn two_records(alloc: Global) -> Result<Reply, Fail> {
@@ -135,41 +147,28 @@ fn two_records(alloc: Global) -> Result<Reply, Fail> {
 }
 
 #[test]
-fn a_reply_with_two_records(rt: HostRuntime) -> Result<(), Fail> {
+fn replies_with_records(rt: HostRuntime) -> Result<(), Fail> {
     let alloc = rt.alloc();
-    let reply = two_records(alloc)?;
-    let text = format!(in alloc; "{{\"records\":[{LATE},{RUNNING}],\"reply\":\"records\"}}")?;
-    is_written(alloc, &reply, &text)
+    let text = ["{\"record\":", RUNNING, ",\"reply\":\"record\"}"].concat(alloc)?;
+    is_written(alloc, &one_record(alloc, false)?, &text)?;
+    let text = [
+        "{\"records\":[",
+        LATE,
+        ",",
+        RUNNING,
+        "],\"reply\":\"records\"}",
+    ]
+    .concat(alloc)?;
+    is_written(alloc, &two_records(alloc)?, &text)
 }
 
-const DEPARTURE: &str =
-    r#"{"kind":"depart","from":"R101","no":1,"wagon":"218124712173","at":"2025-03-01T06:00Z"}"#;
-
-fn two_items(alloc: Global) -> Result<Reply, Fail> {
-    let wagon = wagon(ONE)?;
-    let at = moment("2025-03-01T15:00Z")?;
-    let mut items = Vec::new(alloc);
-    let body = ItemBody::Notice(message(alloc, DEPARTURE)?);
-    items.push(Item { number: 1, body })?;
-    let body = ItemBody::Eta { wagon, at };
-    items.push(Item { number: 2, body })?;
-    Ok(Reply::Items(Shared::new(alloc, Listed::from_vec(items))?))
-}
-
-const TWO_ITEMS: &str =
-    r#"{"items":[{"item":1,"message":{"at":"2025-03-01T06:00Z","from":"R101","kind":"depart","no":1,"wagon":"218124712173"},"type":"notice"},{"at":"2025-03-01T15:00Z","item":2,"type":"eta","wagon":"218124712173"}],"reply":"items"}"#;
-
-#[test]
-fn a_reply_with_two_items(rt: HostRuntime) -> Result<(), Fail> {
-    let alloc = rt.alloc();
-    is_written(alloc, &two_items(alloc)?, TWO_ITEMS)
-}
-
-#[test]
-fn replies_with_nothing(rt: HostRuntime) -> Result<(), Fail> {
-    let alloc = rt.alloc();
-    let none = Reply::Many(Shared::new(alloc, Listed::from_vec(Vec::new(alloc)))?);
-    is_written(alloc, &none, r#"{"records":[],"reply":"records"}"#)?;
-    let none = Reply::Items(Shared::new(alloc, Listed::from_vec(Vec::new(alloc)))?);
-    is_written(alloc, &none, r#"{"items":[],"reply":"items"}"#)
+/// Replies of which no two say the same.
+pub(crate) fn replies(alloc: Global) -> Result<Vec<Reply>, Fail> {
+    let mut replies = short_replies(alloc)?;
+    add_items(alloc, &mut replies, items(alloc)?)?;
+    replies.push(one_record(alloc, false)?)?;
+    replies.push(one_record(alloc, true)?)?;
+    replies.push(Reply::One(Shared::new(alloc, planned(alloc)?)?))?;
+    replies.push(two_records(alloc)?)?;
+    Ok(replies)
 }
