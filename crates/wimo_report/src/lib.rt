@@ -17,7 +17,5 @@
 mod column;
 mod line;
 mod report;
-#[cfg(test)]
-mod tests;
 
 pub use report::{lines, plain_lines};

@@ -1,5 +1,4 @@
-use crate::play::{ANSWERED, BOTH_DEPARTED, DEPARTED, OFFERED, plays};
-use std::test::Fail;
+use crate::play::{ANSWERED, BOTH_DEPARTED, DEPARTED, OFFERED};
 
 const OTHER_LEGS: &str =
     r#"{"from":"R100","kind":"reroute","legs":[{"minutes":180,"origin":"AT00002","ru":"R103","target":"CH00004"}],"no":3,"wagon":"218124712173"}
@@ -25,20 +24,9 @@ const OTHER_LEGS: &str =
 {"from":"R100","kind":"reroute","legs":[],"no":6,"wagon":"218124712173"}
 > {"code":1,"fault":"bad_plan"}"#;
 
-#[test]
-fn a_wagon_gets_other_legs(rt: HostRuntime) -> Result<(), Fail> {
-    plays(&rt, rt.alloc(), &[DEPARTED, OTHER_LEGS])
-}
-
 const TOO_MANY_LEGS: &str =
     r#"{"from":"R100","kind":"reroute","legs":[{"minutes":60,"origin":"IT00003","ru":"R103","target":"IT00004"},{"minutes":60,"origin":"IT00004","ru":"R104","target":"IT00005"},{"minutes":60,"origin":"IT00005","ru":"R105","target":"IT00006"},{"minutes":60,"origin":"IT00006","ru":"R106","target":"IT00007"},{"minutes":60,"origin":"IT00007","ru":"R107","target":"IT00008"},{"minutes":60,"origin":"IT00008","ru":"R108","target":"IT00009"},{"minutes":60,"origin":"IT00009","ru":"R109","target":"IT00010"}],"no":4,"wagon":"218124712173"}
 > {"no":4,"reply":"refused","wagon":"218124712173","why":"too_many_legs"}"#;
-
-#[test]
-fn a_wagon_gets_too_many_legs(rt: HostRuntime) -> Result<(), Fail> {
-    let example = [DEPARTED, BOTH_DEPARTED, OFFERED, ANSWERED, TOO_MANY_LEGS];
-    plays(&rt, rt.alloc(), &example)
-}
 
 /// A plan that loads a unit on the first of its wagons.
 pub(crate) const WITH_UNIT: &str =
@@ -58,11 +46,6 @@ const UNIT: &str = r#"{"from":"R102","kind":"ask_unit","unit":"CSQU3054383"}
 {"from":"R101","kind":"fetch","limit":1}
 > {"items":[{"item":1,"message":{"commit":"2025-03-01T15:30Z","consignment":"C-1","from":"R100","kind":"plan","legs":[{"minutes":300,"origin":"DE00001","ru":"R101","target":"AT00002"},{"minutes":240,"origin":"AT00002","ru":"R102","target":"IT00003"}],"load":"loaded","no":1,"units":[{"unit":"CSQU3054383","wagon":"218124712173"}],"wagons":["218124712173","338478961232"]},"type":"notice"}],"reply":"items"}"#;
 
-#[test]
-fn a_unit_is_loaded(rt: HostRuntime) -> Result<(), Fail> {
-    plays(&rt, rt.alloc(), &[WITH_UNIT, UNIT])
-}
-
 // A wrong check digit, a unit that is loaded twice, and one on another's wagon.
 const BAD_UNITS: &str =
     r#"{"commit":"2025-03-01T15:30Z","consignment":"C-1","from":"R100","kind":"plan","legs":[{"minutes":300,"origin":"DE00001","ru":"R101","target":"AT00002"},{"minutes":240,"origin":"AT00002","ru":"R102","target":"IT00003"}],"load":"loaded","no":1,"units":[{"unit":"CSQU3054384","wagon":"218124712173"}],"wagons":["218124712173","338478961232"]}
@@ -72,7 +55,12 @@ const BAD_UNITS: &str =
 {"commit":"2025-03-01T15:30Z","consignment":"C-1","from":"R100","kind":"plan","legs":[{"minutes":300,"origin":"DE00001","ru":"R101","target":"AT00002"},{"minutes":240,"origin":"AT00002","ru":"R102","target":"IT00003"}],"load":"loaded","no":1,"units":[{"unit":"CSQU3054383","wagon":"318066552148"}],"wagons":["218124712173","338478961232"]}
 > {"code":8,"fault":"bad_plan"}"#;
 
-#[test]
-fn units_that_no_plan_can_load(rt: HostRuntime) -> Result<(), Fail> {
-    plays(&rt, rt.alloc(), &[BAD_UNITS])
-}
+pub(crate) const EXAMPLES: &[(&str, &[&str])] = &[
+    ("a wagon gets other legs", &[DEPARTED, OTHER_LEGS]),
+    (
+        "a wagon gets too many legs",
+        &[DEPARTED, BOTH_DEPARTED, OFFERED, ANSWERED, TOO_MANY_LEGS],
+    ),
+    ("a unit is loaded", &[WITH_UNIT, UNIT]),
+    ("units that no plan can load", &[BAD_UNITS]),
+];

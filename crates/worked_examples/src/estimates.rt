@@ -1,5 +1,4 @@
-use crate::play::{ANSWERED, BOTH_DEPARTED, DEPARTED, OFFERED, plays};
-use std::test::Fail;
+use crate::play::{ANSWERED, BOTH_DEPARTED, DEPARTED, OFFERED};
 
 // A delay of three quarters of an hour, told three times.
 const DELAYED: &str =
@@ -19,12 +18,6 @@ const DELAY_COUNTS_ONCE: &str = r#"{"from":"R102","kind":"ask","wagon":"21812471
 {"from":"R100","kind":"fetch","limit":10}
 > {"items":[{"item":5,"late_by":15,"type":"alert_begins","wagon":"218124712173"}],"reply":"items"}"#;
 
-#[test]
-fn a_delay_counts_once(rt: HostRuntime) -> Result<(), Fail> {
-    let example = [DEPARTED, DELAYED, DELAY_COUNTS_ONCE];
-    plays(&rt, rt.alloc(), &example)
-}
-
 // Another delay, and the fields of the departure under another kind.
 const NUMBERS_REUSED: &str =
     r#"{"at":"2025-03-01T07:00Z","delay":46,"from":"R101","kind":"exception","no":2,"wagon":"218124712173"}
@@ -35,12 +28,6 @@ const NUMBERS_REUSED: &str =
 > {"no":2,"reply":"accepted"}
 {"from":"R100","kind":"fetch","limit":10}
 > {"items":[{"item":1,"message":{"at":"2025-03-01T06:00Z","from":"R101","kind":"depart","no":1,"wagon":"218124712173"},"type":"notice"},{"at":"2025-03-01T15:00Z","item":2,"type":"eta","wagon":"218124712173"},{"item":3,"message":{"at":"2025-03-01T07:00Z","delay":45,"from":"R101","kind":"exception","no":2,"wagon":"218124712173"},"type":"notice"},{"at":"2025-03-01T15:45Z","item":4,"type":"eta","wagon":"218124712173"},{"item":5,"late_by":15,"type":"alert_begins","wagon":"218124712173"}],"reply":"items"}"#;
-
-#[test]
-fn a_number_is_used_once(rt: HostRuntime) -> Result<(), Fail> {
-    let example = [DEPARTED, DELAYED, NUMBERS_REUSED];
-    plays(&rt, rt.alloc(), &example)
-}
 
 const ACKNOWLEDGED: &str = r#"{"from":"R100","kind":"fetch","limit":2}
 > {"items":[{"item":1,"message":{"at":"2025-03-01T06:00Z","from":"R101","kind":"depart","no":1,"wagon":"218124712173"},"type":"notice"},{"at":"2025-03-01T15:00Z","item":2,"type":"eta","wagon":"218124712173"}],"reply":"items"}
@@ -54,12 +41,6 @@ const ACKNOWLEDGED: &str = r#"{"from":"R100","kind":"fetch","limit":2}
 > {"acknowledged":1,"reply":"acknowledged"}
 {"from":"R100","kind":"fetch","limit":50}
 > {"items":[{"at":"2025-03-01T15:00Z","item":2,"type":"eta","wagon":"218124712173"},{"item":3,"message":{"at":"2025-03-01T07:00Z","delay":45,"from":"R101","kind":"exception","no":2,"wagon":"218124712173"},"type":"notice"},{"at":"2025-03-01T15:45Z","item":4,"type":"eta","wagon":"218124712173"},{"item":5,"late_by":15,"type":"alert_begins","wagon":"218124712173"}],"reply":"items"}"#;
-
-#[test]
-fn items_are_kept_until_they_are_acknowledged(rt: HostRuntime) -> Result<(), Fail> {
-    let example = [DEPARTED, DELAYED, ACKNOWLEDGED];
-    plays(&rt, rt.alloc(), &example)
-}
 
 // A reported estimate ends the delays before it.
 const REPORTED: &str = r#"{"from":"R100","item":5,"kind":"ack"}
@@ -76,12 +57,6 @@ const REPORTED: &str = r#"{"from":"R100","item":5,"kind":"ack"}
 > {"items":[{"at":"2025-03-01T15:10Z","item":6,"type":"eta","wagon":"218124712173"},{"item":7,"type":"alert_ends","wagon":"218124712173"},{"item":8,"message":{"at":"2025-03-01T11:00Z","delay":5,"from":"R101","kind":"exception","no":4,"wagon":"218124712173"},"type":"notice"},{"at":"2025-03-01T15:15Z","item":9,"type":"eta","wagon":"218124712173"}],"reply":"items"}
 {"from":"R101","kind":"ask","wagon":"218124712173"}
 > {"record":{"commit":"2025-03-01T15:30Z","consignment":"C-1","estimates":[{"at":"2025-03-01T11:15Z","leg":0},{"at":"2025-03-01T15:15Z","leg":1}],"eta":"2025-03-01T15:15Z","events":[{"by":"R100","kind":"plan","no":1},{"at":"2025-03-01T05:30Z","by":"R100","kind":"release","no":2},{"at":"2025-03-01T06:00Z","by":"R101","kind":"depart","no":1},{"at":"2025-03-01T07:00Z","by":"R101","delay":45,"kind":"exception","no":2},{"at":"2025-03-01T11:10Z","by":"R101","kind":"eti","no":3},{"at":"2025-03-01T11:00Z","by":"R101","delay":5,"kind":"exception","no":4}],"late":false,"lead":"R100","leg":0,"load":"loaded","place":null,"responsible":"R101","stage":"running","status":"loaded_on_journey","wagon":"218124712173"},"reply":"record"}"#;
-
-#[test]
-fn a_reported_estimate(rt: HostRuntime) -> Result<(), Fail> {
-    let example = [DEPARTED, DELAYED, REPORTED];
-    plays(&rt, rt.alloc(), &example)
-}
 
 // Late is what comes after the commitment, and an alert begins once.
 const ALERTS: &str = r#"{"from":"R100","item":2,"kind":"ack"}
@@ -101,31 +76,15 @@ const ALERTS: &str = r#"{"from":"R100","item":2,"kind":"ack"}
 {"from":"R100","kind":"fetch","limit":10}
 > {"items":[{"at":"2025-03-01T15:30Z","item":3,"type":"eta","wagon":"218124712173"},{"at":"2025-03-01T15:31Z","item":4,"type":"eta","wagon":"218124712173"},{"item":5,"late_by":1,"type":"alert_begins","wagon":"218124712173"},{"at":"2025-03-01T15:32Z","item":6,"type":"eta","wagon":"218124712173"}],"reply":"items"}"#;
 
-#[test]
-fn alerts(rt: HostRuntime) -> Result<(), Fail> {
-    plays(&rt, rt.alloc(), &[DEPARTED, ALERTS])
-}
-
 const BEYOND_CALENDAR: &str =
     r#"{"at":"2199-12-31T23:59Z","from":"R101","kind":"eti","no":2,"wagon":"218124712173"}
 > {"no":2,"reply":"refused","wagon":"218124712173","why":"beyond_calendar"}"#;
-
-#[test]
-fn past_the_end_of_the_calendar(rt: HostRuntime) -> Result<(), Fail> {
-    plays(&rt, rt.alloc(), &[DEPARTED, BEYOND_CALENDAR])
-}
 
 const END_OF_CALENDAR: &str =
     r#"{"at":"2199-12-31T23:59Z","from":"R102","kind":"eti","no":3,"wagon":"218124712173"}
 > {"no":3,"reply":"accepted"}
 {"from":"R102","kind":"ask","wagon":"218124712173"}
 > {"record":{"commit":"2025-03-01T15:30Z","consignment":"C-1","estimates":[{"at":"2199-12-31T23:59Z","leg":1}],"eta":"2199-12-31T23:59Z","events":[{"by":"R100","kind":"plan","no":1},{"at":"2025-03-01T05:30Z","by":"R100","kind":"release","no":2},{"at":"2025-03-01T06:00Z","by":"R101","kind":"depart","no":1},{"at":"2025-03-01T10:40Z","by":"R101","kind":"yard_in","no":2,"place":"AT00002"},{"at":"2025-03-01T10:50Z","by":"R101","kind":"offer","no":6,"place":"AT00002"},{"at":"2025-03-01T11:10Z","by":"R102","kind":"answer","no":1,"received":true},{"at":"2199-12-31T23:59Z","by":"R102","kind":"eti","no":3}],"late":true,"lead":"R100","leg":1,"load":"loaded","place":"AT00002","responsible":"R102","stage":"in_yard","status":"loaded_on_journey","wagon":"218124712173"},"reply":"record"}"#;
-
-#[test]
-fn the_end_of_the_calendar(rt: HostRuntime) -> Result<(), Fail> {
-    let example = [DEPARTED, BOTH_DEPARTED, OFFERED, ANSWERED, END_OF_CALENDAR];
-    plays(&rt, rt.alloc(), &example)
-}
 
 const DEVIATIONS: &str = r#"{"consignment":"C-1","from":"R100","kind":"deviation"}
 > {"records":[{"commit":"2025-03-01T15:30Z","consignment":"C-1","estimates":[{"at":"2025-03-01T11:45Z","leg":0},{"at":"2025-03-01T15:45Z","leg":1}],"eta":"2025-03-01T15:45Z","events":[{"by":"R100","kind":"plan","no":1},{"at":"2025-03-01T05:30Z","by":"R100","kind":"release","no":2},{"at":"2025-03-01T06:00Z","by":"R101","kind":"depart","no":1},{"at":"2025-03-01T07:00Z","by":"R101","delay":45,"kind":"exception","no":2}],"late":true,"lead":"R100","leg":0,"load":"loaded","place":null,"responsible":"R101","stage":"running","status":"loaded_on_journey","wagon":"218124712173"}],"reply":"records"}
@@ -135,12 +94,6 @@ const DEVIATIONS: &str = r#"{"consignment":"C-1","from":"R100","kind":"deviation
 > {"reply":"refused","why":"unknown_consignment"}
 {"from":"R999","kind":"ask","wagon":"218124712173"}
 > {"reply":"refused","wagon":"218124712173","why":"not_yours"}"#;
-
-#[test]
-fn deviations(rt: HostRuntime) -> Result<(), Fail> {
-    let example = [DEPARTED, DELAYED, DEVIATIONS];
-    plays(&rt, rt.alloc(), &example)
-}
 
 const TIMES_OF_LEGS: &str =
     r#"{"from":"R102","kind":"leg_time","leg":1,"minutes":200,"no":1,"wagon":"218124712173"}
@@ -158,7 +111,26 @@ const TIMES_OF_LEGS: &str =
 {"from":"R100","kind":"ask","wagon":"218124712173"}
 > {"record":{"commit":"2025-03-01T15:30Z","consignment":"C-1","estimates":[{"at":"2025-03-01T11:00Z","leg":0},{"at":"2025-03-01T14:20Z","leg":1}],"eta":"2025-03-01T14:20Z","events":[{"by":"R100","kind":"plan","no":1},{"at":"2025-03-01T05:30Z","by":"R100","kind":"release","no":2},{"at":"2025-03-01T06:00Z","by":"R101","kind":"depart","no":1},{"by":"R102","kind":"leg_time","leg":1,"minutes":200,"no":1},{"by":"R100","kind":"eti_ask","no":3}],"late":false,"lead":"R100","leg":0,"load":"loaded","place":null,"responsible":"R101","stage":"running","status":"loaded_on_journey","wagon":"218124712173"},"reply":"record"}"#;
 
-#[test]
-fn times_of_legs(rt: HostRuntime) -> Result<(), Fail> {
-    plays(&rt, rt.alloc(), &[DEPARTED, TIMES_OF_LEGS])
-}
+pub(crate) const EXAMPLES: &[(&str, &[&str])] = &[
+    (
+        "a delay counts once",
+        &[DEPARTED, DELAYED, DELAY_COUNTS_ONCE],
+    ),
+    (
+        "a number is used once",
+        &[DEPARTED, DELAYED, NUMBERS_REUSED],
+    ),
+    (
+        "items are kept until they are acknowledged",
+        &[DEPARTED, DELAYED, ACKNOWLEDGED],
+    ),
+    ("a reported estimate", &[DEPARTED, DELAYED, REPORTED]),
+    ("alerts", &[DEPARTED, ALERTS]),
+    ("past the end of the calendar", &[DEPARTED, BEYOND_CALENDAR]),
+    (
+        "the end of the calendar",
+        &[DEPARTED, BOTH_DEPARTED, OFFERED, ANSWERED, END_OF_CALENDAR],
+    ),
+    ("deviations", &[DEPARTED, DELAYED, DEVIATIONS]),
+    ("times of legs", &[DEPARTED, TIMES_OF_LEGS]),
+];

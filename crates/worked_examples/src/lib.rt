@@ -14,8 +14,9 @@
 //! | `lines` | bad lines, long lines, lines that are cut |
 //! | `many` | as many wagons, items, delays and calls as a hub takes or gives |
 //! | `streams` | readers and writers that go by few bytes, and that fail at each step |
+//! | `report` | the report of the wagons, by one thread and by many |
 //! | `scarcity` | each growth refused in turn |
-//! | `others` | the report, and messages that may overtake each other |
+//! | `overtaking` | messages that may overtake each other |
 //!
 //! The tests stand apart from the crates that they test, since a crate with tests is proved twice. Examples are texts, since
 //! a table of values is proved value by value.
@@ -26,15 +27,19 @@ mod changes;
 #[cfg(test)]
 mod estimates;
 #[cfg(test)]
+mod examples;
+#[cfg(test)]
 mod lines;
 #[cfg(test)]
 mod many;
 #[cfg(test)]
 mod movement;
 #[cfg(test)]
-mod others;
+mod overtaking;
 #[cfg(test)]
 mod play;
+#[cfg(test)]
+mod report;
 #[cfg(test)]
 mod scarcity;
 #[cfg(test)]

@@ -1,7 +1,4 @@
-use crate::play::{
-    ANSWERED, BOTH_DEPARTED, DEPARTED, OFFERED, add_answers, add_calls, add_line, input_of,
-    no_difference, plays, wanted_of, written_otherwise,
-};
+use crate::play::{INTERCHANGE, Script, first_output_of, shown};
 use std::alloc::Global;
 use std::test::Fail;
 use std::thread::Threads;
@@ -40,112 +37,65 @@ pub(crate) const BAD_LINES: &str = r#"{"kind":"ask","from":"DE
 {"kind":"ask","from":"R100","wagon":"318066552148"}
 > {"reply":"refused","wagon":"318066552148","why":"unknown_wagon"}"#;
 
-#[test]
-fn bad_lines(rt: HostRuntime) -> Result<(), Fail> {
-    plays(&rt, rt.alloc(), &[BAD_LINES])
-}
-
-#[test]
-fn nothing_is_answered_to_blank_lines(rt: HostRuntime) -> Result<(), Fail> {
-    for input in ["", "\n", "\n\n\n", " \t\r", " \n\t\n\r\n\n "] {
-        assert_eq!(rt;
-            written_otherwise(&rt, rt.alloc(), input.as_bytes(), b"")?,
-            None,
-            "{input:?}"
-        );
-    }
-    Ok(())
-}
+pub(crate) const EXAMPLES: &[(&str, &[&str])] = &[("bad lines", &[BAD_LINES])];
 
 const ASK: &str = r#"{"kind":"ask","from":"R100","wagon":"318066552148"}"#;
 
-const UNKNOWN: &str = r#"{"reply":"refused","wagon":"318066552148","why":"unknown_wagon"}"#;
+const UNKNOWN: &str = r#"{"reply":"refused","wagon":"318066552148","why":"unknown_wagon"}
+"#;
 
-const TOO_LONG: &str = r#"{"fault":"line_too_long"}"#;
+const TOO_LONG: &str = r#"{"fault":"line_too_long"}
+"#;
 
-const BAD_JSON: &str = r#"{"fault":"bad_json"}"#;
+const BAD_JSON: &str = r#"{"fault":"bad_json"}
+"#;
 
-// The line filled with a byte to this size.
-fn filled(alloc: Global, line: &str, fill: u8, size: usize) -> Result<Vec<u8>, Fail> {
-    let mut input = Vec::new(alloc);
-    input.extend_from_slice(line.as_bytes())?;
+const TOO_LONG_AND_BAD: &str = r#"{"fault":"line_too_long"}
+{"fault":"bad_json"}
+"#;
+
+// How a line begins, the byte that it is filled with, its size, what stands behind it, and what is answered.
+const FILLED: [(&str, u8, usize, &str, &str); 20] = [
+    (ASK, b' ', 65_536, "", UNKNOWN),
+    (ASK, b' ', 65_536, "\n", UNKNOWN),
+    (ASK, b' ', 65_537, "", TOO_LONG),
+    (ASK, b' ', 65_537, "\n", TOO_LONG),
+    (ASK, b' ', 65_537, "\n\n[]\n", TOO_LONG_AND_BAD),
+    ("", b'[', 30_000, "", BAD_JSON),
+    ("", b'[', 30_000, "\n", BAD_JSON),
+    ("", b'[', 300_000, "\n\n[]\n", TOO_LONG_AND_BAD),
+    ("", 0xFF, 1, "", BAD_JSON),
+    ("", 0xFF, 1, "\n", BAD_JSON),
+    ("\"", 0xC3, 2, "", BAD_JSON),
+    ("\"", 0xC3, 2, "\n", BAD_JSON),
+    ("", b' ', 65_537, "", TOO_LONG),
+    ("", b' ', 65_537, "\n", TOO_LONG),
+    ("", b' ', 65_536, "", ""),
+    ("", b' ', 0, "", ""),
+    ("", b' ', 0, "\n", ""),
+    ("", b' ', 0, "\n\n\n", ""),
+    ("", b' ', 1, "\t\r", ""),
+    ("", b' ', 1, "\n\t\n\r\n\n ", ""),
+];
+
+// A line that is filled with a byte to this size, and what stands behind it.
+fn filled(alloc: Global, line: &str, fill: u8, size: usize, behind: &str) -> Result<Vec<u8>, Fail> {
+    let mut input = Vec::from_slice(alloc, line.as_bytes())?;
     for _ in line.len()..size {
         input.push(fill)?;
     }
+    input.extend_from_slice(behind.as_bytes())?;
     Ok(input)
 }
 
-fn line_of(alloc: Global, text: &str) -> Result<Vec<u8>, Fail> {
-    let mut line = Vec::new(alloc);
-    add_line(&mut line, text)?;
-    Ok(line)
-}
-
-// Where a line that is filled to this size has another answer than `wanted`, with its newline or without.
-fn filled_otherwise(
-    rt: &impl Threads,
-    alloc: Global,
-    line: &str,
-    fill: u8,
-    size: usize,
-    wanted: &str,
-) -> Result<Option<String>, Fail> {
-    let wanted = line_of(alloc, wanted)?;
-    let mut input = filled(alloc, line, fill, size)?;
-    if let Some(text) = written_otherwise(rt, alloc, &input, &wanted)? {
-        return Ok(Some(text));
+#[test]
+fn long_lines_and_blank_ones(rt: HostRuntime) -> Result<(), Fail> {
+    for (line, fill, size, behind, wanted) in FILLED {
+        let input = filled(rt.alloc(), line, fill, size, behind)?;
+        let output = first_output_of(&rt, rt.alloc(), &input)?;
+        assert_eq!(rt; shown(&output), wanted, "{line} {fill} {size} {behind}");
     }
-    input.push(b'\n')?;
-    written_otherwise(rt, alloc, &input, &wanted)
-}
-
-#[test]
-fn the_longest_line(rt: HostRuntime) -> Result<(), Fail> {
-    no_difference(filled_otherwise(&rt, rt.alloc(), ASK, b' ', 65_536, UNKNOWN)?)
-}
-
-#[test]
-fn a_line_that_is_too_long(rt: HostRuntime) -> Result<(), Fail> {
-    no_difference(filled_otherwise(&rt, rt.alloc(), ASK, b' ', 65_537, TOO_LONG)?)
-}
-
-#[test]
-fn a_line_that_nests_deep(rt: HostRuntime) -> Result<(), Fail> {
-    no_difference(filled_otherwise(&rt, rt.alloc(), "", b'[', 30_000, BAD_JSON)?)
-}
-
-// Where a line that is too long and the line behind it are answered otherwise.
-fn followed_otherwise(
-    rt: &impl Threads,
-    alloc: Global,
-    line: &str,
-    fill: u8,
-    size: usize,
-) -> Result<Option<String>, Fail> {
-    let mut input = filled(alloc, line, fill, size)?;
-    add_line(&mut input, "\n\n[]")?;
-    let mut wanted = line_of(alloc, TOO_LONG)?;
-    add_line(&mut wanted, BAD_JSON)?;
-    written_otherwise(rt, alloc, &input, &wanted)
-}
-
-#[test]
-fn a_line_behind_one_that_is_too_long(rt: HostRuntime) -> Result<(), Fail> {
-    no_difference(followed_otherwise(&rt, rt.alloc(), ASK, b' ', 65_537)?)?;
-    no_difference(followed_otherwise(&rt, rt.alloc(), "", b'[', 300_000)?)
-}
-
-#[test]
-fn long_blank_lines(rt: HostRuntime) -> Result<(), Fail> {
-    let input = filled(rt.alloc(), "", b' ', 65_536)?;
-    no_difference(written_otherwise(&rt, rt.alloc(), &input, b"")?)?;
-    no_difference(filled_otherwise(&rt, rt.alloc(), "", b' ', 65_537, TOO_LONG)?)
-}
-
-#[test]
-fn lines_that_are_no_text(rt: HostRuntime) -> Result<(), Fail> {
-    no_difference(filled_otherwise(&rt, rt.alloc(), "", 0xFF, 1, BAD_JSON)?)?;
-    no_difference(filled_otherwise(&rt, rt.alloc(), "\"", 0xC3, 2, BAD_JSON)?)
+    Ok(())
 }
 
 /// How many newlines there are.
@@ -181,68 +131,30 @@ fn answers_to(alloc: Global, front: &[u8], rest: &[u8], answers: &[u8]) -> Resul
     let mut wanted = Vec::from_slice(alloc, first_lines(answers, lines))?;
     let is_whole = front.is_empty() || front.ends_with(b"\n");
     if !is_whole && !is_call {
-        add_line(&mut wanted, BAD_JSON)?;
+        wanted.extend_from_slice(BAD_JSON.as_bytes())?;
     }
     Ok(wanted)
 }
 
-// Whether the input that is cut at a byte is answered as it has to be.
-fn is_answered(
+// Whether the script that is cut at a byte is answered as it has to be.
+fn is_cut_answered(
     rt: &impl Threads,
     alloc: Global,
-    input: &[u8],
-    answers: &[u8],
+    script: &Script,
     cut: usize,
 ) -> Result<bool, Fail> {
-    let Some((front, rest)) = input.split_at_checked(cut) else {
+    let Some((front, rest)) = script.input.split_at_checked(cut) else {
         return Err(Fail::new("no such cut"));
     };
-    let wanted = answers_to(alloc, front, rest, answers)?;
-    Ok(written_otherwise(rt, alloc, front, &wanted)?.is_none())
+    let wanted = answers_to(alloc, front, rest, &script.wanted)?;
+    Ok(first_output_of(rt, alloc, front)? == wanted)
 }
 
-// The first byte of `part`, behind the calls of `before`, at which a cut is answered otherwise.
-fn bad_cut(
-    rt: &impl Threads,
-    alloc: Global,
-    before: &[&str],
-    part: &str,
-) -> Result<Option<usize>, Fail> {
-    let mut input = input_of(alloc, before)?;
-    let mut answers = wanted_of(alloc, before)?;
-    let start = input.len();
-    add_calls(&mut input, part)?;
-    add_answers(&mut answers, part)?;
-    for cut in start..=input.len() {
-        if !is_answered(rt, alloc, &input, &answers, cut)? {
-            return Ok(Some(cut));
-        }
+#[test]
+fn an_interchange_is_cut_at_every_byte(rt: HostRuntime) -> Result<(), Fail> {
+    let script = Script::of(rt.alloc(), INTERCHANGE)?;
+    for cut in 0..=script.input.len() {
+        assert!(rt; is_cut_answered(&rt, rt.alloc(), &script, cut)?, "at {cut}");
     }
-    Ok(None)
-}
-
-#[test]
-fn a_departure_is_cut_at_every_byte(rt: HostRuntime) -> Result<(), Fail> {
-    assert_eq!(rt; bad_cut(&rt, rt.alloc(), &[], DEPARTED)?, None);
-    Ok(())
-}
-
-#[test]
-fn another_departure_is_cut_at_every_byte(rt: HostRuntime) -> Result<(), Fail> {
-    assert_eq!(rt; bad_cut(&rt, rt.alloc(), &[DEPARTED], BOTH_DEPARTED)?, None);
-    Ok(())
-}
-
-#[test]
-fn an_offer_is_cut_at_every_byte(rt: HostRuntime) -> Result<(), Fail> {
-    let before = [DEPARTED, BOTH_DEPARTED];
-    assert_eq!(rt; bad_cut(&rt, rt.alloc(), &before, OFFERED)?, None);
-    Ok(())
-}
-
-#[test]
-fn an_answer_is_cut_at_every_byte(rt: HostRuntime) -> Result<(), Fail> {
-    let before = [DEPARTED, BOTH_DEPARTED, OFFERED];
-    assert_eq!(rt; bad_cut(&rt, rt.alloc(), &before, ANSWERED)?, None);
     Ok(())
 }

@@ -1,55 +1,24 @@
-use crate::play::{
-    DEPARTED, add_answers, add_calls, input_of, no_difference, plays, plays_on, report_after,
-    wanted_of, written_otherwise,
-};
+use crate::play::{DEPARTED, Script, add_line, first_output_of, no_difference, plays_on};
 use call_reader::read_call;
 use hub_core::{Hub, HubFault};
 use std::alloc::Global;
 use std::test::Fail;
-use std::thread::Threads;
 use taf_messages::{Call, copy_call};
 
-// A plan of 60 wagons over eight legs.
-const MOST_WAGONS_AND_LEGS: &str =
+/// A plan of 60 wagons over eight legs.
+pub(crate) const MOST_WAGONS_AND_LEGS: &str =
     r#"{"commit":"2025-03-01T15:30Z","consignment":"C-1","from":"R100","kind":"plan","legs":[{"minutes":100000,"origin":"DE00001","ru":"LEG1","target":"DE00002"},{"minutes":100000,"origin":"DE00002","ru":"LEG2","target":"DE00003"},{"minutes":100000,"origin":"DE00003","ru":"LEG3","target":"DE00004"},{"minutes":100000,"origin":"DE00004","ru":"LEG4","target":"DE00005"},{"minutes":100000,"origin":"DE00005","ru":"LEG5","target":"DE00006"},{"minutes":100000,"origin":"DE00006","ru":"LEG6","target":"DE00007"},{"minutes":100000,"origin":"DE00007","ru":"LEG7","target":"DE00008"},{"minutes":100000,"origin":"DE00008","ru":"LEG8","target":"DE00009"}],"load":"loaded","no":1,"wagons":["218124710003","218124710011","218124710029","218124710037","218124710045","218124710052","218124710060","218124710078","218124710086","218124710094","218124710102","218124710110","218124710128","218124710136","218124710144","218124710151","218124710169","218124710177","218124710185","218124710193","218124710201","218124710219","218124710227","218124710235","218124710243","218124710250","218124710268","218124710276","218124710284","218124710292","218124710300","218124710318","218124710326","218124710334","218124710342","218124710359","218124710367","218124710375","218124710383","218124710391","218124710409","218124710417","218124710425","218124710433","218124710441","218124710458","218124710466","218124710474","218124710482","218124710490","218124710508","218124710516","218124710524","218124710532","218124710540","218124710557","218124710565","218124710573","218124710581","218124710599"]}
 > {"no":1,"reply":"accepted"}"#;
 
-// The same over nine legs.
-const NINE_LEGS: &str =
+/// The same over nine legs.
+pub(crate) const NINE_LEGS: &str =
     r#"{"commit":"2025-03-01T15:30Z","consignment":"C-1","from":"R100","kind":"plan","legs":[{"minutes":100000,"origin":"DE00001","ru":"LEG1","target":"DE00002"},{"minutes":100000,"origin":"DE00002","ru":"LEG2","target":"DE00003"},{"minutes":100000,"origin":"DE00003","ru":"LEG3","target":"DE00004"},{"minutes":100000,"origin":"DE00004","ru":"LEG4","target":"DE00005"},{"minutes":100000,"origin":"DE00005","ru":"LEG5","target":"DE00006"},{"minutes":100000,"origin":"DE00006","ru":"LEG6","target":"DE00007"},{"minutes":100000,"origin":"DE00007","ru":"LEG7","target":"DE00008"},{"minutes":100000,"origin":"DE00008","ru":"LEG8","target":"DE00009"},{"minutes":100000,"origin":"DE00009","ru":"LEG9","target":"DE00010"}],"load":"loaded","no":1,"wagons":["218124710003","218124710011","218124710029","218124710037","218124710045","218124710052","218124710060","218124710078","218124710086","218124710094","218124710102","218124710110","218124710128","218124710136","218124710144","218124710151","218124710169","218124710177","218124710185","218124710193","218124710201","218124710219","218124710227","218124710235","218124710243","218124710250","218124710268","218124710276","218124710284","218124710292","218124710300","218124710318","218124710326","218124710334","218124710342","218124710359","218124710367","218124710375","218124710383","218124710391","218124710409","218124710417","218124710425","218124710433","218124710441","218124710458","218124710466","218124710474","218124710482","218124710490","218124710508","218124710516","218124710524","218124710532","218124710540","218124710557","218124710565","218124710573","218124710581","218124710599"]}
 > {"code":1,"fault":"bad_plan"}"#;
 
-// The same with one wagon more.
-const WAGONS_61: &str =
+/// The same with one wagon more.
+pub(crate) const WAGONS_61: &str =
     r#"{"commit":"2025-03-01T15:30Z","consignment":"C-1","from":"R100","kind":"plan","legs":[{"minutes":100000,"origin":"DE00001","ru":"LEG1","target":"DE00002"},{"minutes":100000,"origin":"DE00002","ru":"LEG2","target":"DE00003"},{"minutes":100000,"origin":"DE00003","ru":"LEG3","target":"DE00004"},{"minutes":100000,"origin":"DE00004","ru":"LEG4","target":"DE00005"},{"minutes":100000,"origin":"DE00005","ru":"LEG5","target":"DE00006"},{"minutes":100000,"origin":"DE00006","ru":"LEG6","target":"DE00007"},{"minutes":100000,"origin":"DE00007","ru":"LEG7","target":"DE00008"},{"minutes":100000,"origin":"DE00008","ru":"LEG8","target":"DE00009"}],"load":"loaded","no":1,"wagons":["218124710003","218124710011","218124710029","218124710037","218124710045","218124710052","218124710060","218124710078","218124710086","218124710094","218124710102","218124710110","218124710128","218124710136","218124710144","218124710151","218124710169","218124710177","218124710185","218124710193","218124710201","218124710219","218124710227","218124710235","218124710243","218124710250","218124710268","218124710276","218124710284","218124710292","218124710300","218124710318","218124710326","218124710334","218124710342","218124710359","218124710367","218124710375","218124710383","218124710391","218124710409","218124710417","218124710425","218124710433","218124710441","218124710458","218124710466","218124710474","218124710482","218124710490","218124710508","218124710516","218124710524","218124710532","218124710540","218124710557","218124710565","218124710573","218124710581","218124710599","218124710607"]}
 > {"code":4,"fault":"bad_plan"}"#;
-
-// Fails unless an example is answered as it says, and as many wagons are planned then as the report's first line says.
-fn plays_with(rt: &impl Threads, alloc: Global, example: &str, wagons: &str) -> Result<(), Fail> {
-    plays(rt, alloc, &[example])?;
-    let input = input_of(alloc, &[example])?;
-    let report = report_after(rt, alloc, &input)?;
-    if report.lines().next() == Some(wagons) {
-        Ok(())
-    } else {
-        Err(Fail::new(&report))
-    }
-}
-
-#[test]
-fn as_many_wagons_and_legs_as_a_plan_has(rt: HostRuntime) -> Result<(), Fail> {
-    plays_with(&rt, rt.alloc(), MOST_WAGONS_AND_LEGS, "wagons 60")
-}
-
-#[test]
-fn more_legs_than_a_plan_has(rt: HostRuntime) -> Result<(), Fail> {
-    plays_with(&rt, rt.alloc(), NINE_LEGS, "wagons 0")
-}
-
-#[test]
-fn more_wagons_than_a_plan_has(rt: HostRuntime) -> Result<(), Fail> {
-    plays_with(&rt, rt.alloc(), WAGONS_61, "wagons 0")
-}
 
 // A delay of a minute with each of the numbers from 2 to 25, and an arrival in the yard: with the departure these make 51
 // items for the lead, of which it is given 50 at a time.
@@ -115,26 +84,37 @@ const PAGES: &str =
 {"from":"R100","kind":"fetch","limit":50}
 > {"items":[],"reply":"items"}"#;
 
-#[test]
-fn items_come_in_pages(rt: HostRuntime) -> Result<(), Fail> {
-    plays(&rt, rt.alloc(), &[DEPARTED, PAGES])
+pub(crate) const EXAMPLES: &[(&str, &[&str])] = &[
+    (
+        "as many wagons and legs as a plan has",
+        &[MOST_WAGONS_AND_LEGS],
+    ),
+    ("more legs than a plan has", &[NINE_LEGS]),
+    ("more wagons than a plan has", &[WAGONS_61]),
+    ("items come in pages", &[DEPARTED, PAGES]),
+];
+
+// Adds the line with a number between two texts.
+fn add_numbered(lines: &mut Vec<u8>, before: &str, number: &str, behind: &str) -> Result<(), Fail> {
+    lines.extend_from_slice(before.as_bytes())?;
+    lines.extend_from_slice(number.as_bytes())?;
+    add_line(lines, behind)
 }
+
+const DELAY: &str = r#"{"kind":"exception","from":"R101","no":"#;
+
+const DELAY_OF_A_MINUTE: &str = r#","wagon":"218124712173","at":"2025-03-01T07:00Z","delay":1}"#;
+
+const NUMBER: &str = r#"{"no":"#;
+
+const ACCEPTED: &str = r#","reply":"accepted"}"#;
 
 // Adds a delay of a minute with each of the numbers from 2 to 20,001.
-fn add_delays(alloc: Global, input: &mut Vec<u8>) -> Result<(), Fail> {
+fn add_delays(alloc: Global, script: &mut Script) -> Result<(), Fail> {
     for number in 2..20_002u64 {
-        let delay = format!(in alloc;
-            "{{\"kind\":\"exception\",\"from\":\"R101\",\"no\":{number},\"wagon\":\"218124712173\",\"at\":\"2025-03-01T07:00Z\",\"delay\":1}}\n"
-        )?;
-        input.extend_from_slice(delay.as_bytes())?;
-    }
-    Ok(())
-}
-
-fn add_accepted(alloc: Global, wanted: &mut Vec<u8>) -> Result<(), Fail> {
-    for number in 2..20_002u64 {
-        let accepted = format!(in alloc; "{{\"no\":{number},\"reply\":\"accepted\"}}\n")?;
-        wanted.extend_from_slice(accepted.as_bytes())?;
+        let digits = format!(in alloc; "{number}")?;
+        add_numbered(&mut script.input, DELAY, &digits, DELAY_OF_A_MINUTE)?;
+        add_numbered(&mut script.wanted, NUMBER, &digits, ACCEPTED)?;
     }
     Ok(())
 }
@@ -152,41 +132,19 @@ const AFTER_DELAYS: &str = r#"{"from":"R100","item":64,"kind":"ack"}
 {"from":"R100","kind":"fetch","limit":50}
 > {"items":[],"reply":"items"}"#;
 
-const LATE: &str =
-    "218124712173 R100 R101 0 running   ------- 2025-03-15T12:20Z     19970 loaded_on_journey";
-
 /// A departure, and then twenty thousand delays.
-pub(crate) fn delays_input(alloc: Global) -> Result<Vec<u8>, Fail> {
-    let mut input = input_of(alloc, &[DEPARTED])?;
-    add_delays(alloc, &mut input)?;
-    add_calls(&mut input, AFTER_DELAYS)?;
-    Ok(input)
-}
-
-/// What is answered to these.
-pub(crate) fn delays_wanted(alloc: Global) -> Result<Vec<u8>, Fail> {
-    let mut wanted = wanted_of(alloc, &[DEPARTED])?;
-    add_accepted(alloc, &mut wanted)?;
-    add_answers(&mut wanted, AFTER_DELAYS)?;
-    Ok(wanted)
+pub(crate) fn delays(alloc: Global) -> Result<Script, Fail> {
+    let mut script = Script::of(alloc, &[DEPARTED])?;
+    add_delays(alloc, &mut script)?;
+    script.add(AFTER_DELAYS)?;
+    Ok(script)
 }
 
 #[test]
 fn twenty_thousand_delays(rt: HostRuntime) -> Result<(), Fail> {
-    let input = delays_input(rt.alloc())?;
-    let wanted = delays_wanted(rt.alloc())?;
-    no_difference(written_otherwise(&rt, rt.alloc(), &input, &wanted)?)
-}
-
-#[test]
-fn a_report_of_twenty_thousand_delays(rt: HostRuntime) -> Result<(), Fail> {
-    let input = delays_input(rt.alloc())?;
-    let report = report_after(&rt, rt.alloc(), &input)?;
-    if report.lines().nth(1) == Some(LATE) {
-        Ok(())
-    } else {
-        Err(Fail::new(&report))
-    }
+    let script = delays(rt.alloc())?;
+    let output = first_output_of(&rt, rt.alloc(), &script.input)?;
+    no_difference("delays", &output, &script.wanted)
 }
 
 const ASK: &str = r#"{"kind":"ask","from":"R100","wagon":"318066552148"}"#;
@@ -223,13 +181,9 @@ fn is_full(alloc: Global, hub: &mut Hub) -> Result<(), Fail> {
 const ANSWERED_FULL: &str = r#"{"kind":"ask","from":"R100","wagon":"318066552148"}
 > {"fault":"hub_full"}"#;
 
-fn answers_full(rt: &impl Threads, alloc: Global, hub: &mut Hub) -> Result<(), Fail> {
-    is_full(alloc, hub)?;
-    plays_on(rt, alloc, hub, &[ANSWERED_FULL])
-}
-
 #[test]
 fn as_many_calls_as_a_hub_takes(rt: HostRuntime) -> Result<(), Fail> {
     let mut hub = Hub::new(rt.alloc());
-    answers_full(&rt, rt.alloc(), &mut hub)
+    is_full(rt.alloc(), &mut hub)?;
+    plays_on(&rt, rt.alloc(), &mut hub, "a full hub", &[ANSWERED_FULL])
 }

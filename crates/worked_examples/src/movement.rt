@@ -1,5 +1,4 @@
-use crate::play::{DEPARTED, plays};
-use std::test::Fail;
+use crate::play::DEPARTED;
 
 /// The records of both wagons, and what each railway was sent.
 pub(crate) const AFTER_DEPARTURE: &str = r#"{"from":"R102","kind":"ask","wagon":"218124712173"}
@@ -19,11 +18,6 @@ pub(crate) const AFTER_DEPARTURE: &str = r#"{"from":"R102","kind":"ask","wagon":
 {"from":"R103","kind":"fetch","limit":10}
 > {"items":[],"reply":"items"}"#;
 
-#[test]
-fn a_wagon_departs(rt: HostRuntime) -> Result<(), Fail> {
-    plays(&rt, rt.alloc(), &[DEPARTED, AFTER_DEPARTURE])
-}
-
 const UNKNOWN: &str = r#"{"from":"R100","kind":"ask","wagon":"318066552148"}
 > {"reply":"refused","wagon":"318066552148","why":"unknown_wagon"}
 {"at":"2025-03-01T05:30Z","from":"R100","kind":"release","no":1,"wagon":"318066552148"}
@@ -34,11 +28,6 @@ const UNKNOWN: &str = r#"{"from":"R100","kind":"ask","wagon":"318066552148"}
 > {"items":[],"reply":"items"}
 {"from":"R100","item":0,"kind":"ack"}
 > {"acknowledged":0,"reply":"acknowledged"}"#;
-
-#[test]
-fn an_unknown_wagon(rt: HostRuntime) -> Result<(), Fail> {
-    plays(&rt, rt.alloc(), &[UNKNOWN])
-}
 
 // A refused message stays refused when it is repeated.
 const BEFORE_RELEASE: &str =
@@ -52,11 +41,6 @@ const BEFORE_RELEASE: &str =
 > {"no":1,"reply":"refused","wagon":"218124712173","why":"wrong_stage"}
 {"at":"2025-03-01T06:00Z","from":"R101","kind":"depart","no":2,"wagon":"218124712173"}
 > {"no":2,"reply":"accepted"}"#;
-
-#[test]
-fn a_departure_before_its_release(rt: HostRuntime) -> Result<(), Fail> {
-    plays(&rt, rt.alloc(), &[BEFORE_RELEASE])
-}
 
 const EMPTY_OVER_ONE_LEG: &str =
     r#"{"commit":"2025-03-01T15:30Z","consignment":"C-2","from":"R200","kind":"plan","legs":[{"minutes":300,"origin":"DE00001","ru":"R201","target":"AT00002"}],"load":"empty","no":1,"wagons":["338478961232"]}
@@ -82,16 +66,17 @@ const EMPTY_OVER_ONE_LEG: &str =
 {"from":"R200","kind":"ask","wagon":"338478961232"}
 > {"record":{"commit":"2025-03-01T15:30Z","consignment":"C-2","estimates":[{"at":"2025-03-01T11:20Z","leg":0}],"eta":"2025-03-01T11:20Z","events":[{"by":"R200","kind":"plan","no":1},{"at":"2025-03-01T05:30Z","by":"R200","kind":"release","no":2},{"at":"2025-03-01T06:00Z","by":"R201","kind":"depart","no":1},{"at":"2025-03-01T08:00Z","by":"R201","kind":"yard_in","no":2,"place":"DE00003"},{"at":"2025-03-01T08:10Z","by":"R201","kind":"yard_out","no":4,"place":"DE00003"},{"at":"2025-03-01T08:30Z","by":"R201","delay":45,"kind":"exception","no":5},{"at":"2025-03-01T11:00Z","by":"R201","kind":"arrival","no":6},{"at":"2025-03-01T11:20Z","by":"R201","kind":"delivery","no":7}],"late":false,"lead":"R200","leg":0,"load":"empty","place":"AT00002","responsible":null,"stage":"delivered","status":"fleet_control","wagon":"338478961232"},"reply":"record"}"#;
 
-#[test]
-fn an_empty_wagon_over_one_leg(rt: HostRuntime) -> Result<(), Fail> {
-    plays(&rt, rt.alloc(), &[EMPTY_OVER_ONE_LEG])
-}
-
 const ARRIVAL_ON_THE_FIRST_LEG: &str =
     r#"{"at":"2025-03-01T10:00Z","from":"R101","kind":"arrival","no":2,"wagon":"218124712173"}
 > {"no":2,"reply":"refused","wagon":"218124712173","why":"not_last_leg"}"#;
 
-#[test]
-fn an_arrival_on_the_first_of_two_legs(rt: HostRuntime) -> Result<(), Fail> {
-    plays(&rt, rt.alloc(), &[DEPARTED, ARRIVAL_ON_THE_FIRST_LEG])
-}
+pub(crate) const EXAMPLES: &[(&str, &[&str])] = &[
+    ("a wagon departs", &[DEPARTED, AFTER_DEPARTURE]),
+    ("an unknown wagon", &[UNKNOWN]),
+    ("a departure before its release", &[BEFORE_RELEASE]),
+    ("an empty wagon over one leg", &[EMPTY_OVER_ONE_LEG]),
+    (
+        "an arrival on the first of two legs",
+        &[DEPARTED, ARRIVAL_ON_THE_FIRST_LEG],
+    ),
+];

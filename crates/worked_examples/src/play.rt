@@ -1,13 +1,12 @@
 //! Examples through a hub.
 
-use hub_core::{Hub, View};
+use hub_core::Hub;
 use hub_replay::run;
 use std::alloc::Global;
 use std::str;
 use std::test::Fail;
 use std::thread::Threads;
 use taf_codes::Std;
-use wimo_report::plain_lines;
 
 /// Up to the departure of the first wagon.
 pub(crate) const DEPARTED: &str =
@@ -55,42 +54,36 @@ pub(crate) fn add_line(lines: &mut Vec<u8>, line: &str) -> Result<(), Fail> {
     Ok(())
 }
 
-/// Adds the lines of the calls of a part.
-pub(crate) fn add_calls(input: &mut Vec<u8>, part: &str) -> Result<(), Fail> {
-    for line in part.lines() {
-        if !line.starts_with("> ") {
-            add_line(input, line)?;
+/// The lines of calls, and those of the answers that are wanted.
+#[derive(Drop)]
+pub(crate) struct Script {
+    pub(crate) input: Vec<u8>,
+    pub(crate) wanted: Vec<u8>,
+}
+
+impl Script {
+    /// The lines of an example.
+    pub(crate) fn of(alloc: Global, example: &[&str]) -> Result<Script, Fail> {
+        let mut script = Script {
+            input: Vec::new(alloc),
+            wanted: Vec::new(alloc),
+        };
+        for part in example {
+            script.add(part)?;
         }
+        Ok(script)
     }
-    Ok(())
-}
 
-/// Adds the lines of the answers of a part.
-pub(crate) fn add_answers(wanted: &mut Vec<u8>, part: &str) -> Result<(), Fail> {
-    for line in part.lines() {
-        if let Some(answer) = line.strip_prefix("> ") {
-            add_line(wanted, answer)?;
+    /// Adds the lines of a part.
+    pub(crate) fn add(&mut self, part: &str) -> Result<(), Fail> {
+        for line in part.lines() {
+            match line.strip_prefix("> ") {
+                Some(answer) => add_line(&mut self.wanted, answer)?,
+                None => add_line(&mut self.input, line)?,
+            }
         }
+        Ok(())
     }
-    Ok(())
-}
-
-/// The lines of the calls.
-pub(crate) fn input_of(alloc: Global, example: &[&str]) -> Result<Vec<u8>, Fail> {
-    let mut input = Vec::new(alloc);
-    for part in example {
-        add_calls(&mut input, part)?;
-    }
-    Ok(input)
-}
-
-/// The lines of the answers.
-pub(crate) fn wanted_of(alloc: Global, example: &[&str]) -> Result<Vec<u8>, Fail> {
-    let mut wanted = Vec::new(alloc);
-    for part in example {
-        add_answers(&mut wanted, part)?;
-    }
-    Ok(wanted)
 }
 
 /// What the hub writes to these bytes.
@@ -106,8 +99,18 @@ pub(crate) fn output_of(
     Ok(writer.into_inner())
 }
 
-// The bytes as a text, for a failed test to show.
-fn shown(bytes: &[u8]) -> &str {
+/// What a new hub writes to these bytes.
+pub(crate) fn first_output_of(
+    rt: &impl Threads,
+    alloc: Global,
+    input: &[u8],
+) -> Result<Vec<u8>, Fail> {
+    let mut hub = Hub::new(alloc);
+    output_of(rt, alloc, &mut hub, input)
+}
+
+/// The bytes as a text, for a failed test to show.
+pub(crate) fn shown(bytes: &[u8]) -> &str {
     str::from_utf8(bytes).unwrap_or("no text")
 }
 
@@ -121,48 +124,13 @@ fn lines_that_differ<'a>(output: &'a str, wanted: &'a str) -> (&'a str, &'a str)
     ("more lines, or fewer", "these")
 }
 
-/// The first line that isn't the one that is wanted, with this one.
-pub(crate) fn difference(
-    alloc: Global,
-    output: &[u8],
-    wanted: &[u8],
-) -> Result<Option<String>, Fail> {
+/// Fails with the first line that isn't the one that is wanted, if there is one.
+pub(crate) fn no_difference(about: &str, output: &[u8], wanted: &[u8]) -> Result<(), Fail> {
     if output == wanted {
-        return Ok(None);
+        return Ok(());
     }
     let (line, other) = lines_that_differ(shown(output), shown(wanted));
-    Ok(Some(format!(in alloc; "{line}\nand not {other}")?))
-}
-
-// Where what the hub writes to these bytes isn't what is wanted.
-fn written_by(
-    rt: &impl Threads,
-    alloc: Global,
-    hub: &mut Hub,
-    input: &[u8],
-    wanted: &[u8],
-) -> Result<Option<String>, Fail> {
-    let output = output_of(rt, alloc, hub, input)?;
-    difference(alloc, &output, wanted)
-}
-
-/// Where what a new hub writes to these bytes isn't what is wanted.
-pub(crate) fn written_otherwise(
-    rt: &impl Threads,
-    alloc: Global,
-    input: &[u8],
-    wanted: &[u8],
-) -> Result<Option<String>, Fail> {
-    let mut hub = Hub::new(alloc);
-    written_by(rt, alloc, &mut hub, input, wanted)
-}
-
-/// Fails with the difference, if there is one.
-pub(crate) fn no_difference(difference: Option<String>) -> Result<(), Fail> {
-    match difference {
-        Some(text) => Err(Fail::new(&text)),
-        None => Ok(()),
-    }
+    Err(Fail::new(format_args!("{about}: {line}\nand not {other}")))
 }
 
 /// Fails unless the hub answers the calls of an example as it says.
@@ -170,59 +138,28 @@ pub(crate) fn plays_on(
     rt: &impl Threads,
     alloc: Global,
     hub: &mut Hub,
+    about: &str,
     example: &[&str],
 ) -> Result<(), Fail> {
-    let input = input_of(alloc, example)?;
-    let wanted = wanted_of(alloc, example)?;
-    no_difference(written_by(rt, alloc, hub, &input, &wanted)?)
+    let script = Script::of(alloc, example)?;
+    let output = output_of(rt, alloc, hub, &script.input)?;
+    no_difference(about, &output, &script.wanted)
 }
 
-/// Fails unless a new hub answers the calls of an example as it says.
-pub(crate) fn plays(rt: &impl Threads, alloc: Global, example: &[&str]) -> Result<(), Fail> {
-    let input = input_of(alloc, example)?;
-    let wanted = wanted_of(alloc, example)?;
-    no_difference(written_otherwise(rt, alloc, &input, &wanted)?)
-}
-
-fn joined(alloc: Global, lines: &[String]) -> Result<String, Fail> {
-    let mut text = String::new(alloc);
-    for line in lines {
-        text.push_str(line)?;
-        text.push('\n')?;
-    }
-    Ok(text)
-}
-
-fn report_of(alloc: Global, view: &View) -> Result<String, Fail> {
-    let lines = plain_lines(alloc, view)?;
-    joined(alloc, &lines)
-}
-
-fn report_by(
-    rt: &impl Threads,
-    alloc: Global,
-    hub: &mut Hub,
-    input: &[u8],
-) -> Result<String, Fail> {
-    output_of(rt, alloc, hub, input)?;
-    let view = hub.view()?;
-    report_of(alloc, &view)
-}
-
-/// The report of a new hub after these bytes, each of its lines with a newline.
-pub(crate) fn report_after(rt: &impl Threads, alloc: Global, input: &[u8]) -> Result<String, Fail> {
+// Fails unless a new hub answers the calls of an example as it says.
+fn plays(rt: &impl Threads, alloc: Global, about: &str, example: &[&str]) -> Result<(), Fail> {
     let mut hub = Hub::new(alloc);
-    report_by(rt, alloc, &mut hub, input)
+    plays_on(rt, alloc, &mut hub, about, example)
 }
 
-/// Fails unless the report after an example is this.
-pub(crate) fn reports(
+/// Fails unless a new hub answers the calls of each of these examples as it says.
+pub(crate) fn plays_each(
     rt: &impl Threads,
     alloc: Global,
-    example: &[&str],
-    wanted: &str,
+    examples: &[(&str, &[&str])],
 ) -> Result<(), Fail> {
-    let input = input_of(alloc, example)?;
-    let report = report_after(rt, alloc, &input)?;
-    no_difference(difference(alloc, report.as_bytes(), wanted.as_bytes())?)
+    for (about, example) in examples {
+        plays(rt, alloc, about, example)?;
+    }
+    Ok(())
 }

@@ -1,6 +1,6 @@
 //! Each growth refused in turn: of a hub that takes the calls of an interchange, and of a view of it.
 
-use crate::play::{INTERCHANGE, difference, no_difference, plays_on, wanted_of};
+use crate::play::{INTERCHANGE, Script, no_difference, plays_on};
 use crate::trains::AFTER_INTERCHANGE;
 use ballast::Ballast;
 use call_reader::read_call;
@@ -98,8 +98,8 @@ impl Scarcity {
     // Fails unless the calls of the interchange have the replies that they ever have.
     fn interchange(&mut self, alloc: Global, hub: &mut Hub) -> Result<(), Fail> {
         let lines = self.replies(alloc, hub)?;
-        let wanted = wanted_of(alloc, INTERCHANGE)?;
-        no_difference(difference(alloc, &lines, &wanted)?)
+        let script = Script::of(alloc, INTERCHANGE)?;
+        no_difference("the interchange", &lines, &script.wanted)
     }
 
     // The view of the hub, which is asked for again where memory is refused.
@@ -122,7 +122,7 @@ impl Scarcity {
         hub: &mut Hub,
     ) -> Result<View, Fail> {
         self.interchange(alloc, hub)?;
-        plays_on(rt, alloc, hub, &[AFTER_INTERCHANGE])?;
+        plays_on(rt, alloc, hub, "afterwards", &[AFTER_INTERCHANGE])?;
         self.view(hub)
     }
 

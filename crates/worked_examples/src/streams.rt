@@ -4,9 +4,9 @@ ghost use Rattle.std.specs.Prelude.{None};
 ghost use Rattle.taf_codes.specs.Counting.{count};
 
 use crate::lines::{BAD_LINES, count_lines, first_lines};
-use crate::many::{delays_input, delays_wanted};
+use crate::many::delays;
 use crate::movement::AFTER_DEPARTURE;
-use crate::play::{DEPARTED, input_of, wanted_of};
+use crate::play::{DEPARTED, Script};
 use ballast::Ballast;
 use hub_core::Hub;
 use hub_replay::{Counts, RunFault, run};
@@ -18,7 +18,7 @@ use taf_codes::{Failed, Failures, Sink, Source};
 const BLANK_LINES: &str = "\n \t\n  ";
 
 // Lines that are no calls or are blank, a departure, and what came of it.
-const SCRIPT: &[&str] = &[BAD_LINES, BLANK_LINES, DEPARTED, AFTER_DEPARTURE];
+const EXAMPLE: &[&str] = &[BAD_LINES, BLANK_LINES, DEPARTED, AFTER_DEPARTURE];
 
 /// Two calls and fourteen faults of the bad lines; a plan, a release, a departure, three asks and five fetches.
 const COUNTS: Counts = Counts {
@@ -221,36 +221,27 @@ fn count_answered(input: &[u8]) -> usize {
     lines
 }
 
-// The answers to the whole lines among the first bytes, so many of them.
-fn answers_to_first<'a>(input: &[u8], output: &'a [u8], size: usize) -> &'a [u8] {
+// The answers to the whole lines among the first bytes of the input, so many of them.
+fn answers_to_first(script: &Script, size: usize) -> &[u8] {
+    let input = script.input.as_slice();
     let front = input.get(..size).unwrap_or(input);
-    first_lines(output, count_answered(front))
+    first_lines(&script.wanted, count_answered(front))
 }
 
 // Whether the script is answered where a reader and a writer go by so many bytes.
-fn goes_by(
-    rt: &impl Threads,
-    alloc: Global,
-    input: &[u8],
-    output: &[u8],
-    step: usize,
-    taken: usize,
-) -> bool {
+fn goes_by(rt: &impl Threads, alloc: Global, script: &Script, step: usize, taken: usize) -> bool {
     let reach = Reach { step, taken, ..FAR };
-    is_whole(
-        &run_through(rt, alloc, input, Vec::new(alloc), reach),
-        output,
-    )
+    let ran = run_through(rt, alloc, &script.input, Vec::new(alloc), reach);
+    is_whole(&ran, &script.wanted)
 }
 
 #[test]
 fn few_bytes_at_once(rt: HostRuntime) -> Result<(), Fail> {
-    let input = input_of(rt.alloc(), SCRIPT)?;
-    let output = wanted_of(rt.alloc(), SCRIPT)?;
+    let script = Script::of(rt.alloc(), EXAMPLE)?;
     for step in [1usize, 7, 1_000_000] {
         for taken in [1usize, 3, 1_000_000] {
             assert!(rt;
-                goes_by(&rt, rt.alloc(), &input, &output, step, taken),
+                goes_by(&rt, rt.alloc(), &script, step, taken),
                 "by {step} and {taken}"
             );
         }
@@ -259,29 +250,22 @@ fn few_bytes_at_once(rt: HostRuntime) -> Result<(), Fail> {
 }
 
 // Whether the lines that were read before a read fails are answered, and no more.
-fn fails_to_read(
-    rt: &impl Threads,
-    alloc: Global,
-    input: &[u8],
-    output: &[u8],
-    reads: usize,
-) -> bool {
+fn fails_to_read(rt: &impl Threads, alloc: Global, script: &Script, reads: usize) -> bool {
     let reach = Reach {
         step: 1,
         reads,
         ..FAR
     };
-    let ran = run_through(rt, alloc, input, Vec::new(alloc), reach);
-    is_failed(&ran, RunFault::Read, answers_to_first(input, output, reads))
+    let ran = run_through(rt, alloc, &script.input, Vec::new(alloc), reach);
+    is_failed(&ran, RunFault::Read, answers_to_first(script, reads))
 }
 
 #[test]
 fn each_read_fails(rt: HostRuntime) -> Result<(), Fail> {
-    let input = input_of(rt.alloc(), SCRIPT)?;
-    let output = wanted_of(rt.alloc(), SCRIPT)?;
-    for reads in 0..=input.len() {
+    let script = Script::of(rt.alloc(), EXAMPLE)?;
+    for reads in 0..=script.input.len() {
         assert!(rt;
-            fails_to_read(&rt, rt.alloc(), &input, &output, reads),
+            fails_to_read(&rt, rt.alloc(), &script, reads),
             "at {reads}"
         );
     }
@@ -289,30 +273,24 @@ fn each_read_fails(rt: HostRuntime) -> Result<(), Fail> {
 }
 
 // Whether the bytes that were taken before a write fails are the first ones of the output.
-fn fails_to_write(
-    rt: &impl Threads,
-    alloc: Global,
-    input: &[u8],
-    output: &[u8],
-    writes: usize,
-) -> bool {
+fn fails_to_write(rt: &impl Threads, alloc: Global, script: &Script, writes: usize) -> bool {
     let reach = Reach {
         taken: 1,
         writes,
         ..FAR
     };
-    let ran = run_through(rt, alloc, input, Vec::new(alloc), reach);
+    let ran = run_through(rt, alloc, &script.input, Vec::new(alloc), reach);
+    let output = script.wanted.as_slice();
     let front = output.get(..writes).unwrap_or(output);
     is_failed(&ran, RunFault::Write, front) && is_front(&ran, output)
 }
 
 #[test]
 fn each_write_fails(rt: HostRuntime) -> Result<(), Fail> {
-    let input = input_of(rt.alloc(), SCRIPT)?;
-    let output = wanted_of(rt.alloc(), SCRIPT)?;
-    for writes in 0..output.len() {
+    let script = Script::of(rt.alloc(), EXAMPLE)?;
+    for writes in 0..script.wanted.len() {
         assert!(rt;
-            fails_to_write(&rt, rt.alloc(), &input, &output, writes),
+            fails_to_write(&rt, rt.alloc(), &script, writes),
             "at {writes}"
         );
     }
@@ -322,42 +300,34 @@ fn each_write_fails(rt: HostRuntime) -> Result<(), Fail> {
 // Many lines are read at once, so the next are heard while some are answered.
 #[test]
 fn a_write_fails_among_many_lines(rt: HostRuntime) -> Result<(), Fail> {
-    let input = delays_input(rt.alloc())?;
-    let output = delays_wanted(rt.alloc())?;
+    let script = delays(rt.alloc())?;
     let reach = Reach {
         step: MANY,
         taken: MANY,
         writes: 12_345,
         ..FAR
     };
-    let ran = run_through(&rt, rt.alloc(), &input, Vec::new(rt.alloc()), reach);
-    assert!(rt; is_failed(&ran, RunFault::Write, first_lines(&output, 12_345)));
+    let ran = run_through(&rt, rt.alloc(), &script.input, Vec::new(rt.alloc()), reach);
+    assert!(rt; is_failed(&ran, RunFault::Write, first_lines(&script.wanted, 12_345)));
     assert_eq!(rt; ran.entries, 12_346);
     Ok(())
 }
 
 // Whether a flush that fails comes behind as many reads, and behind the answers to the lines that they gave.
-fn fails_to_flush(
-    rt: &impl Threads,
-    alloc: Global,
-    input: &[u8],
-    output: &[u8],
-    flushes: usize,
-) -> bool {
+fn fails_to_flush(rt: &impl Threads, alloc: Global, script: &Script, flushes: usize) -> bool {
     let reach = Reach { flushes, ..FAR };
-    let ran = run_through(rt, alloc, input, Vec::new(alloc), reach);
-    let answers = answers_to_first(input, output, flushes.saturating_mul(FAR.step));
+    let ran = run_through(rt, alloc, &script.input, Vec::new(alloc), reach);
+    let answers = answers_to_first(script, flushes.saturating_mul(FAR.step));
     is_failed(&ran, RunFault::Write, answers) && ran.reads.saturating_add(flushes) == MANY
 }
 
 // There is a flush before each read, one of which finds the end, and one behind them.
 #[test]
 fn each_flush_fails(rt: HostRuntime) -> Result<(), Fail> {
-    let input = input_of(rt.alloc(), SCRIPT)?;
-    let output = wanted_of(rt.alloc(), SCRIPT)?;
-    for flushes in 0..=input.len().div_ceil(FAR.step).saturating_add(1) {
+    let script = Script::of(rt.alloc(), EXAMPLE)?;
+    for flushes in 0..=script.input.len().div_ceil(FAR.step).saturating_add(1) {
         assert!(rt;
-            fails_to_flush(&rt, rt.alloc(), &input, &output, flushes),
+            fails_to_flush(&rt, rt.alloc(), &script, flushes),
             "at {flushes}"
         );
     }
@@ -372,15 +342,14 @@ fn ran_within(
     rt: &impl Threads,
     alloc: Global,
     ballast: &mut Ballast,
-    input: &[u8],
-    size: usize,
+    script: &Script,
     left: usize,
 ) -> Result<Ran, Fail> {
     let held: Vec<u8> = Vec::with_capacity(alloc, HELD)?;
-    let page = Vec::with_capacity(alloc, size)?;
+    let page = Vec::with_capacity(alloc, script.wanted.len())?;
     ballast.leave(left)?;
     drop(held);
-    let ran = run_through(rt, alloc, input, page, FAR);
+    let ran = run_through(rt, alloc, &script.input, page, FAR);
     ballast.ease();
     Ok(ran)
 }
@@ -390,15 +359,14 @@ fn is_enough(
     rt: &impl Threads,
     alloc: Global,
     ballast: &mut Ballast,
-    input: &[u8],
-    output: &[u8],
+    script: &Script,
     left: usize,
 ) -> Result<bool, Fail> {
-    let ran = ran_within(rt, alloc, ballast, input, output.len(), left)?;
-    if is_whole(&ran, output) {
+    let ran = ran_within(rt, alloc, ballast, script, left)?;
+    if is_whole(&ran, &script.wanted) {
         return Ok(true);
     }
-    if ran.told == Err(RunFault::Memory) && is_front(&ran, output) {
+    if ran.told == Err(RunFault::Memory) && is_front(&ran, &script.wanted) {
         Ok(false)
     } else {
         Err(Fail::new("another end"))
@@ -406,15 +374,10 @@ fn is_enough(
 }
 
 // How many budgets aren't enough, each of 64 bytes more than the one before.
-fn count_budgets(
-    rt: &impl Threads,
-    alloc: Global,
-    input: &[u8],
-    output: &[u8],
-) -> Result<usize, Fail> {
+fn count_budgets(rt: &impl Threads, alloc: Global, script: &Script) -> Result<usize, Fail> {
     let mut ballast = Ballast::new(alloc)?;
     for step in 0..20_000usize {
-        if is_enough(rt, alloc, &mut ballast, input, output, step * 64)? {
+        if is_enough(rt, alloc, &mut ballast, script, step * 64)? {
             return Ok(step);
         }
     }
@@ -423,9 +386,8 @@ fn count_budgets(
 
 #[test]
 fn each_growth_of_a_run_is_refused_in_turn(rt: HostRuntime) -> Result<(), Fail> {
-    let input = input_of(rt.alloc(), SCRIPT)?;
-    let output = wanted_of(rt.alloc(), SCRIPT)?;
-    let budgets = count_budgets(&rt, rt.alloc(), &input, &output)?;
+    let script = Script::of(rt.alloc(), EXAMPLE)?;
+    let budgets = count_budgets(&rt, rt.alloc(), &script)?;
     assert!(rt; budgets > 300, "{budgets}");
     Ok(())
 }

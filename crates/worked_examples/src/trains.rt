@@ -1,16 +1,9 @@
-use crate::play::{ANSWERED, BOTH_DEPARTED, DEPARTED, OFFERED, plays};
-use std::test::Fail;
+use crate::play::{ANSWERED, BOTH_DEPARTED, DEPARTED, OFFERED};
 
 const NOT_OFFERED: &str = r#"{"from":"R100","kind":"ask","wagon":"218124712173"}
 > {"record":{"commit":"2025-03-01T15:30Z","consignment":"C-1","estimates":[{"at":"2025-03-01T11:00Z","leg":0},{"at":"2025-03-01T15:00Z","leg":1}],"eta":"2025-03-01T15:00Z","events":[{"by":"R100","kind":"plan","no":1},{"at":"2025-03-01T05:30Z","by":"R100","kind":"release","no":2},{"at":"2025-03-01T06:00Z","by":"R101","kind":"depart","no":1},{"at":"2025-03-01T10:40Z","by":"R101","kind":"yard_in","no":2,"place":"AT00002"}],"late":false,"lead":"R100","leg":0,"load":"loaded","place":"AT00002","responsible":"R101","stage":"in_yard","status":"loaded_on_journey","wagon":"218124712173"},"reply":"record"}
 {"from":"R100","kind":"ask","wagon":"338478961232"}
 > {"record":{"commit":"2025-03-01T15:30Z","consignment":"C-1","estimates":[{"at":"2025-03-01T11:00Z","leg":0},{"at":"2025-03-01T15:00Z","leg":1}],"eta":"2025-03-01T15:00Z","events":[{"by":"R100","kind":"plan","no":1},{"at":"2025-03-01T05:30Z","by":"R100","kind":"release","no":3},{"at":"2025-03-01T06:00Z","by":"R101","kind":"depart","no":3}],"late":false,"lead":"R100","leg":0,"load":"loaded","place":null,"responsible":"R101","stage":"running","status":"loaded_on_journey","wagon":"338478961232"},"reply":"record"}"#;
-
-#[test]
-fn an_offer_is_made_for_all_wagons_or_none(rt: HostRuntime) -> Result<(), Fail> {
-    let example = [DEPARTED, BOTH_DEPARTED, NOT_OFFERED];
-    plays(&rt, rt.alloc(), &example)
-}
 
 /// After the interchange: the records of both wagons, and what each railway was sent.
 pub(crate) const AFTER_INTERCHANGE: &str = r#"{"from":"R100","kind":"ask","wagon":"218124712173"}
@@ -26,18 +19,6 @@ pub(crate) const AFTER_INTERCHANGE: &str = r#"{"from":"R100","kind":"ask","wagon
 {"from":"I300","kind":"fetch","limit":50}
 > {"items":[{"at":"2025-03-01T11:10Z","from":"R102","item":1,"offer":6,"offerer":"R101","type":"sub","wagons":["218124712173"]}],"reply":"items"}"#;
 
-#[test]
-fn an_answer_receives_and_refuses(rt: HostRuntime) -> Result<(), Fail> {
-    let example = [
-        DEPARTED,
-        BOTH_DEPARTED,
-        OFFERED,
-        ANSWERED,
-        AFTER_INTERCHANGE,
-    ];
-    plays(&rt, rt.alloc(), &example)
-}
-
 // Together the lists name each wagon once, or the offer stands.
 const LISTS: &str =
     r#"{"at":"2025-03-01T11:10Z","from":"R102","kind":"answer","no":1,"offer":6,"offerer":"R101","received":["218124712173","338478961232"],"refused":["338478961232"]}
@@ -48,12 +29,6 @@ const LISTS: &str =
 > {"no":3,"reply":"accepted"}
 {"from":"R102","kind":"ask","wagon":"338478961232"}
 > {"record":{"commit":"2025-03-01T15:30Z","consignment":"C-1","estimates":[{"at":"2025-03-01T15:10Z","leg":1}],"eta":"2025-03-01T15:10Z","events":[{"by":"R100","kind":"plan","no":1},{"at":"2025-03-01T05:30Z","by":"R100","kind":"release","no":3},{"at":"2025-03-01T06:00Z","by":"R101","kind":"depart","no":3},{"at":"2025-03-01T10:45Z","by":"R101","kind":"yard_in","no":5,"place":"AT00002"},{"at":"2025-03-01T10:50Z","by":"R101","kind":"offer","no":6,"place":"AT00002"},{"at":"2025-03-01T11:10Z","by":"R102","kind":"answer","no":3,"received":true}],"late":false,"lead":"R100","leg":1,"load":"loaded","place":"AT00002","responsible":"R102","stage":"in_yard","status":"loaded_on_journey","wagon":"338478961232"},"reply":"record"}"#;
-
-#[test]
-fn an_answer_to_other_wagons(rt: HostRuntime) -> Result<(), Fail> {
-    let example = [DEPARTED, BOTH_DEPARTED, OFFERED, LISTS];
-    plays(&rt, rt.alloc(), &example)
-}
 
 const WITHDRAWN: &str =
     r#"{"at":"2025-03-01T11:00Z","from":"R101","kind":"withdraw","no":7,"offer":6}
@@ -68,12 +43,6 @@ const WITHDRAWN: &str =
 > {"no":9,"reply":"refused","why":"unknown_offer"}
 {"at":"2025-03-01T11:10Z","from":"R102","kind":"answer","no":1,"offer":6,"offerer":"R101","received":["218124712173","338478961232"],"refused":[]}
 > {"no":1,"reply":"refused","why":"offer_closed"}"#;
-
-#[test]
-fn an_offer_is_withdrawn(rt: HostRuntime) -> Result<(), Fail> {
-    let example = [DEPARTED, BOTH_DEPARTED, OFFERED, WITHDRAWN];
-    plays(&rt, rt.alloc(), &example)
-}
 
 const DELIVERED: &str =
     r#"{"at":"2025-03-01T11:30Z","from":"R102","kind":"yard_out","no":3,"place":"AT00009","wagon":"218124712173"}
@@ -95,8 +64,31 @@ const DELIVERED: &str =
 {"from":"R100","kind":"ask","wagon":"218124712173"}
 > {"record":{"commit":"2025-03-01T15:30Z","consignment":"C-2","estimates":[],"eta":null,"events":[{"by":"R100","kind":"plan","no":6}],"late":false,"lead":"R100","leg":0,"load":"loaded","place":"DE00001","responsible":null,"stage":"planned","status":"loading","wagon":"218124712173"},"reply":"record"}"#;
 
-#[test]
-fn a_wagon_is_delivered_and_planned_anew(rt: HostRuntime) -> Result<(), Fail> {
-    let example = [DEPARTED, BOTH_DEPARTED, OFFERED, ANSWERED, DELIVERED];
-    plays(&rt, rt.alloc(), &example)
-}
+pub(crate) const EXAMPLES: &[(&str, &[&str])] = &[
+    (
+        "an offer is made for all wagons or none",
+        &[DEPARTED, BOTH_DEPARTED, NOT_OFFERED],
+    ),
+    (
+        "an answer receives and refuses",
+        &[
+            DEPARTED,
+            BOTH_DEPARTED,
+            OFFERED,
+            ANSWERED,
+            AFTER_INTERCHANGE,
+        ],
+    ),
+    (
+        "an answer to other wagons",
+        &[DEPARTED, BOTH_DEPARTED, OFFERED, LISTS],
+    ),
+    (
+        "an offer is withdrawn",
+        &[DEPARTED, BOTH_DEPARTED, OFFERED, WITHDRAWN],
+    ),
+    (
+        "a wagon is delivered and planned anew",
+        &[DEPARTED, BOTH_DEPARTED, OFFERED, ANSWERED, DELIVERED],
+    ),
+];
