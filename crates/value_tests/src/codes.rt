@@ -5,79 +5,95 @@ use taf_codes::{
     BadCode, ConsignmentId, Failed, Failures, Memory, Place, Railway, TrainId, UnitCode, UnitFault,
 };
 
+const RAILWAYS: [&str; 3] = ["R101", "0080", "ZZ9A"];
+
+const NO_RAILWAYS: [&str; 8] = [
+    "",
+    "ABC",
+    "ABCDE",
+    "r101",
+    "R-10",
+    "ABC ",
+    "ÄBC",
+    "AB\u{661}",
+];
+
 #[test]
 fn railways(rt: HostRuntime) -> Result<(), Fail> {
-    for text in ["R101", "0080", "ZZ9A"] {
+    for text in RAILWAYS {
         let railway = Railway::read(text)?;
         assert_eq!(rt; railway.as_str(), text);
     }
-    for text in [
-        "",
-        "ABC",
-        "ABCDE",
-        "r101",
-        "R-10",
-        "ABC ",
-        "ÄBC",
-        "AB\u{661}",
-    ] {
+    for text in NO_RAILWAYS {
         assert_eq!(rt; Railway::read(text), Err(BadCode), "at {text}");
     }
     Ok(())
 }
 
+const PLACES: [&str; 3] = ["IT00003", "DE12345", "AZ99999"];
+
+const NO_PLACES: [&str; 8] = [
+    "", "IT0000", "IT000033", "it00003", "IT000A3", "I000003", "ITA0003", "Ä00003",
+];
+
 #[test]
 fn places(rt: HostRuntime) -> Result<(), Fail> {
-    for text in ["IT00003", "DE12345", "AZ99999"] {
+    for text in PLACES {
         let place = Place::read(text)?;
         assert_eq!(rt; place.as_str(), text);
     }
-    for text in [
-        "", "IT0000", "IT000033", "it00003", "IT000A3", "I000003", "ITA0003", "Ä00003",
-    ] {
+    for text in NO_PLACES {
         assert_eq!(rt; Place::read(text), Err(BadCode), "at {text}");
     }
     Ok(())
 }
 
+const UNITS: [&str; 2] = ["CSQU3054383", "AAAU0000060"];
+
+const NO_UNITS: [(&str, UnitFault); 8] = [
+    ("CSQU3054384", UnitFault::BadUnitDigit),
+    ("AAAU000006A", UnitFault::NotAUnitCode),
+    ("CSQ3054383", UnitFault::NotAUnitCode),
+    ("CSQU30543833", UnitFault::NotAUnitCode),
+    ("csqu3054383", UnitFault::NotAUnitCode),
+    ("CSQ33054383", UnitFault::NotAUnitCode),
+    ("", UnitFault::NotAUnitCode),
+    ("ÄSQ3054383", UnitFault::NotAUnitCode),
+];
+
 #[test]
 fn units(rt: HostRuntime) -> Result<(), Fail> {
-    for text in ["CSQU3054383", "AAAU0000060"] {
+    for text in UNITS {
         let unit = UnitCode::read(text)?;
         assert_eq!(rt; unit.as_str(), text);
     }
-    for (text, fault) in [
-        ("CSQU3054384", UnitFault::BadUnitDigit),
-        ("AAAU000006A", UnitFault::NotAUnitCode),
-        ("CSQ3054383", UnitFault::NotAUnitCode),
-        ("CSQU30543833", UnitFault::NotAUnitCode),
-        ("csqu3054383", UnitFault::NotAUnitCode),
-        ("CSQ33054383", UnitFault::NotAUnitCode),
-        ("", UnitFault::NotAUnitCode),
-        ("ÄSQ3054383", UnitFault::NotAUnitCode),
-    ] {
+    for (text, fault) in NO_UNITS {
         assert_eq!(rt; UnitCode::read(text), Err(fault), "at {text}");
     }
     Ok(())
 }
 
+const NAMES: [&str; 4] = ["W", "CIM-2024-17", "-", "A2345678901234567890"];
+
+const NO_NAMES: [&str; 7] = [
+    "",
+    "A23456789012345678901",
+    "cim",
+    "CIM 17",
+    "CIM_17",
+    "Ä",
+    "W\0",
+];
+
 #[test]
 fn names(rt: HostRuntime) -> Result<(), Fail> {
-    for text in ["W", "CIM-2024-17", "-", "A2345678901234567890"] {
+    for text in NAMES {
         let consignment = ConsignmentId::read(text)?;
         assert_eq!(rt; consignment.as_str(), text);
         let train = TrainId::read(text)?;
         assert_eq!(rt; train.as_str(), text);
     }
-    for text in [
-        "",
-        "A23456789012345678901",
-        "cim",
-        "CIM 17",
-        "CIM_17",
-        "Ä",
-        "W\0",
-    ] {
+    for text in NO_NAMES {
         assert_eq!(rt; ConsignmentId::read(text), Err(BadCode), "at {text}");
         assert_eq!(rt; TrainId::read(text), Err(BadCode), "at {text}");
     }

@@ -1,51 +1,53 @@
 use std::test::Fail;
 use taf_moment::{BadMoment, Moment};
 
+const MOMENTS: [(&str, u32); 6] = [
+    ("1970-01-01T00:00Z", 0),
+    ("1972-02-29T12:34Z", 1_136_914),
+    ("2000-02-29T23:59Z", 15_864_479),
+    ("2025-03-01T06:00Z", 29_013_480),
+    ("2100-02-28T00:00Z", 68_457_600),
+    ("2199-12-31T23:59Z", 120_968_639),
+];
+
 #[test]
 fn moments_are_read_and_printed(rt: HostRuntime) -> Result<(), Fail> {
-    let table = [
-        ("1970-01-01T00:00Z", 0),
-        ("1972-02-29T12:34Z", 1_136_914),
-        ("2000-02-29T23:59Z", 15_864_479),
-        ("2025-03-01T06:00Z", 29_013_480),
-        ("2100-02-28T00:00Z", 68_457_600),
-        ("2199-12-31T23:59Z", 120_968_639),
-    ];
-    for (text, minutes) in table {
+    for (text, minutes) in MOMENTS {
         let moment = Moment::read(text)?;
         assert_eq!(rt; moment.minutes(), minutes, "at {text}");
         assert_eq!(rt; Moment::from_minutes(minutes), Some(moment));
         assert_eq!(rt; moment.text().as_str(), text);
-        assert_eq!(rt; format!(in rt.alloc(); "{moment}")?.as_str(), text);
+        assert_eq!(rt; moment.to_string(rt.alloc())?.as_str(), text);
     }
     Ok(())
 }
 
+const NO_MOMENTS: [&str; 20] = [
+    "2025-02-29T00:00Z",
+    "2100-02-29T00:00Z",
+    "2025-04-31T00:00Z",
+    "2025-13-01T00:00Z",
+    "2025-00-01T00:00Z",
+    "2025-01-00T00:00Z",
+    "2025-01-01T24:00Z",
+    "2025-01-01T00:60Z",
+    "1969-12-31T23:59Z",
+    "2200-01-01T00:00Z",
+    "2025-03-01t06:00Z",
+    "2025-03-01T06:00z",
+    "2025-03-01T06:00:00Z",
+    "2025-03-01T06:00Z ",
+    "2025-03-01 06:00Z",
+    "2025-03-01T06:00",
+    "+025-03-01T06:00Z",
+    "2５-03-01T06:00Z",
+    "٢٠-03-01T06:00Z",
+    "",
+];
+
 #[test]
 fn other_texts_are_refused(rt: HostRuntime) {
-    let texts = [
-        "2025-02-29T00:00Z",
-        "2100-02-29T00:00Z",
-        "2025-04-31T00:00Z",
-        "2025-13-01T00:00Z",
-        "2025-00-01T00:00Z",
-        "2025-01-00T00:00Z",
-        "2025-01-01T24:00Z",
-        "2025-01-01T00:60Z",
-        "1969-12-31T23:59Z",
-        "2200-01-01T00:00Z",
-        "2025-03-01t06:00Z",
-        "2025-03-01T06:00z",
-        "2025-03-01T06:00:00Z",
-        "2025-03-01T06:00Z ",
-        "2025-03-01 06:00Z",
-        "2025-03-01T06:00",
-        "+025-03-01T06:00Z",
-        "2５-03-01T06:00Z",
-        "٢٠-03-01T06:00Z",
-        "",
-    ];
-    for text in texts {
+    for text in NO_MOMENTS {
         assert_eq!(rt; Moment::read(text), Err(BadMoment), "at {text}");
     }
 }
@@ -64,7 +66,7 @@ fn minutes_are_added(rt: HostRuntime) -> Result<(), Fail> {
 
 #[test]
 fn the_fault_has_a_text(rt: HostRuntime) -> Result<(), Fail> {
-    let text = format!(in rt.alloc(); "{BadMoment}")?;
+    let text = BadMoment.to_string(rt.alloc())?;
     assert_eq!(rt; text.as_str(), "not a moment of the form YYYY-MM-DDThh:mmZ");
     Ok(())
 }

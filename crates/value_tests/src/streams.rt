@@ -66,18 +66,24 @@ impl Write for Frail {
     }
 }
 
+const PULLED: [Result<usize, Failed>; 4] = [Ok(1), Err(Failed), Ok(0), Ok(1)];
+
+const PUSHED: [Result<usize, Failed>; 4] = [Ok(1), Err(Failed), Err(Failed), Ok(1)];
+
+const FLUSHED: [Result<(), Failed>; 3] = [Ok(()), Err(Failed), Ok(())];
+
 #[test]
 fn std_fails_where_its_reader_or_writer_does(rt: HostRuntime) {
     let mut reader = Std::new(Frail { calls: 0 });
-    for count in [Ok(1), Err(Failed), Ok(0), Ok(1)] {
+    for count in PULLED {
         assert_eq!(rt; reader.pull(&mut [0; 2]), count);
     }
     let mut writer = Std::new(Frail { calls: 0 });
-    for count in [Ok(1), Err(Failed), Err(Failed), Ok(1)] {
+    for count in PUSHED {
         assert_eq!(rt; writer.push(b"ab"), count);
     }
     let mut writer = Std::new(Frail { calls: 0 });
-    for done in [Ok(()), Err(Failed), Ok(())] {
+    for done in FLUSHED {
         assert_eq!(rt; writer.flush(), done);
     }
 }

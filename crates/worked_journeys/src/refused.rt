@@ -21,7 +21,7 @@ const LINES: [&str; 5] = [
     "R102 1 11:10 receive AT00002",
 ];
 
-const LEGS: [&str; 2] = ["R101:DE00001:AT00002:300", "R102:AT00002:IT00003:240"];
+const LEGS: &str = "R101:DE00001:AT00002:300 R102:AT00002:IT00003:240";
 
 // So many bytes as no track and no record of these lines need.
 const AMPLE: usize = 1 << 16;
@@ -48,7 +48,7 @@ impl Scarcity {
             return Ok(track);
         }
         self.end();
-        let again = planned(alloc, Load::Loaded, &[one], &LEGS)?;
+        let again = planned(alloc, Load::Loaded, &[one], LEGS)?;
         Ok(Track::open(alloc, one, again)?)
     }
 
@@ -90,12 +90,14 @@ impl Scarcity {
 
     // The track of the journey, where so many bytes are left for it.
     fn track(&mut self, alloc: Global, left: usize) -> Result<Track, Fail> {
-        let plan = planned(alloc, Load::Loaded, &[wagon("218124712173")?], &LEGS)?;
+        let plan = planned(alloc, Load::Loaded, &[wagon("218124712173")?], LEGS)?;
         let mut events = last_first(alloc)?;
         self.ballast.leave(left)?;
         let mut track = self.open(alloc, plan)?;
         for line in LINES {
-            let next = events.pop().ok_or_else(|| Fail::new("no event"))?;
+            let Some(next) = events.pop() else {
+                return Err(Fail::new("no event"));
+            };
             self.add(alloc, &mut track, next, line)?;
         }
         self.ballast.ease();

@@ -7,6 +7,7 @@ ghost use Rattle.journey.specs.Stages.{is_plan};
 use eti_chain::{Anchored, Estimates};
 use journey::{Event, EventBody, Prepared, Track};
 use std::alloc::Global;
+use std::fmt::Write;
 use std::test::Fail;
 use taf_codes::{ConsignmentId, Place, Railway};
 use taf_messages::{MovementKind, Record, Within};
@@ -27,42 +28,53 @@ pub(crate) fn moment(alloc: Global, text: &str) -> Result<Moment, Fail> {
     if text.len() > 5 {
         return Ok(Moment::read(text)?);
     }
-    let text = format!(in alloc; "2025-03-01T{text}Z")?;
-    Ok(Moment::read(&text)?)
+    let whole = ["2025-03-01T", text, "Z"].concat(alloc)?;
+    Ok(Moment::read(&whole)?)
 }
 
 pub(crate) fn wagon(text: &str) -> Result<WagonNumber, Fail> {
     Ok(WagonNumber::read(text)?)
 }
 
+fn place(text: &str) -> Result<Place, Fail> {
+    Ok(Place::read(text)?)
+}
+
+// What stands before the first of these characters, and what behind it.
+fn parts(text: &str, between: char) -> Result<(&str, &str), Fail> {
+    match text.split_once(between) {
+        Some(parts) => Ok(parts),
+        None => Err(Fail::new(text)),
+    }
+}
+
 /// A leg that is written as its railway, origin, target and minutes, with colons between.
-pub(crate) fn leg(alloc: Global, text: &str) -> Result<Leg, Fail> {
-    let parts: Vec<&str> = text.split(':').collect(alloc)?;
-    let [ru, origin, target, minutes] = *parts.as_slice() else {
-        return Err(Fail::new("no leg"));
-    };
+pub(crate) fn leg(text: &str) -> Result<Leg, Fail> {
+    let (ru, rest) = parts(text, ':')?;
+    let (origin, rest) = parts(rest, ':')?;
+    let (target, minutes) = parts(rest, ':')?;
     Ok(Leg {
         ru: Railway::read(ru)?,
-        origin: Place::read(origin)?,
-        target: Place::read(target)?,
+        origin: place(origin)?,
+        target: place(target)?,
         minutes: minutes.parse::<u32>()?,
     })
 }
 
-pub(crate) fn legs(alloc: Global, texts: &[&str]) -> Result<Vec<Leg>, Fail> {
+fn legs(alloc: Global, texts: &str) -> Result<Vec<Leg>, Fail> {
     let mut legs = Vec::new(alloc);
-    for text in texts {
-        legs.push(leg(alloc, text)?)?;
+    for text in texts.split(' ') {
+        legs.push(leg(text)?)?;
     }
     Ok(legs)
 }
 
-/// The share of a plan by R100 for the consignment C-1, to be there by 15:30.
+/// The share of a plan by R100 for the consignment C-1, to be there by 15:30, over these legs.
 pub(crate) fn planned(
     alloc: Global,
     load: Load,
     wagons: &[WagonNumber],
-    route: &[&str],
+    route: &str,
 ) -> Result<Event, Fail>
     ensures { IfOk result (λ e. is_plan e.body ≡ true) }
 {
@@ -80,104 +92,92 @@ pub(crate) fn planned(
     })
 }
 
-fn word<'a>(words: &[&'a str], i: usize) -> Result<&'a str, Fail> {
-    words
-        .get(i)
-        .copied()
-        .ok_or_else(|| Fail::new("a word is missing"))
-}
-
-fn place(words: &[&str], i: usize) -> Result<Place, Fail> {
-    Ok(Place::read(word(words, i)?)?)
-}
-
-fn railway(words: &[&str], i: usize) -> Result<Railway, Fail> {
-    Ok(Railway::read(word(words, i)?)?)
-}
-
-fn time(alloc: Global, words: &[&str], i: usize) -> Result<Option<Moment>, Fail> {
-    match word(words, i)? {
-        "-" => Ok(None),
-        text => Ok(Some(moment(alloc, text)?)),
-    }
-}
-
 /// The event that a line says.
 pub(crate) fn event(alloc: Global, line: &str) -> Result<Event, Fail> {
-    let words: Vec<&str> = line.split(' ').collect(alloc)?;
-    let by = railway(&words, 0)?;
-    let no = number(word(&words, 1)?)?;
-    let at = time(alloc, &words, 2)?;
-    let kind = word(&words, 3)?;
-    let fields = words.get(4..).ok_or_else(|| Fail::new("no kind"))?;
+    let (by, rest) = parts(line, ' ')?;
+    let (no, rest) = parts(rest, ' ')?;
+    let (at, rest) = parts(rest, ' ')?;
+    let (kind, fields) = rest.split_once(' ').unwrap_or((rest, ""));
+    let by = Railway::read(by)?;
+    let no = number(no)?;
+    let at = time(alloc, at)?;
     let body = body(alloc, kind, fields)?;
     Ok(Event { by, no, at, body })
 }
 
-fn body(alloc: Global, kind: &str, fields: &[&str]) -> Result<EventBody, Fail> {
-    Ok(match kind {
-        "eti_ask" => EventBody::EstimateAsked,
-        "leg_time" => leg_time(fields)?,
-        "offer" => offer(fields)?,
-        "receive" => answer(fields, true)?,
-        "refuse" => answer(fields, false)?,
-        "withdraw" => withdrawal(fields)?,
-        "reroute" => reroute(alloc, fields)?,
-        _ => EventBody::Moved(movement(kind, fields)?),
-    })
+fn time(alloc: Global, text: &str) -> Result<Option<Moment>, Fail> {
+    if text == "-" {
+        return Ok(None);
+    }
+    Ok(Some(moment(alloc, text)?))
 }
 
-fn leg_time(fields: &[&str]) -> Result<EventBody, Fail> {
-    let leg = number(word(fields, 0)?)?;
-    let minutes = number(word(fields, 1)?)?;
+fn body(alloc: Global, kind: &str, fields: &str) -> Result<EventBody, Fail> {
+    match kind {
+        "eti_ask" => Ok(EventBody::EstimateAsked),
+        "leg_time" => leg_time(fields),
+        "offer" => offer(fields),
+        "receive" => answer(fields, true),
+        "refuse" => answer(fields, false),
+        "withdraw" => withdrawal(fields),
+        "reroute" => reroute(alloc, fields),
+        _ => Ok(EventBody::Moved(movement(kind, fields)?)),
+    }
+}
+
+fn leg_time(fields: &str) -> Result<EventBody, Fail> {
+    let (leg, minutes) = parts(fields, ' ')?;
+    let leg = number(leg)?;
+    let minutes = number(minutes)?;
     Ok(EventBody::LegTimed { leg, minutes })
 }
 
-fn offer(fields: &[&str]) -> Result<EventBody, Fail> {
-    let place = place(fields, 0)?;
-    let to = railway(fields, 1)?;
+fn offer(fields: &str) -> Result<EventBody, Fail> {
+    let (at, to) = parts(fields, ' ')?;
+    let place = place(at)?;
+    let to = Railway::read(to)?;
     Ok(EventBody::Offered { place, to })
 }
 
-fn answer(fields: &[&str], received: bool) -> Result<EventBody, Fail> {
-    let place = place(fields, 0)?;
+fn answer(at: &str, received: bool) -> Result<EventBody, Fail> {
+    let place = place(at)?;
     Ok(EventBody::Answered { place, received })
 }
 
-fn withdrawal(fields: &[&str]) -> Result<EventBody, Fail> {
-    let place = place(fields, 0)?;
+fn withdrawal(at: &str) -> Result<EventBody, Fail> {
+    let place = place(at)?;
     Ok(EventBody::Withdrawn { place })
 }
 
-fn reroute(alloc: Global, fields: &[&str]) -> Result<EventBody, Fail> {
+fn reroute(alloc: Global, fields: &str) -> Result<EventBody, Fail> {
     let legs = legs(alloc, fields)?;
     Ok(EventBody::Rerouted(Route::new(alloc, &legs)?))
 }
 
-fn movement(kind: &str, fields: &[&str]) -> Result<MovementKind, Fail> {
+fn movement(kind: &str, field: &str) -> Result<MovementKind, Fail> {
     match kind {
         "release" => Ok(MovementKind::Release),
         "depart" => Ok(MovementKind::Departure),
         "eti" => Ok(MovementKind::Estimate),
         "arrival" => Ok(MovementKind::Arrival),
         "delivery" => Ok(MovementKind::Delivery),
-        _ => movement_with_field(kind, fields),
+        "exception" => exception(field),
+        _ => at_yard(kind, field),
     }
 }
 
-fn movement_with_field(kind: &str, fields: &[&str]) -> Result<MovementKind, Fail> {
-    Ok(match kind {
-        "yard_in" => MovementKind::YardArrival {
-            place: place(fields, 0)?,
-        },
-        "yard_out" => MovementKind::YardDeparture {
-            place: place(fields, 0)?,
-        },
-        "exception" => MovementKind::Exception {
-            delay: number(word(fields, 0)?)?,
-        },
-        _ => return Err(Fail::new("no such kind")),
-    })
+fn exception(delay: &str) -> Result<MovementKind, Fail> {
+    let delay = number(delay)?;
+    Ok(MovementKind::Exception { delay })
+}
+
+fn at_yard(kind: &str, at: &str) -> Result<MovementKind, Fail> {
+    let place = place(at)?;
+    match kind {
+        "yard_in" => Ok(MovementKind::YardArrival { place }),
+        "yard_out" => Ok(MovementKind::YardDeparture { place }),
+        _ => Err(Fail::new("no such kind")),
+    }
 }
 
 /// A track with what is kept for its estimates.
@@ -216,7 +216,7 @@ impl Run {
             return Ok(format!(in alloc; "{why:?}")?);
         }
         if self.estimates().would_pass_calendar(&self.track, &event) {
-            return Ok(format!(in alloc; "BeyondCalendar")?);
+            return Ok("BeyondCalendar".to_string(alloc)?);
         }
         if !self.put(event.prepared(alloc)?)? {
             return Err(Fail::new("not as foretold"));
@@ -240,7 +240,9 @@ impl Run {
         lines: &str,
     ) -> Result<Option<String>, Fail> {
         for line in lines.lines() {
-            let (event, wanted) = line.split_once(" = ").ok_or_else(|| Fail::new(line))?;
+            let Some((event, wanted)) = line.split_once(" = ") else {
+                return Err(Fail::new(line));
+            };
             let seen = self.step(alloc, event)?;
             if seen.as_str() != wanted {
                 return Ok(Some(format!(in alloc; "{event}: {seen}")?));
@@ -272,10 +274,10 @@ impl Run {
     fn seen(&self, alloc: Global) -> Result<String, Fail> {
         let mut seen = self.seen_of_track(alloc)?;
         if let Some(at) = self.estimates().eta() {
-            seen.push_str(&format!(in alloc; " {at}")?)?;
+            write!(seen, " {at}")?;
         }
         if let Some(minutes) = self.estimates().late_by() {
-            seen.push_str(&format!(in alloc; " late by {minutes}")?)?;
+            write!(seen, " late by {minutes}")?;
         }
         Ok(seen)
     }
@@ -284,11 +286,11 @@ impl Run {
         let stage = self.track.stage();
         let mut seen = format!(in alloc; "{stage:?} {}", self.track.leg_index())?;
         match self.track.place() {
-            Some(place) => seen.push_str(&format!(in alloc; " {place}")?)?,
+            Some(place) => write!(seen, " {place}")?,
             None => seen.push_str(" -------")?,
         }
         match self.track.responsible() {
-            Some(railway) => seen.push_str(&format!(in alloc; " {railway}")?)?,
+            Some(railway) => write!(seen, " {railway}")?,
             None => seen.push_str(" ----")?,
         }
         Ok(seen)

@@ -10,12 +10,12 @@ use taf_moment::Moment;
 use trip_plan::Load;
 use wimo::may_see;
 
-const LEGS: [&str; 2] = ["R101:DE00001:AT00002:300", "R102:AT00002:IT00003:240"];
+const LEGS: &str = "R101:DE00001:AT00002:300 R102:AT00002:IT00003:240";
 
 // A loaded wagon of two on both legs, which goes on with the events of these lines.
 fn two_legs(alloc: Global, lines: &str) -> Result<Run, Fail> {
     let wagons = [wagon("218124712173")?, wagon("338478961232")?];
-    let plan = planned(alloc, Load::Loaded, &wagons, &LEGS)?;
+    let plan = planned(alloc, Load::Loaded, &wagons, LEGS)?;
     let mut run = Run::open(alloc, wagons[0], plan)?;
     run.go_on(alloc, lines)?;
     Ok(run)
@@ -134,7 +134,7 @@ R201 8 11:20 delivery = WrongStage";
 
 fn empty_wagon(alloc: Global) -> Result<Run, Fail> {
     let empty = wagon("338478961232")?;
-    let plan = planned(alloc, Load::Empty, &[empty], &["R201:DE00001:AT00002:300"])?;
+    let plan = planned(alloc, Load::Empty, &[empty], "R201:DE00001:AT00002:300")?;
     Run::open(alloc, empty, plan)
 }
 
@@ -199,7 +199,7 @@ fn who_may_see(rt: HostRuntime) -> Result<(), Fail> {
 fn parts_of_a_track(rt: HostRuntime) -> Result<(), Fail> {
     let run = two_legs(rt.alloc(), DEPARTED)?;
     let track = &run.track;
-    let second = Some(leg(rt.alloc(), "R102:AT00002:IT00003:240")?);
+    let second = Some(leg("R102:AT00002:IT00003:240")?);
     assert_eq!(rt; track.wagon(), wagon("218124712173")?);
     assert_eq!(rt; track.plan().wagons().len(), 2);
     assert_eq!(rt; track.leg(1), second);
@@ -218,6 +218,50 @@ fn estimates_of_a_track(rt: HostRuntime) -> Result<(), Fail> {
         assert_eq!(rt; run.estimates().estimate(leg), at, "leg {leg}");
     }
     assert!(rt; !run.estimates().late());
+    Ok(())
+}
+
+// When the wagon is expected at the end of its legs, once the estimates of its track follow the event of a line.
+fn followed(alloc: Global, run: &Run, line: &str) -> Result<[Option<Moment>; 3], Fail> {
+    let next = event(alloc, line)?;
+    let mut estimates = run.estimates();
+    if run.track.admits(&next).is_some() || estimates.would_pass_calendar(&run.track, &next) {
+        return Err(Fail::new(line));
+    }
+    estimates.follow(&run.track, &next);
+    Ok([
+        estimates.estimate(0),
+        estimates.estimate(1),
+        estimates.estimate(2),
+    ])
+}
+
+// Up to a delay, and up to an estimate that is reported behind it.
+const DELAYED: &str = "R100 2 05:30 release
+R101 1 06:00 depart
+R101 2 07:00 exception 45";
+
+const REPORTED: &str = "R100 2 05:30 release
+R101 1 06:00 depart
+R101 2 07:00 exception 45
+R101 3 11:10 eti";
+
+// What comes before, an event, and when the wagon is expected then at the ends of its two legs.
+const FOLLOWED: [(&str, &str, &str, &str); 3] = [
+    (DEPARTED, "R101 2 07:00 exception 45", "11:45", "15:45"),
+    (DELAYED, "R101 3 11:10 eti", "11:10", "15:10"),
+    (REPORTED, "R101 4 11:00 exception 5", "11:15", "15:15"),
+];
+
+#[test]
+fn estimates_follow_an_event(rt: HostRuntime) -> Result<(), Fail> {
+    for (before, line, first, last) in FOLLOWED {
+        let run = two_legs(rt.alloc(), before)?;
+        let first = Some(moment(rt.alloc(), first)?);
+        let last = Some(moment(rt.alloc(), last)?);
+        let expected = followed(rt.alloc(), &run, line)?;
+        assert_eq!(rt; expected, [first, last, None], "{line}");
+    }
     Ok(())
 }
 
