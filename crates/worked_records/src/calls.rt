@@ -11,56 +11,82 @@ use taf_messages::{
 };
 use trip_plan::{Load, Plan, Route, UnitLoad};
 
-// Movements of the first wagon.
-const MOVEMENTS: &str =
-    r#"{"kind":"release","from":"R100","no":2,"wagon":"218124712173","at":"2025-03-01T05:30Z"}
-{"kind":"depart","from":"R101","no":1,"wagon":"218124712173","at":"2025-03-01T06:00Z"}
-{"kind":"eti","from":"R101","no":3,"wagon":"218124712173","at":"2025-03-01T11:10Z"}
-{"kind":"arrival","from":"R102","no":5,"wagon":"218124712173","at":"2025-03-01T15:00Z"}
-{"kind":"delivery","from":"R102","no":6,"wagon":"218124712173","at":"2025-03-01T15:20Z"}
-{"kind":"yard_in","from":"R101","no":2,"wagon":"218124712173","at":"2025-03-01T10:40Z","place":"AT00002"}
-{"kind":"yard_out","from":"R102","no":4,"wagon":"218124712173","at":"2025-03-01T11:30Z","place":"AT00002"}
-{"kind":"exception","from":"R101","no":2,"wagon":"218124712173","at":"2025-03-01T07:00Z","delay":45}"#;
+// Lines of movements, and what they say.
+const MOVEMENTS: [(&str, &str, u64, &str, MovementKind); 5] = [
+    (
+        r#"{"kind":"release","from":"R100","no":2,"wagon":"218124712173","at":"2025-03-01T05:30Z"}"#,
+        "R100",
+        2,
+        "2025-03-01T05:30Z",
+        MovementKind::Release,
+    ),
+    (
+        r#"{"kind":"depart","from":"R101","no":1,"wagon":"218124712173","at":"2025-03-01T06:00Z"}"#,
+        "R101",
+        1,
+        "2025-03-01T06:00Z",
+        MovementKind::Departure,
+    ),
+    (
+        r#"{"kind":"eti","from":"R101","no":3,"wagon":"218124712173","at":"2025-03-01T11:10Z"}"#,
+        "R101",
+        3,
+        "2025-03-01T11:10Z",
+        MovementKind::Estimate,
+    ),
+    (
+        r#"{"kind":"arrival","from":"R102","no":5,"wagon":"218124712173","at":"2025-03-01T15:00Z"}"#,
+        "R102",
+        5,
+        "2025-03-01T15:00Z",
+        MovementKind::Arrival,
+    ),
+    (
+        r#"{"kind":"delivery","from":"R102","no":6,"wagon":"218124712173","at":"2025-03-01T15:20Z"}"#,
+        "R102",
+        6,
+        "2025-03-01T15:20Z",
+        MovementKind::Delivery,
+    ),
+];
+
+// A movement of the first wagon.
+fn moved(alloc: Global, by: &str, no: u64, at: &str, what: MovementKind) -> Result<Call, Fail> {
+    let wagon = wagon(ONE)?;
+    let at = moment(at)?;
+    send(alloc, by, no, Body::Movement(Movement { wagon, at, what }))
+}
 
 #[test]
 fn movements(rt: HostRuntime) -> Result<(), Fail> {
-    let wagon = wagon(ONE)?;
-    let place = place("AT00002")?;
-    let delay = within(45)?;
-    let mut lines = MOVEMENTS.lines();
-    for (by, no, at, what) in [
-        ("R100", 2, "2025-03-01T05:30Z", MovementKind::Release),
-        ("R101", 1, "2025-03-01T06:00Z", MovementKind::Departure),
-        ("R101", 3, "2025-03-01T11:10Z", MovementKind::Estimate),
-        ("R102", 5, "2025-03-01T15:00Z", MovementKind::Arrival),
-        ("R102", 6, "2025-03-01T15:20Z", MovementKind::Delivery),
-        (
-            "R101",
-            2,
-            "2025-03-01T10:40Z",
-            MovementKind::YardArrival { place },
-        ),
-        (
-            "R102",
-            4,
-            "2025-03-01T11:30Z",
-            MovementKind::YardDeparture { place },
-        ),
-        (
-            "R101",
-            2,
-            "2025-03-01T07:00Z",
-            MovementKind::Exception { delay },
-        ),
-    ] {
-        let Some(line) = lines.next() else {
-            return Err(Fail::new("no line"));
-        };
-        let at = moment(at)?;
-        let body = Body::Movement(Movement { wagon, at, what });
-        are_call(rt.alloc(), line, &send(rt.alloc(), by, no, body)?)?;
+    for (line, by, no, at, what) in MOVEMENTS {
+        are_call(rt.alloc(), line, &moved(rt.alloc(), by, no, at, what)?)?;
     }
     Ok(())
+}
+
+#[test]
+fn movements_that_say_more(rt: HostRuntime) -> Result<(), Fail> {
+    let alloc = rt.alloc();
+    let place = place("AT00002")?;
+    let arrival = MovementKind::YardArrival { place };
+    let departure = MovementKind::YardDeparture { place };
+    let exception = MovementKind::Exception { delay: within(45)? };
+    are_call(
+        alloc,
+        r#"{"kind":"yard_in","from":"R101","no":2,"wagon":"218124712173","at":"2025-03-01T10:40Z","place":"AT00002"}"#,
+        &moved(alloc, "R101", 2, "2025-03-01T10:40Z", arrival)?,
+    )?;
+    are_call(
+        alloc,
+        r#"{"kind":"yard_out","from":"R102","no":4,"wagon":"218124712173","at":"2025-03-01T11:30Z","place":"AT00002"}"#,
+        &moved(alloc, "R102", 4, "2025-03-01T11:30Z", departure)?,
+    )?;
+    are_call(
+        alloc,
+        r#"{"kind":"exception","from":"R101","no":2,"wagon":"218124712173","at":"2025-03-01T07:00Z","delay":45}"#,
+        &moved(alloc, "R101", 2, "2025-03-01T07:00Z", exception)?,
+    )
 }
 
 fn estimate_asked(alloc: Global) -> Result<Call, Fail> {
@@ -255,28 +281,27 @@ fn questions(rt: HostRuntime) -> Result<(), Fail> {
     let unit = UnitCode::read("CSQU3054383")?;
     let consignment = consignment("C-1")?;
     let (limit, item) = (within(10)?, within(0)?);
+    are_call(alloc, ASK, &Call::Ask { by, wagon })?;
     let blanks = "\t{ \"kind\" : \"ask\" , \"from\" : \"R100\" , \"wagon\" : \"318066552148\" } \r";
-    for (lines, call) in [
-        (ASK, Call::Ask { by, wagon }),
-        (blanks, Call::Ask { by, wagon }),
-        (
-            r#"{"kind":"ask_unit","from":"R100","unit":"CSQU3054383"}"#,
-            Call::AskUnit { by, unit },
-        ),
-        (
-            r#"{"kind":"deviation","from":"R100","consignment":"C-1"}"#,
-            Call::Deviation { by, consignment },
-        ),
-        (
-            r#"{"kind":"fetch","from":"R100","limit":10}"#,
-            Call::Fetch { by, limit },
-        ),
-        (
-            r#"{"kind":"ack","from":"R100","item":0}"#,
-            Call::Ack { by, item },
-        ),
-    ] {
-        are_call(alloc, lines, &call)?;
-    }
-    Ok(())
+    are_call(alloc, blanks, &Call::Ask { by, wagon })?;
+    are_call(
+        alloc,
+        r#"{"kind":"ask_unit","from":"R100","unit":"CSQU3054383"}"#,
+        &Call::AskUnit { by, unit },
+    )?;
+    are_call(
+        alloc,
+        r#"{"kind":"deviation","from":"R100","consignment":"C-1"}"#,
+        &Call::Deviation { by, consignment },
+    )?;
+    are_call(
+        alloc,
+        r#"{"kind":"fetch","from":"R100","limit":10}"#,
+        &Call::Fetch { by, limit },
+    )?;
+    are_call(
+        alloc,
+        r#"{"kind":"ack","from":"R100","item":0}"#,
+        &Call::Ack { by, item },
+    )
 }

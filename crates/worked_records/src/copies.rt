@@ -17,7 +17,7 @@ fn equal_messages(rt: HostRuntime) -> Result<(), Fail> {
     let messages = messages(rt.alloc())?;
     for (i, first) in messages.iter().enumerate() {
         for (j, second) in messages.iter().enumerate() {
-            assert_eq!(rt; same(first.get(), second.get()), i == j, "{i} and {j}");
+            assert!(rt; same(first.get(), second.get()) == (i == j));
         }
     }
     Ok(())
@@ -29,14 +29,17 @@ fn notice(alloc: Global, message: Shared<Message>) -> Result<Vec<u8>, Fail> {
     Ok(write_item(alloc, &Item { number: 1, body })?)
 }
 
+fn copied(alloc: Global, message: &Message) -> Result<Shared<Message>, Fail> {
+    Ok(Shared::new(alloc, copy(message)?)?)
+}
+
 #[test]
 fn copies_of_messages(rt: HostRuntime) -> Result<(), Fail> {
     for message in messages(rt.alloc())? {
-        let copied = copy(message.get())?;
-        assert!(rt; same(&copied, message.get()));
-        let text = notice(rt.alloc(), message)?;
-        let copied = Shared::new(rt.alloc(), copied)?;
-        assert_eq!(rt; notice(rt.alloc(), copied)?, text);
+        let copied = copied(rt.alloc(), message.get())?;
+        assert!(rt; same(copied.get(), message.get()));
+        let text = notice(rt.alloc(), copied)?;
+        assert!(rt; text == notice(rt.alloc(), message)?);
     }
     Ok(())
 }
@@ -54,7 +57,7 @@ fn copies_of_calls(rt: HostRuntime) -> Result<(), Fail> {
     let calls = calls(rt.alloc())?;
     for (i, first) in calls.iter().enumerate() {
         for (j, second) in calls.iter().enumerate() {
-            assert_eq!(rt; same_call(first, second), i == j, "{i} and {j}");
+            assert!(rt; same_call(first, second) == (i == j));
         }
         assert!(rt; copy_call(first)? == *first);
     }
@@ -66,7 +69,7 @@ fn copies_of_items(rt: HostRuntime) -> Result<(), Fail> {
     let items = items(rt.alloc())?;
     for (i, first) in items.iter().enumerate() {
         for (j, second) in items.iter().enumerate() {
-            assert_eq!(rt; same_item(first, second), i == j, "{i} and {j}");
+            assert!(rt; same_item(first, second) == (i == j));
         }
         assert!(rt; copy_item(first)? == *first);
     }
@@ -78,7 +81,7 @@ fn copies_of_replies(rt: HostRuntime) -> Result<(), Fail> {
     let replies = replies(rt.alloc())?;
     for (i, first) in replies.iter().enumerate() {
         for (j, second) in replies.iter().enumerate() {
-            assert_eq!(rt; same_reply(first, second), i == j, "{i} and {j}");
+            assert!(rt; same_reply(first, second) == (i == j));
         }
         let copied = copy_reply(first)?;
         assert!(rt; copied == *first);

@@ -1,5 +1,5 @@
 //! Lists of wagons: of an offer 1 to 60, all different, and of an answer at most 60.
-use crate::parts::{ONE, TWO, wagon, wagons};
+use crate::parts::{ONE, TWO, wagons};
 use std::alloc::Global;
 use std::test::Fail;
 use taf_messages::{Listed, OfferedWagons, Wagons};
@@ -48,26 +48,20 @@ fn some_offered(alloc: Global) -> Result<OfferedWagons, Fail> {
     }
 }
 
-// Whether these are the first two wagons.
-fn are_two(wagons: &[WagonNumber]) -> Result<bool, Fail> {
-    Ok(wagons == [wagon(ONE)?, wagon(TWO)?].as_slice())
-}
-
 #[test]
 fn wagons_are_given_back(rt: HostRuntime) -> Result<(), Fail> {
-    let alloc = rt.alloc();
-    assert!(rt; are_two(some_wagons(alloc)?.as_slice())?);
-    assert!(rt; are_two(&some_wagons(alloc)?.into_vec())?);
-    assert!(rt; are_two(some_offered(alloc)?.as_slice())?);
-    assert!(rt; are_two(&some_offered(alloc)?.into_vec())?);
+    let two = wagons(rt.alloc(), &[ONE, TWO])?;
+    assert!(rt; some_wagons(rt.alloc())?.as_slice() == two.as_slice());
+    assert!(rt; some_wagons(rt.alloc())?.into_vec() == two);
+    assert!(rt; some_offered(rt.alloc())?.as_slice() == two.as_slice());
+    assert!(rt; some_offered(rt.alloc())?.into_vec() == two);
     Ok(())
 }
 
 #[test]
 fn no_offer(rt: HostRuntime) -> Result<(), Fail> {
-    let alloc = rt.alloc();
-    assert!(rt; OfferedWagons::new(wagons(alloc, &[ONE, ONE])?).is_none());
-    assert!(rt; OfferedWagons::new(wagons(alloc, &[])?).is_none());
+    assert!(rt; OfferedWagons::new(wagons(rt.alloc(), &[ONE, ONE])?).is_none());
+    assert!(rt; OfferedWagons::new(wagons(rt.alloc(), &[])?).is_none());
     Ok(())
 }
 
@@ -77,9 +71,10 @@ fn listed(alloc: Global, texts: &[&str]) -> Result<Listed<WagonNumber>, Fail> {
 
 #[test]
 fn lists_give_back_what_they_hold(rt: HostRuntime) -> Result<(), Fail> {
-    let alloc = rt.alloc();
-    assert!(rt; are_two(listed(alloc, &[ONE, TWO])?.as_slice())?);
-    assert!(rt; are_two(&listed(alloc, &[ONE, TWO])?.into_vec())?);
-    assert!(rt; listed(alloc, &[TWO, ONE])? != listed(alloc, &[ONE, TWO])?);
+    let two = wagons(rt.alloc(), &[ONE, TWO])?;
+    let listed_two = listed(rt.alloc(), &[ONE, TWO])?;
+    assert!(rt; listed_two.as_slice() == two.as_slice());
+    assert!(rt; listed(rt.alloc(), &[TWO, ONE])? != listed_two);
+    assert!(rt; listed_two.into_vec() == two);
     Ok(())
 }

@@ -134,43 +134,70 @@ fn has_part(alloc: Global, known: &Record, part: &str) -> Result<(), Fail> {
     }
 }
 
-// The third message of R100, for each kind of event: with what it shows beside its sender, number and moment.
-#[test]
-fn events_of_each_kind(rt: HostRuntime) -> Result<(), Fail> {
-    let (by, no) = (railway("R100")?, within(3)?);
+// Adds the third message of R100, as each of these.
+fn add_events(
+    events: &mut Vec<RecordEvent>,
+    at: Option<Moment>,
+    kinds: &[Happened],
+) -> Result<(), Fail> {
+    for what in kinds {
+        events.push(event("R100", 3, at, *what)?)?;
+    }
+    Ok(())
+}
+
+const WITHOUT_A_FIELD: [Happened; 8] = [
+    Happened::Moved(MovementKind::Release),
+    Happened::Moved(MovementKind::Departure),
+    Happened::Moved(MovementKind::Estimate),
+    Happened::Moved(MovementKind::Arrival),
+    Happened::Moved(MovementKind::Delivery),
+    Happened::Withdrawn,
+    Happened::Answered { received: true },
+    Happened::Answered { received: false },
+];
+
+fn events_of_each_kind(alloc: Global) -> Result<Vec<RecordEvent>, Fail> {
     let (leg, minutes, delay) = (within(1)?, within(200)?, within(45)?);
     let place = place("AT00002")?;
-    let moment = Some(moment("2025-03-01T11:10Z")?);
-    let mut events = Vec::new(rt.alloc());
-    for (at, what) in [
-        (None, Happened::Planned),
-        (None, Happened::LegTimed { leg, minutes }),
-        (None, Happened::Rerouted { leg }),
-        (None, Happened::EstimateAsked),
-        (moment, Happened::Moved(MovementKind::Estimate)),
-        (moment, Happened::Moved(MovementKind::YardArrival { place })),
-        (moment, Happened::Offered { place }),
-        (moment, Happened::Withdrawn),
-        (moment, Happened::Answered { received: true }),
-        (moment, Happened::Answered { received: false }),
-        (
-            moment,
-            Happened::Moved(MovementKind::YardDeparture { place }),
-        ),
-        (moment, Happened::Moved(MovementKind::Exception { delay })),
-        (moment, Happened::Moved(MovementKind::Release)),
-        (moment, Happened::Moved(MovementKind::Departure)),
-        (moment, Happened::Moved(MovementKind::Arrival)),
-        (moment, Happened::Moved(MovementKind::Delivery)),
-    ] {
-        events.push(RecordEvent { by, no, at, what })?;
-    }
-    let known = planned_with(rt.alloc(), &events)?;
+    let at = Some(moment("2025-03-01T11:10Z")?);
+    let mut events = Vec::new(alloc);
+    add_events(
+        &mut events,
+        None,
+        &[Happened::Planned, Happened::EstimateAsked],
+    )?;
+    add_events(&mut events, None, &[Happened::LegTimed { leg, minutes }])?;
+    add_events(&mut events, None, &[Happened::Rerouted { leg }])?;
+    add_events(&mut events, at, &WITHOUT_A_FIELD)?;
+    add_events(
+        &mut events,
+        at,
+        &[Happened::Moved(MovementKind::YardArrival { place })],
+    )?;
+    add_events(
+        &mut events,
+        at,
+        &[Happened::Moved(MovementKind::YardDeparture { place })],
+    )?;
+    add_events(
+        &mut events,
+        at,
+        &[Happened::Moved(MovementKind::Exception { delay })],
+    )?;
+    add_events(&mut events, at, &[Happened::Offered { place }])?;
+    Ok(events)
+}
+
+// Each kind of event, with what it shows beside its sender, number and moment.
+#[test]
+fn texts_of_events(rt: HostRuntime) -> Result<(), Fail> {
+    let known = planned_with(rt.alloc(), &events_of_each_kind(rt.alloc())?)?;
     has_part(rt.alloc(), &known, EVENTS)
 }
 
 const EVENTS: &str =
-    r#""events":[{"by":"R100","kind":"plan","no":3},{"by":"R100","kind":"leg_time","leg":1,"minutes":200,"no":3},{"by":"R100","kind":"reroute","leg":1,"no":3},{"by":"R100","kind":"eti_ask","no":3},{"at":"2025-03-01T11:10Z","by":"R100","kind":"eti","no":3},{"at":"2025-03-01T11:10Z","by":"R100","kind":"yard_in","no":3,"place":"AT00002"},{"at":"2025-03-01T11:10Z","by":"R100","kind":"offer","no":3,"place":"AT00002"},{"at":"2025-03-01T11:10Z","by":"R100","kind":"withdraw","no":3},{"at":"2025-03-01T11:10Z","by":"R100","kind":"answer","no":3,"received":true},{"at":"2025-03-01T11:10Z","by":"R100","kind":"answer","no":3,"received":false},{"at":"2025-03-01T11:10Z","by":"R100","kind":"yard_out","no":3,"place":"AT00002"},{"at":"2025-03-01T11:10Z","by":"R100","delay":45,"kind":"exception","no":3},{"at":"2025-03-01T11:10Z","by":"R100","kind":"release","no":3},{"at":"2025-03-01T11:10Z","by":"R100","kind":"depart","no":3},{"at":"2025-03-01T11:10Z","by":"R100","kind":"arrival","no":3},{"at":"2025-03-01T11:10Z","by":"R100","kind":"delivery","no":3}],"late""#;
+    r#""events":[{"by":"R100","kind":"plan","no":3},{"by":"R100","kind":"eti_ask","no":3},{"by":"R100","kind":"leg_time","leg":1,"minutes":200,"no":3},{"by":"R100","kind":"reroute","leg":1,"no":3},{"at":"2025-03-01T11:10Z","by":"R100","kind":"release","no":3},{"at":"2025-03-01T11:10Z","by":"R100","kind":"depart","no":3},{"at":"2025-03-01T11:10Z","by":"R100","kind":"eti","no":3},{"at":"2025-03-01T11:10Z","by":"R100","kind":"arrival","no":3},{"at":"2025-03-01T11:10Z","by":"R100","kind":"delivery","no":3},{"at":"2025-03-01T11:10Z","by":"R100","kind":"withdraw","no":3},{"at":"2025-03-01T11:10Z","by":"R100","kind":"answer","no":3,"received":true},{"at":"2025-03-01T11:10Z","by":"R100","kind":"answer","no":3,"received":false},{"at":"2025-03-01T11:10Z","by":"R100","kind":"yard_in","no":3,"place":"AT00002"},{"at":"2025-03-01T11:10Z","by":"R100","kind":"yard_out","no":3,"place":"AT00002"},{"at":"2025-03-01T11:10Z","by":"R100","delay":45,"kind":"exception","no":3},{"at":"2025-03-01T11:10Z","by":"R100","kind":"offer","no":3,"place":"AT00002"}],"late""#;
 
 const STAGES: &str =
     r#""load":"empty","place":"DE00001","responsible":null,"stage":"planned","status":"loading","units"

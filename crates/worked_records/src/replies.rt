@@ -124,13 +124,13 @@ const TEXTS: &str = r#"{"no":1,"reply":"accepted"}
 #[test]
 fn texts_of_replies(rt: HostRuntime) -> Result<(), Fail> {
     let mut texts = TEXTS.lines();
-    for reply in short_replies(rt.alloc())? {
+    for reply in short_replies(rt.alloc())?.iter() {
         let Some(text) = texts.next() else {
             return Err(Fail::new("no text"));
         };
-        is_written(rt.alloc(), &reply, text)?;
+        is_written(rt.alloc(), reply, text)?;
     }
-    assert_eq!(rt; texts.next(), None);
+    assert!(rt; texts.next().is_none());
     Ok(())
 }
 
