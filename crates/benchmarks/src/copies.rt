@@ -8,13 +8,23 @@ use std::time::{Clock, Instant};
 use trip_plan::Plan;
 use wagon_number::WagonNumber;
 
+fn wagon(alloc: Global, trip: u64) -> Result<WagonNumber> {
+    let text = trips::wagon(alloc, trip)?;
+    Ok(WagonNumber::read(&text)?)
+}
+
+fn sixty_wagons(alloc: Global) -> Result<Vec<WagonNumber>> {
+    let mut wagons = Vec::new(alloc);
+    for trip in 0..60u64 {
+        wagons.push(wagon(alloc, trip)?)?;
+    }
+    Ok(wagons)
+}
+
 // A plan of sixty wagons on the legs of the sample.
 fn long_plan(alloc: Global) -> Result<Plan> {
     let sample = samples::plan(alloc)?;
-    let mut wagons = Vec::new(alloc);
-    for trip in 0..60u64 {
-        wagons.push(WagonNumber::read(&trips::wagon(alloc, trip)?)?)?;
-    }
+    let wagons = sixty_wagons(alloc)?;
     anew(alloc, &sample, wagons.as_slice())
 }
 

@@ -107,16 +107,21 @@ impl Run {
     }
 }
 
+// Exceptions on a new track, so many.
+fn grow(clock: &impl Clock, alloc: Global, plan: &Plan, length: u64) -> Result<Measured> {
+    let mut run = Run::departed(alloc, plan)?;
+    let start = Instant::now(clock)?;
+    run.delay(length)?;
+    Measured::since(clock, start, length)
+}
+
 /// Exceptions on tracks of up to `length` of them: `count` of them at most, of whole tracks, and one track at least.
 pub fn events(clock: &impl Clock, alloc: Global, length: u32, count: u64) -> Result<Measured> {
     let plan = samples::plan(alloc)?;
     let length = u64::from(length.max(1));
     let mut total = Measured { count: 0, nanos: 0 };
     for _ in 0..(count / length).max(1) {
-        let mut run = Run::departed(alloc, &plan)?;
-        let start = Instant::now(clock)?;
-        run.delay(length)?;
-        total.add(Measured::since(clock, start, length)?);
+        total.add(grow(clock, alloc, &plan, length)?);
     }
     Ok(total)
 }

@@ -12,17 +12,24 @@ use wagon_number::WagonNumber;
 const PLAN: &str =
     r#"{"kind":"plan","from":"R100","no":1,"consignment":"C-1","load":"loaded","commit":"2025-03-01T15:30Z","wagons":["218124712173","338478961232"],"legs":[{"ru":"R101","origin":"DE00001","target":"AT00002","minutes":300},{"ru":"R102","origin":"AT00002","target":"IT00003","minutes":240}]}"#;
 
+// The line of a departure.
+fn departure(alloc: Global, number: u64) -> Result<String> {
+    let digits = format!(in alloc; "{number}")?;
+    let parts = [
+        r#"{"kind":"depart","from":"R101","no":"#,
+        digits.as_str(),
+        r#","wagon":"218124712173","at":"2025-03-01T06:00Z"}"#,
+    ];
+    Ok(parts.concat(alloc)?)
+}
+
 /// Lines of departures, numbered from 1.
 pub fn departures(alloc: Global, count: u64) -> Result<Vec<String>>
     ensures { IfOk result (λ lines. length lines.items ≡ count) }
 {
     let mut lines = Vec::new(alloc);
     for before in 0..count {
-        let number = before + 1;
-        let line = format!(in alloc;
-            "{{\"kind\":\"depart\",\"from\":\"R101\",\"no\":{number},\"wagon\":\"218124712173\",\"at\":\"2025-03-01T06:00Z\"}}"
-        )?;
-        lines.push(line)?;
+        lines.push(departure(alloc, before + 1)?)?;
     }
     Ok(lines)
 }

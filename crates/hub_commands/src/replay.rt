@@ -5,7 +5,7 @@ use std::alloc::Global;
 use std::io::{BufWriter, Read, Write};
 use std::mem::forget;
 use std::thread::Threads;
-use taf_codes::Std;
+use taf_codes::{Sink, Source, Std};
 use wimo_report::lines;
 
 // How many bytes of replies are gathered before they are written.
@@ -22,17 +22,37 @@ pub fn perform<R: Read + Drop, W: Write + Drop>(
     let Ok(gathered) = BufWriter::with_capacity(alloc, GATHERED, output) else {
         return Err(Fault::Memory);
     };
-    let mut reader = Std::new(input);
     let mut writer = Std::new(gathered);
+    let report = answer(rt, alloc, &mut Std::new(input), &mut writer)?;
+    print(&mut writer.into_inner(), &report)?;
+    Ok(0)
+}
+
+// Answers the lines on a new hub, and gives the lines of the report.
+fn answer(
+    rt: &(impl Threads + Sync),
+    alloc: Global,
+    reader: &mut impl Source,
+    writer: &mut impl Sink,
+) -> Result<Vec<String>, Fault> {
     let mut hub = Hub::new(alloc);
-    run(rt, alloc, &mut reader, &mut writer, &mut hub)?;
-    let view = hub.view()?;
-    let report = lines(rt, alloc, &view)?;
-    let mut printed = writer.into_inner();
-    print(&mut printed, &report)?;
+    let report = report_of(rt, alloc, reader, writer, &mut hub);
     // The program ends here. To give back the memory of each call would take as long as many calls.
     forget(hub);
-    Ok(0)
+    report
+}
+
+// Answers the lines on this hub, and gives the lines of its report.
+fn report_of(
+    rt: &(impl Threads + Sync),
+    alloc: Global,
+    reader: &mut impl Source,
+    writer: &mut impl Sink,
+    hub: &mut Hub,
+) -> Result<Vec<String>, Fault> {
+    run(rt, alloc, reader, writer, hub)?;
+    let view = hub.view()?;
+    Ok(lines(rt, alloc, &view)?)
 }
 
 // Prints lines, and sends them on.
