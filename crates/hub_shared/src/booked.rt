@@ -104,9 +104,7 @@ pub fn serve_one<L: Ledger>(
             Ok(answer)
         }
         Err(fault) => {
-            if seat.refused < MAX_REFUSED {
-                seat.refused += 1;
-            }
+            seat.refused = (seat.refused + 1).min(MAX_REFUSED);
             Err(fault)
         }
     }
