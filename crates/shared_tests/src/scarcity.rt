@@ -12,14 +12,15 @@ use std::sync::ledger::{Blank, Ledger};
 use std::test::Fail;
 use taf_messages::{copy_call, copy_reply};
 
-// How much memory is left for each call; how many calls of the hub were refused it in this run, and how many notes and
-// settlings in all runs.
+// How much memory is left for each call; how many calls of the hub were refused it in this run, and how often room, a note
+// and the settling were refused it in all runs.
 #[derive(Drop)]
 struct Scarcity {
     alloc: Global,
     ballast: Ballast,
     left: usize,
     refused_calls: u64,
+    refused_rooms: u32,
     refused_notes: u32,
     refused_settlings: u32,
 }
@@ -48,6 +49,7 @@ impl Scarcity {
             ballast,
             left: 0,
             refused_calls: 0,
+            refused_rooms: 0,
             refused_notes: 0,
             refused_settlings: 0,
         })
@@ -84,6 +86,18 @@ impl Scarcity {
         })
     }
 
+    // Makes room for two entries, again where memory is refused.
+    fn reserve(&mut self, tally: &mut Tally) -> Result<(), Fail> {
+        self.ballast.leave(self.left)?;
+        let reserved = tally.reserve(2);
+        self.ballast.ease();
+        if reserved.is_err() {
+            self.refused_rooms = self.refused_rooms.saturating_add(1);
+            tally.reserve(2)?;
+        }
+        Ok(())
+    }
+
     // Notes the entry, again where memory is refused.
     fn note(&mut self, tally: &mut Tally, told: Told) -> Result<(), Fail> {
         let position = told.position;
@@ -112,6 +126,7 @@ impl Scarcity {
         ensures { seat.new.parts ≡ seat.old.parts }
     {
         let mut tally = Tally::new(self.alloc);
+        self.reserve(&mut tally)?;
         for line in INTERCHANGE.lines() {
             let told = self.submit(rt, hub, seat, line)?;
             self.note(&mut tally, told)?;
@@ -172,7 +187,7 @@ impl Scarcity {
 
     // Whether so many bytes are enough. Fails unless the outcome is this one.
     fn is_enough(&mut self, rt: &impl Wait, left: usize, wanted: &Outcome) -> Result<bool, Fail> {
-        let before = (self.refused_notes, self.refused_settlings);
+        let before = (self.refused_rooms, self.refused_notes, self.refused_settlings);
         let outcome = self.outcome(rt, left)?;
         if outcome.replies != wanted.replies {
             return Err(Fail::new("other replies"));
@@ -180,7 +195,7 @@ impl Scarcity {
         if outcome.view.records() != wanted.view.records() {
             return Err(Fail::new("other records"));
         }
-        let after = (self.refused_notes, self.refused_settlings);
+        let after = (self.refused_rooms, self.refused_notes, self.refused_settlings);
         Ok(self.refused_calls == 0 && after == before)
     }
 
@@ -202,6 +217,7 @@ fn each_growth_is_refused_in_turn(rt: HostRuntime) -> Result<(), Fail> {
     assert_eq!(rt; scarcity.refused_calls, 0);
     assert_eq!(rt; wanted.view.records().len(), 2);
     assert!(rt; scarcity.budgets(&rt, &wanted)? > 20);
+    assert!(rt; scarcity.refused_rooms > 0);
     assert!(rt; scarcity.refused_notes > 0);
     assert!(rt; scarcity.refused_settlings > 0);
     Ok(())
