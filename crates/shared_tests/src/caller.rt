@@ -6,6 +6,7 @@ use hub_shared::{Seat, SharedHub, Tally, Told};
 use std::alloc::Global;
 use std::sync::Wait;
 use std::sync::ledger::Ledger;
+use taf_messages::{Call, copy_call};
 
 /// A seat, and the tally of what its calls were answered.
 #[derive(Drop)]
@@ -13,6 +14,28 @@ pub(crate) struct Caller<L: Ledger> {
     pub(crate) alloc: Global,
     pub(crate) seat: Seat<L>,
     pub(crate) tally: Tally,
+}
+
+// Makes a call, and gives what it was answered. None where memory is refused.
+fn ask<L: Ledger>(
+    rt: &impl Wait,
+    hub: &SharedHub<L>,
+    seat: &mut Seat<L>,
+    call: Call,
+) -> Option<Told>
+    ensures { seat.new.parts ≡ seat.old.parts }
+{
+    let Ok(again) = copy_call(&call) else {
+        return None;
+    };
+    let Ok((position, reply)) = hub.submit(rt, seat, call) else {
+        return None;
+    };
+    Some(Told {
+        position,
+        call: again,
+        reply,
+    })
 }
 
 impl<L: Ledger> Caller<L> {
@@ -27,20 +50,16 @@ impl<L: Ledger> Caller<L> {
         }
     }
 
-    // Makes the call of a line, and notes its answer. None where it has none.
-    fn submit(&mut self, rt: &impl Wait, hub: &SharedHub<L>, line: &str) -> Option<()>
+    // Makes the call of a line, and notes its answer.
+    fn submit(&mut self, rt: &impl Wait, hub: &SharedHub<L>, line: &str)
         ensures { self.new.seat.parts ≡ self.old.seat.parts }
     {
-        let call = call_of(self.alloc, line).ok()?;
-        let again = call_of(self.alloc, line).ok()?;
-        let (position, reply) = hub.submit(rt, &mut self.seat, call).ok()?;
-        let call = again;
-        let told = Told {
-            position,
-            call,
-            reply,
+        let Ok(call) = call_of(self.alloc, line) else {
+            return;
         };
-        self.tally.note(told).ok()
+        if let Some(told) = ask(rt, hub, &mut self.seat, call) {
+            let _ = self.tally.note(told);
+        }
     }
 
     /// Makes the calls of a session, each after the answer to the one before it.
@@ -50,7 +69,7 @@ impl<L: Ledger> Caller<L> {
         let mut caller = self;
         for line in session.lines() {
             if !line.starts_with("> ") {
-                let _ = caller.submit(rt, hub, line);
+                caller.submit(rt, hub, line);
             }
         }
         caller

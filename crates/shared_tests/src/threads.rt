@@ -5,7 +5,7 @@ use crate::altered::tally_of;
 use crate::caller::Caller;
 use crate::lines::{FIRST, SECOND, replies_of, wanted_replies};
 use hub_core::Hub;
-use hub_shared::{SettleFault, Settled, SharedHub, Tally, settle, split_seat};
+use hub_shared::{SettleFault, Settled, SharedHub, Tally, Told, settle, split_seat};
 use std::alloc::Global;
 use std::marker::Brand;
 use std::sync::Wait;
@@ -20,7 +20,8 @@ use taf_codes::Memory;
 struct Closed {
     hub: Hub,
     sum: u64,
-    tallies: [Tally; 2],
+    first: Tally,
+    second: Tally,
 }
 
 // Runs two sessions in two threads.
@@ -50,59 +51,99 @@ fn run_two<L: Ledger + Send + Sync, R: Threads + Wait + Sync>(
     Ok(Closed {
         hub,
         sum,
-        tallies: [first.tally, second.tally],
+        first: first.tally,
+        second: second.tally,
     })
 }
 
-// Fails unless each session was told the replies that it is to get.
-fn check_replies(alloc: Global, tallies: &[Tally; 2]) -> Result<(), Fail> {
-    let [first, second] = tallies;
-    for (tally, session) in [(first, FIRST), (second, SECOND)] {
-        if replies_of(alloc, tally)? != wanted_replies(alloc, session)? {
-            return Err(Fail::new("other replies"));
+// Whether the session was told the replies that it is to get.
+fn is_told(alloc: Global, tally: &Tally, session: &str) -> Result<bool, Fail> {
+    let replies = replies_of(alloc, tally)?;
+    Ok(replies == wanted_replies(alloc, session)?)
+}
+
+// The entries of both tallies. Those of the session that has position 0 come first.
+fn entries_of<'a>(
+    alloc: Global,
+    first: &'a Tally,
+    second: &'a Tally,
+) -> Result<Vec<&'a Told>, Memory> {
+    let (first, second) = (first.entries(), second.entries());
+    let begins = first.len() > 0 && first[0].position == 0;
+    let (first, second) = if begins {
+        (first, second)
+    } else {
+        (second, first)
+    };
+    let mut entries = Vec::new(alloc);
+    for told in first.iter().chain(second) {
+        let Ok(()) = entries.push(told) else {
+            return Err(Memory);
+        };
+    }
+    Ok(entries)
+}
+
+const FOREIGN: SettleFault = SettleFault::Foreign {
+    session: 0,
+    index: 2,
+};
+
+const LEFT_OUT: SettleFault = SettleFault::CountDiffers {
+    history: 10,
+    told: 9,
+};
+
+const EXCHANGED: SettleFault = SettleFault::OutOfOrder {
+    session: 0,
+    index: 1,
+};
+
+// What settling two tallies of these entries comes to, by their letters.
+const CASES: [(&str, &str, Result<Settled, SettleFault>); 5] = [
+    ("abcde", "fghij", Ok(Settled { calls: 10 })),
+    ("abCde", "fghij", Err(FOREIGN)),
+    ("abcde", "fghi", Err(LEFT_OUT)),
+    ("bacde", "fghij", Err(EXCHANGED)),
+    ("abcde", "aghij", Err(SettleFault::Twice { at: 0 })),
+];
+
+// What settling two tallies of these entries comes to.
+fn settled(
+    alloc: Global,
+    hub: &Hub,
+    entries: &[&Told],
+    letters: (&str, &str),
+) -> Result<Result<Settled, SettleFault>, Memory> {
+    let first = tally_of(alloc, entries, letters.0)?;
+    let second = tally_of(alloc, entries, letters.1)?;
+    Ok(settle(alloc, hub, [first, second].as_slice()))
+}
+
+// Fails unless each case comes to what it is to.
+fn check_cases(alloc: Global, hub: &Hub, entries: &[&Told]) -> Result<(), Fail> {
+    for (first, second, wanted) in CASES {
+        if settled(alloc, hub, entries, (first, second))? != wanted {
+            return Err(Fail::new(first));
         }
     }
     Ok(())
 }
 
+// Fails unless ten calls were made, each session was told its replies, and each case comes to what it is to.
+fn check(alloc: Global, closed: &Closed) -> Result<(), Fail> {
+    if closed.sum != 10 {
+        return Err(Fail::new("another number of calls"));
+    }
+    if !is_told(alloc, &closed.first, FIRST)? || !is_told(alloc, &closed.second, SECOND)? {
+        return Err(Fail::new("other replies"));
+    }
+    let entries = entries_of(alloc, &closed.first, &closed.second)?;
+    check_cases(alloc, &closed.hub, entries.as_slice())
+}
+
 #[test]
 fn two_threads_settle(rt: HostRuntime) -> Result<(), Fail> {
-    let alloc = rt.alloc();
-    let closed = run_two::<Brand, _>(&rt, alloc, Blank::new(2))?;
-    assert_eq!(rt; closed.sum, 10);
-    check_replies(alloc, &closed.tallies)?;
-    for (first, second, wanted) in [
-        ("01234", "56789", Ok(Settled { calls: 10 })),
-        (
-            "01r34",
-            "56789",
-            Err(SettleFault::Foreign {
-                session: 0,
-                index: 2,
-            }),
-        ),
-        (
-            "01234",
-            "5678",
-            Err(SettleFault::CountDiffers {
-                history: 10,
-                told: 9,
-            }),
-        ),
-        (
-            "10234",
-            "56789",
-            Err(SettleFault::OutOfOrder {
-                session: 0,
-                index: 1,
-            }),
-        ),
-        ("p1234", "p6789", Err(SettleFault::Twice { at: 0 })),
-    ] {
-        let first = tally_of(alloc, &closed.tallies, first)?;
-        let second = tally_of(alloc, &closed.tallies, second)?;
-        let found = settle(alloc, &closed.hub, [first, second].as_slice());
-        assert_eq!(rt; found, wanted);
-    }
-    Ok(())
+    let closed = run_two::<Brand, _>(&rt, rt.alloc(), Blank::new(2))?;
+    check(rt.alloc(), &closed)
 }
