@@ -1,0 +1,7 @@
+use Rattle.std.proofs.Common.{take}
+use Rattle.hub_shared.specs.Marks.{MarksTally}
+use Rattle.hub_shared.proofs.settling.check_tally.Given as goal
+
+-- the entries so far were checked, and their positions marked
+abbrev pub invariant-loop-i : goal.invariant-loop-i
+invariant-loop-i l = MarksTally l.hub l.initial.seen l.seen (take l.i l.entries)

@@ -1,0 +1,28 @@
+-- Interleavings, and that a history that is told is one.
+use Rattle.std.specs.Prelude.{◌≡◌, ℕ, ◌==◌, if◌then◌else◌, List, [], ◌∷◌, length, map, slice_index_or}
+use Rattle.hub_model.specs.declared.entry.Entry.{Entry}
+use Rattle.hub_shared.specs.Tallies.{TallyState}
+use Rattle.hub_shared.specs.Settling.{entry_of, IsTold}
+
+-- the items of a list that have this label, in their order; the first list has the labels
+abbrev pub labelled : {T : Type 0} → ℕ → List ℕ → List T → List T
+labelled k [] items = []
+labelled k (w ∷ labels) [] = []
+labelled k (w ∷ labels) (x ∷ items) =
+    if w == k then x ∷ labelled k labels items else labelled k labels items
+
+-- each item has one label, and the list of each place holds the items whose label is the place, in their order
+abbrev pub Interleaves : {T : Type 0} → List (List T) → List T → Type 0
+Interleaves lists items =
+    (labels : List ℕ) × (length labels ≡ length items)
+    × ((k : ℕ) → slice_index_or lists k [] ≡ labelled k labels items)
+
+-- the entries that each session was told
+abbrev pub entries_of : List TallyState → List (List Entry)
+entries_of tallies = map (λ (p : TallyState). map entry_of p.entries) tallies
+
+-- in a history that is told each entry is of one tally, and those of a tally stand in its order, each once
+abbrev pub ToldInOrder : Type 0
+ToldInOrder =
+    (history : List Entry) (tallies : List TallyState) → IsTold history tallies
+    → Interleaves (entries_of tallies) history

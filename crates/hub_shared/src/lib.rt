@@ -1,0 +1,36 @@
+//! One hub for many threads: the value behind its lock, the seats by which threads call it, and the tallies that settle
+//! what they were told.
+//!
+//! [`Booked`] is the hub with a book, a number that is the length of the hub's history. Whenever the lock is free, the
+//! stored replies are those that one thread gets for the stored calls. A [`Seat`] is the right of one thread to call the
+//! hub; it counts the calls that were answered and those that met a fault. [`SharedHub::submit`] takes the lock and makes
+//! one [`serve_one`]. When all seats are given back, [`SharedHub::close`] gives the hub and the sum of their counts, which
+//! is the length of its history.
+//!
+//! A thread that takes the lock knows nothing of the calls before its own. So no contract of `submit` can say that its
+//! answer is still in the history at the end. This is checked at the end: each session notes in a [`Tally`] what it was
+//! told, and [`settle`] compares the tallies with the history.
+//!
+//! | part | what it has |
+//! |---|---|
+//! | `booked` | the value behind the lock, and one call on it |
+//! | `seat` | the right to call, with its counts |
+//! | `shared` | the lock |
+//! | `tally` | what one session was told |
+//! | `settling` | the comparison of tallies and history |
+//! | `law` | the order of a session's entries in a history that is told |
+#![tactic(auto)]
+
+mod booked;
+mod law;
+mod seat;
+mod settling;
+mod shared;
+mod tally;
+
+pub use booked::{Booked, serve_one};
+pub use law::told_sessions_interleave;
+pub use seat::{Seat, split_seat};
+pub use settling::{SettleFault, Settled, settle};
+pub use shared::SharedHub;
+pub use tally::{Tally, Told};

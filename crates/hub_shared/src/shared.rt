@@ -1,0 +1,65 @@
+//! The hub that threads share.
+ghost use Rattle.std.specs.Prelude.{◌≡◌, ◌<◌, length, sum_by, IfOk, IfErr, OnOk, OnErr};
+ghost use Rattle.hub_shared.specs.Seats.{IsRun, IsAnswerInRun, IsFaultInRun, new_seat, after_answer, after_fault};
+
+use crate::booked::{Booked, serve_one};
+use crate::seat::Seat;
+use hub_core::{Hub, HubFault};
+use std::alloc::Global;
+use std::sync::ledger::{Blank, Ledger};
+use std::sync::{Mutex, Wait};
+use taf_messages::{Call, Reply};
+
+/// A hub that threads share, one call at a time.
+#[derive(Drop)]
+pub struct SharedHub<L: Ledger> {
+    booked: Mutex<Booked<L>>,
+}
+
+impl<L: Ledger> SharedHub<L> {
+    /// A hub that has taken no call, and the first seat, with all parts of the blank. Takes no memory.
+    pub fn new(alloc: Global, blank: Blank) -> (SharedHub<L>, Seat<L>)
+        requires name { blank.name ≡ L.name }
+        requires parts { (blank.parts ≡ L.parts) × (0 < blank.parts) }
+        ensures { result.1 ≡ new_seat L.parts }
+    {
+        let (book, mut share) = blank.open::<L>();
+        let no_part = share.empty();
+        let hub = Hub::new(alloc);
+        let seat = Seat {
+            share,
+            count: 0,
+            refused: 0,
+        };
+        let booked = Mutex::new(Booked { hub, book, no_part });
+        (SharedHub { booked }, seat)
+    }
+
+    /// Takes the lock, which may wait, and makes one call by [`serve_one`]: after some history that one thread could have
+    /// made.
+    pub fn submit(
+        &self,
+        rt: &impl Wait,
+        seat: &mut Seat<L>,
+        call: Call,
+    ) -> Result<(u64, Reply), HubFault>
+        ensures ok { IfOk result (λ r. IsAnswerInRun r.0 r.1 call) }
+        ensures seat { OnOk result (seat.new ≡ after_answer seat.old) }
+        ensures err { IfErr result (λ f. IsFaultInRun f call) }
+        ensures refused { OnErr result (seat.new ≡ after_fault seat.old) }
+    {
+        serve_one(&mut *self.booked.lock(rt), seat, call)
+    }
+
+    /// The hub, and the sum of the counts of all seats, which is the length of its history. The seats have to have all
+    /// parts together.
+    pub fn close(self, seats: Vec<Seat<L>>) -> (Hub, u64)
+        requires { sum_by (λ s. s.parts) seats.items ≡ L.parts }
+        ensures run { IsRun result.0 }
+        ensures length { result.1 ≡ length result.0 }
+        ensures sum { result.1 ≡ sum_by (λ s. s.count) seats.items }
+    {
+        let SharedHub { booked } = self;
+        booked.into_inner().end(seats)
+    }
+}
