@@ -13,8 +13,8 @@ use serde_json::Value;
 use std::alloc::Global;
 use taf_codes::Railway;
 use taf_messages::{
-    Body, BodyName, Call, Content, Field, Kind, Listed, Message, Movement, MovementKind, MovementName,
-    RecordFault, Shared, TrainAnswer, TrainOffer,
+    Body, BodyName, Call, Content, Field, Kind, Listed, Message, Movement, MovementKind,
+    MovementName, RecordFault, Shared, TrainAnswer, TrainOffer,
 };
 use trip_plan::{Leg, Plan, PlanParts, Route};
 use wagon_number::WagonNumber;

@@ -1,4 +1,4 @@
-use Rattle.std.proofs.Common.{◌≡◌, ◌+◌, ◌∙◌, List, [], ◌∷◌, ◌++◌, length, length-append, ap, subst, arith}
+use Rattle.std.proofs.Common.{◌+◌, ◌∙◌, List, [], ◌∷◌, ◌++◌, length, length-append, ap, subst, arith}
 use Rattle.std.specs.Prelude.{ℕ, ◌^◌, min}
 use Rattle.taf_messages.specs.declared.reply.Reply.{Reply}
 use Rattle.hub_model.specs.declared.entry.Entry.{Entry}
