@@ -1,77 +1,110 @@
 use hub_commands::{Fault, perform, tell};
+use std::alloc::Global;
 use std::io;
 use std::io::ErrorKind;
 use std::test::Fail;
+use std::thread::Threads;
 
-/// The words of a command line.
-fn words(rt: &impl AllocGlobal, line: &[&str]) -> Result<Vec<String>, Fail> {
-    let mut words = Vec::new(rt.alloc());
-    words.push("taf_hub".to_string(rt.alloc())?)?;
-    for word in line {
-        words.push(word.to_string(rt.alloc())?)?;
+// The words of a command line, which stand with `|` between them.
+fn words(alloc: Global, line: &str) -> Result<Vec<String>, Fail> {
+    let mut words = Vec::new(alloc);
+    for word in line.split('|') {
+        words.push(word.to_string(alloc)?)?;
     }
     Ok(words)
 }
 
+// What a command wrote, and the status that it ended with.
+#[derive(Drop)]
+struct Ended {
+    status: u8,
+    output: Vec<u8>,
+    errors: Vec<u8>,
+}
+
+// Does what the line of words names.
+fn end_of(
+    rt: &(impl Threads + Sync + AllocGlobal),
+    line: &str,
+    input: &str,
+) -> Result<Ended, Fail> {
+    let words = words(rt.alloc(), line)?;
+    let mut output = Vec::new(rt.alloc());
+    let mut errors = Vec::new(rt.alloc());
+    let status = perform(rt, &words, input.as_bytes(), &mut output, &mut errors);
+    Ok(Ended {
+        status,
+        output,
+        errors,
+    })
+}
+
+const MARKED: &str = "21 81 2471 217-3\n";
+
+const BAD_CHECK_DIGIT: &str = "fault 2: bad check digit\n";
+
+const NOT_TWELVE_DIGITS: &str = "fault 1: not twelve digits\n";
+
+// The words, the input, the status, the output, and the errors.
+const COMMANDS: [(&str, &str, u8, &str, &str); 10] = [
+    ("taf_hub|number|218124712173", "", 0, MARKED, ""),
+    ("taf_hub|number|21 81 2471 217-3", "", 0, MARKED, ""),
+    ("taf_hub|number|218124712174", "", 1, "", BAD_CHECK_DIGIT),
+    (
+        "taf_hub|number|21 81 2471 217-4",
+        "",
+        1,
+        "",
+        BAD_CHECK_DIGIT,
+    ),
+    ("taf_hub|number|21812471217", "", 1, "", NOT_TWELVE_DIGITS),
+    (
+        "taf_hub|number|000000000000",
+        "",
+        0,
+        "00 00 0000 000-0\n",
+        "",
+    ),
+    ("taf_hub|number|", "", 1, "", NOT_TWELVE_DIGITS),
+    ("taf_hub|replay", "", 0, "wagons 0\n", ""),
+    ("taf_hub|replay", "\n \t\n\r\n\n  ", 0, "wagons 0\n", ""),
+    (
+        "taf_hub|replay",
+        "{\n\n",
+        0,
+        "{\"fault\":\"bad_json\"}\nwagons 0\n",
+        "",
+    ),
+];
+
 #[test]
 fn commands_end_with_their_status(rt: HostRuntime) -> Result<(), Fail> {
-    let marked = "21 81 2471 217-3\n";
-    let cases: [(&[&str], u8, &str, &str); 8] = [
-        (&["number", "218124712173"], 0, marked, ""),
-        (&["number", "21 81 2471 217-3"], 0, marked, ""),
-        (
-            &["number", "218124712174"],
-            1,
-            "",
-            "fault 2: bad check digit\n",
-        ),
-        (
-            &["number", "21 81 2471 217-4"],
-            1,
-            "",
-            "fault 2: bad check digit\n",
-        ),
-        (
-            &["number", "21812471217"],
-            1,
-            "",
-            "fault 1: not twelve digits\n",
-        ),
-        (&["number", "000000000000"], 0, "00 00 0000 000-0\n", ""),
-        (&["number", ""], 1, "", "fault 1: not twelve digits\n"),
-        (&["replay"], 0, "{\"fault\":\"bad_json\"}\nwagons 0\n", ""),
-    ];
-    for (line, status, told, fault) in cases {
-        let mut output = Vec::new(rt.alloc());
-        let mut errors = Vec::new(rt.alloc());
-        let words = words(&rt, line)?;
-        let input = b"{\n\n";
-        let ended = perform(&rt, &words, &input[..], &mut output, &mut errors);
-        assert_eq!(rt; ended, status);
-        assert_eq!(rt; output.as_slice(), told.as_bytes());
-        assert_eq!(rt; errors.as_slice(), fault.as_bytes());
+    for (line, input, status, output, errors) in COMMANDS {
+        let ended = end_of(&rt, line, input)?;
+        assert_eq!(rt; ended.status, status, "{line}");
+        assert_eq!(rt; ended.output.as_slice(), output.as_bytes(), "{line}");
+        assert_eq!(rt; ended.errors.as_slice(), errors.as_bytes(), "{line}");
     }
     Ok(())
 }
 
+// Words that are explained, on the output for the status 0 and else among the errors.
+const EXPLAINED: [(&str, u8); 6] = [
+    ("taf_hub|--help", 0),
+    ("taf_hub|number|--help", 0),
+    ("taf_hub", 2),
+    ("taf_hub|reply", 2),
+    ("taf_hub|number", 2),
+    ("taf_hub|replay|again", 2),
+];
+
 #[test]
 fn other_words_are_explained(rt: HostRuntime) -> Result<(), Fail> {
-    let cases: [(&[&str], u8); 6] = [
-        (&["--help"], 0),
-        (&["number", "--help"], 0),
-        (&[], 2),
-        (&["reply"], 2),
-        (&["number"], 2),
-        (&["replay", "again"], 2),
-    ];
-    for (line, status) in cases {
-        let mut output = Vec::new(rt.alloc());
-        let mut errors = Vec::new(rt.alloc());
-        let words = words(&rt, line)?;
-        let ended = perform(&rt, &words, &b""[..], &mut output, &mut errors);
-        assert_eq!(rt; ended, status);
-        assert_eq!(rt; output.is_empty(), status == 2);
-        assert_eq!(rt; errors.is_empty(), status == 0);
+    for (line, status) in EXPLAINED {
+        let ended = end_of(&rt, line, "")?;
+        assert_eq!(rt; ended.status, status, "{line}");
+        assert_eq!(rt; ended.output.is_empty(), status == 2, "{line}");
+        assert_eq!(rt; ended.errors.is_empty(), status == 0, "{line}");
     }
     Ok(())
 }

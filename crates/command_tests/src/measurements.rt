@@ -1,47 +1,70 @@
 use benchmarks::{Asked, Bench, Measured, perform, read_words};
+use std::alloc::Global;
 use std::test::Fail;
+use std::thread::Threads;
+use std::time::Clock;
+
+fn strings(alloc: Global, words: &[&str]) -> Result<Vec<String>, Fail> {
+    let mut strings = Vec::new(alloc);
+    for word in words {
+        strings.push(word.to_string(alloc)?)?;
+    }
+    Ok(strings)
+}
+
+// What the words ask for.
+fn asked(alloc: Global, words: &[&str]) -> Result<Asked, Fail> {
+    let words = strings(alloc, words)?;
+    Ok(read_words(&words)?)
+}
+
+// What is printed where this is asked for.
+fn printed(
+    rt: &(impl Threads + Clock + Sync),
+    alloc: Global,
+    words: &[&str],
+) -> Result<Vec<u8>, Fail> {
+    let asked = asked(alloc, words)?;
+    let mut output = Vec::new(alloc);
+    perform(rt, alloc, &mut output, asked)?;
+    Ok(output)
+}
+
+// The benchmarks, and how many lines each prints.
+const BENCHMARKS: [(&str, usize); 9] = [
+    ("parse", 1),
+    ("read", 1),
+    ("replies", 1),
+    ("record", 1),
+    ("items", 1),
+    ("copies", 2),
+    ("journey", 4),
+    ("hub", 3),
+    ("report", 2),
+];
 
 #[test]
 fn each_benchmark_runs(rt: HostRuntime) -> Result<(), Fail> {
-    let cases = [
-        ("parse", 1),
-        ("read", 1),
-        ("replies", 1),
-        ("record", 1),
-        ("items", 1),
-        ("copies", 2),
-        ("journey", 4),
-        ("hub", 3),
-        ("report", 2),
-    ];
-    for (name, lines) in cases {
-        let mut words = Vec::new(rt.alloc());
-        words.push(name.to_string(rt.alloc())?)?;
-        words.push("3".to_string(rt.alloc())?)?;
-        let mut output = Vec::new(rt.alloc());
-        perform(&rt, rt.alloc(), &mut output, read_words(&words)?)?;
-        assert!(rt; output.starts_with(name.as_bytes()));
-        assert_eq!(rt; output.iter().filter(|byte| **byte == b'\n').count(), lines);
+    for (name, lines) in BENCHMARKS {
+        let output = printed(&rt, rt.alloc(), &[name, "3"])?;
+        assert!(rt; output.starts_with(name.as_bytes()), "{name}");
+        let newlines = output.iter().filter(|byte| **byte == b'\n').count();
+        assert_eq!(rt; newlines, lines, "{name}");
     }
     Ok(())
 }
 
+// The usual count, and one that is given.
+const READ: [(&[&str], u64); 2] = [(&["read"], 200_000), (&["read", "12"], 12)];
+
 #[test]
 fn words_are_read(rt: HostRuntime) -> Result<(), Fail> {
-    let mut words = Vec::new(rt.alloc());
-    assert_eq!(rt; read_words(&words)?, Asked::Names);
-    words.push("read".to_string(rt.alloc())?)?;
     let bench = Bench::Read;
-    assert_eq!(rt;
-        read_words(&words)?,
-        Asked::Run {
-            bench,
-            count: 200_000
-        }
-    );
-    words.push("12".to_string(rt.alloc())?)?;
-    assert_eq!(rt; read_words(&words)?, Asked::Run { bench, count: 12 });
-    words[1].push('x')?;
+    for (words, count) in READ {
+        assert_eq!(rt; asked(rt.alloc(), words)?, Asked::Run { bench, count });
+    }
+    assert_eq!(rt; asked(rt.alloc(), &[])?, Asked::Names);
+    let words = strings(rt.alloc(), &["read", "12x"])?;
     assert!(rt; read_words(&words).is_err());
     Ok(())
 }
