@@ -5,8 +5,8 @@ use std::alloc::Global;
 use taf_codes::Memory;
 use taf_messages::{Reply, copy_call, copy_reply};
 
-// The entry with this reply.
-fn with_reply(told: &Told, reply: &Reply) -> Result<Told, Memory> {
+/// The entry with this reply.
+pub(crate) fn with_reply(told: &Told, reply: &Reply) -> Result<Told, Memory> {
     let call = copy_call(&told.call)?;
     let reply = copy_reply(reply)?;
     Ok(Told {
