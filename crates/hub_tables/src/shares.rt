@@ -15,7 +15,7 @@ use std::alloc::{AllocError, Global};
 use std::borrow::CowSlice;
 use std::slice;
 use taf_codes::{Memory, Place, Railway};
-use taf_messages::{Body, Message, MessageNumber};
+use taf_messages::{Body, Message, MessageNumber, TrainAnswer};
 use taf_moment::Moment;
 use wagon_number::WagonNumber;
 
@@ -30,6 +30,13 @@ fn moment_in(body: &Body) -> Option<Moment>
         Body::Withdraw { at, .. } => Some(*at),
         Body::Plan(_) | Body::EtiAsk { .. } | Body::LegTime { .. } | Body::Reroute { .. } => None,
     }
+}
+
+/// Whether the answer receives the wagon.
+fn receives(answer: &TrainAnswer, wagon: WagonNumber) -> bool
+    ensures { result ≡ has answer.now.received wagon }
+{
+    has(answer.received.as_slice(), wagon)
 }
 
 /// The wagons of both lists.
@@ -114,7 +121,7 @@ impl Tables {
             },
             Body::Answer(answer) => EventBody::Answered {
                 place: self.place(answer.get().offerer, answer.get().offer),
-                received: has(answer.get().received.as_slice(), wagon),
+                received: receives(answer.get(), wagon),
             },
             Body::Withdraw { offer, .. } => EventBody::Withdrawn {
                 place: self.place(message.by(), *offer),
