@@ -1,0 +1,4 @@
+pub mod Interleavings
+pub mod Rules
+pub mod States
+pub mod Sessions
