@@ -5,21 +5,22 @@ use Rattle.std.specs.List.{count_by}
 use Rattle.taf_messages.specs.declared.call.Call.{Call}
 use Rattle.hub_model.specs.declared.entry.Entry.{Entry}
 use Rattle.hub_replay.specs.declared.counts.Counts.{Counts}
-use Rattle.hub_replay.specs.declared.heard.Heard.{Heard}
-use Rattle.hub_replay.specs.declared.heard.Heard.TheVariants.{Blank, TooLong, Fault, Called}
-use Rattle.hub_replay.specs.Lines.{fault_text, heard_in}
+use Rattle.call_lines.specs.declared.parsed.ParsedLine.{ParsedLine}
+use Rattle.call_lines.specs.declared.parsed.ParsedLine.TheVariants.{Blank, TooLong, Fault, Called}
+use Rattle.call_lines.specs.Lines.{fault_text}
+use Rattle.hub_replay.specs.Lines.{heard_in}
 use Rattle.hub_replay.specs.Outcomes.{Outcome, outcome, faulted, replied, entry_of, is_told, Answers, start_of}
 
 -- lines that lead from one outcome to another
-record IsCounted (o p : Outcome) (hs : List Heard) : Type 0 where
+record IsCounted (o p : Outcome) (hs : List ParsedLine) : Type 0 where
   lines : p.counts.lines ≡ o.counts.lines + count_by is_told hs
   calls : length p.entries + o.counts.calls ≡ length o.entries + p.counts.calls
   sum : p.counts.lines + (o.counts.calls + o.counts.faults) ≡ o.counts.lines + (p.counts.calls + p.counts.faults)
 
-told_more : (h : Heard) (hs : List Heard) → is_told h ≡ true → count_by is_told (h ∷ hs) ≡ 1 + count_by is_told hs
+told_more : (h : ParsedLine) (hs : List ParsedLine) → is_told h ≡ true → count_by is_told (h ∷ hs) ≡ 1 + count_by is_told hs
 told_more h hs e = sum_by-cons (λ x. cond (is_told x) 1 0) h hs ∙ ap (λ t. cond t 1 0 + count_by is_told hs) e
 
-fault_more : (o p : Outcome) (text : List ℕ) (h : Heard) (hs : List Heard) → is_told h ≡ true → IsCounted (faulted o text) p hs → IsCounted o p (h ∷ hs)
+fault_more : (o p : Outcome) (text : List ℕ) (h : ParsedLine) (hs : List ParsedLine) → is_told h ≡ true → IsCounted (faulted o text) p hs → IsCounted o p (h ∷ hs)
 unfolding faulted
 fault_more o p text h hs e c = record {
   lines = omega (arith, c.lines, told_more h hs e);
@@ -27,7 +28,7 @@ fault_more o p text h hs e c = record {
   sum = omega (arith, c.sum);
 }
 
-call_more : (o p : Outcome) (call : Call) (hs : List Heard) → IsCounted (replied o call) p hs → IsCounted o p (Called call ∷ hs)
+call_more : (o p : Outcome) (call : Call) (hs : List ParsedLine) → IsCounted (replied o call) p hs → IsCounted o p (Called call ∷ hs)
 unfolding replied
 call_more o p call hs c =
     let grown : length (o.entries ++ entry_of o.entries call ∷ []) ≡ length o.entries + 1 = length-append o.entries (entry_of o.entries call ∷ []) in
@@ -37,7 +38,7 @@ call_more o p call hs c =
       sum = omega (arith, c.sum);
     }
 
-counted : (o : Outcome) (hs : List Heard) → IsCounted o (outcome o hs) hs
+counted : (o : Outcome) (hs : List ParsedLine) → IsCounted o (outcome o hs) hs
 counted o [] = record { lines = omega arith; calls = refl; sum = refl }
 counted o (Blank ∷ hs) = let c = counted o hs in record { lines = c.lines; calls = c.calls; sum = c.sum }
 counted o (TooLong ∷ hs) = fault_more o _ _ TooLong hs refl (counted (faulted o (codes "{\"fault\":\"line_too_long\"}")) hs)

@@ -1,18 +1,15 @@
 -- How lines begin and end.
-use Rattle.std.proofs.Common.{◌≡◌, ℕ, ◌+◌, ◌-◌, ◌<◌, ◌≤◌, ◌==◌, true, false, cond, Bool, List, [], ◌∷◌, ◌++◌, length, get_or, take, drop, map, refl, ap, ◌∙◌, sym, arith, append_assoc, append-nil, suc, length-drop, length-append}
+use Rattle.std.proofs.Common.{◌≡◌, ℕ, ◌+◌, ◌-◌, ◌<◌, ◌≤◌, ◌==◌, true, false, cond, Bool, List, [], ◌∷◌, ◌++◌, length, get_or, take, drop, map, refl, ap, ◌∙◌, sym, arith, append_assoc, append-nil, length-drop, length-append}
 use Rattle.std.specs.List.{slice_range}
 use Rattle.std.proofs.Math.Seq.{take-add}
-use Rattle.std.proofs.lemmas.List.{drop-drop, drop-take}
-use Rattle.std.proofs.lemmas.List.{take_all, get_or-drop, get_or-take, length-take-le, drop_more}
-use Rattle.std.proofs.lemmas.Bool.{eqb-true}
-use Rattle.std.proofs.lemmas.Grind.{common_steps}
-use Rattle.std.proofs.lemmas.List.{drop_all}
+use Rattle.std.proofs.lemmas.List.{drop-drop, drop-take, drop_all, length-take-le}
 use Rattle.std.proofs.lemmas.List.Folds.{drop_split}
-use Rattle.std.proofs.lemmas.Bool.{lt-ltb}
-use Rattle.std.specs.Prelude.{nat_lt}
-use Rattle.hub_replay.specs.declared.heard.Heard.{Heard}
-use Rattle.hub_replay.specs.declared.heard.Heard.TheVariants.{TooLong}
-use Rattle.hub_replay.specs.Lines.{onto_first, lines_of, unbroken, past, left, heard, heard_in, IsTaken, IsCut}
+use Rattle.std.proofs.lemmas.Grind.{common_steps}
+use Rattle.call_lines.specs.declared.parsed.ParsedLine.{ParsedLine}
+use Rattle.call_lines.specs.declared.parsed.ParsedLine.TheVariants.{TooLong}
+use Rattle.call_lines.specs.Lines.{unbroken, parsed}
+use Rattle.call_lines.proofs.LineLemmas.{not_newline, rest_unbroken, line_split, too_long}
+use Rattle.hub_replay.specs.Lines.{onto_first, lines_of, past, left, heard_in, IsTaken, IsCut}
 
 -- what stands before the first newline
 abbrev pub upto : List ℕ → List ℕ
@@ -24,12 +21,6 @@ onto_lines b [] = refl
 onto_lines b (m ∷ more) =
     elim (m == 10) as (λ t. onto_first b (cond t ([] ∷ lines_of more) (onto_first m (lines_of more))) ≡ (b ∷ cond t [] (m ∷ upto more)) ∷ lines_of (cond t more (past more)))
     [ true ↦ refl | false ↦ ap (onto_first b) (onto_lines m more) ]
-
-not_newline : (b : ℕ) (bytes : List ℕ) → unbroken (b ∷ bytes) ≡ true → (b == 10) ≡ false
-not_newline b bytes h = grind (arith, common_steps)
-
-rest_unbroken : (b : ℕ) (bytes : List ℕ) → unbroken (b ∷ bytes) ≡ true → unbroken bytes ≡ true
-rest_unbroken b bytes h = grind (arith, common_steps)
 
 -- a beginning of a line, whatever follows it
 pub first_line : (x : ℕ) (line more : List ℕ) → unbroken (x ∷ line) ≡ true → lines_of ((x ∷ line) ++ more) ≡ ((x ∷ line) ++ upto more) ∷ lines_of (past more)
@@ -50,79 +41,43 @@ past_unbroken (x ∷ line) more h = rw (not_newline x line h) (past_unbroken lin
 pub past_newline : (line more : List ℕ) → unbroken line ≡ true → past (line ++ (10 ∷ more)) ≡ more
 past_newline line more h = past_unbroken line (10 ∷ more) h
 
--- no byte is a newline, seen by index
-pub unbroken_from : (bytes : List ℕ) → ((k : ℕ) → k < length bytes → (get_or bytes k 0 == 10) ≡ true → ⊥) → unbroken bytes ≡ true
-unbroken_from [] h = refl
-unbroken_from (x ∷ bytes) h =
-    let here : (x == 10) ≡ false = grind (arith, common_steps, h 0) in
-    let rest : unbroken bytes ≡ true = unbroken_from bytes (λ k lt. h (suc k) (omega arith)) in
-    rw (here, rest) refl
-
--- What a search from some place on found. `w` is what it looked through.
-pub searched_none : (bytes w : List ℕ) (from : ℕ) → from ≤ length bytes → w ≡ take (length bytes - from) (drop from bytes) → ((k : ℕ) → 0 ≤ k → k < length w → (get_or w k 0 == 10) ≡ true → ⊥) → unbroken (drop from bytes) ≡ true
-searched_none bytes w from le e h =
-    let all : length (drop from bytes) ≤ length bytes - from = omega (arith, length-drop from bytes) in
-    let same : w ≡ drop from bytes = e ∙ take_all (length bytes - from) (drop from bytes) all in
-    sym (ap unbroken same) ∙ unbroken_from w (λ k lt. h k (omega arith) lt)
-
-pub searched_some : (bytes w : List ℕ) (from at : ℕ) → from ≤ length bytes → w ≡ take (length bytes - from) (drop from bytes) → at < length w → (get_or w at 0 == 10) ≡ true → ((k : ℕ) → 0 ≤ k → k < at → (get_or w k 0 == 10) ≡ true → ⊥) → (from ≤ from + at) × (from + at < length bytes) × (get_or bytes (from + at) 0 ≡ 10) × (unbroken (slice_range bytes from (from + at)) ≡ true)
-searched_some bytes w from at le e lt here before =
-    let all : length (drop from bytes) ≤ length bytes - from = omega (arith, length-drop from bytes) in
-    let same : w ≡ drop from bytes = e ∙ take_all (length bytes - from) (drop from bytes) all in
-    let len : length w ≡ length bytes - from = ap length same ∙ length-drop from bytes in
-    let range : slice_range bytes from (from + at) ≡ take at w = grind (arith, common_steps) in
-    let short : length (take at w) ≡ at = length-take-le at w (omega arith) in (
-      omega arith,
-      omega (arith, len),
-      sym (get_or-drop from bytes at 0) ∙ sym (ap (λ l. get_or l at 0) same) ∙ eqb-true (get_or w at 0) 10 here,
-      ap unbroken range ∙ unbroken_from (take at w) (λ k k_lt is. before k (omega arith) (omega (arith, short)) (rw (← get_or-take at w k 0 (omega (arith, short))) is)),
-    )
-
 pub unbroken_join : (xs ys : List ℕ) → unbroken xs ≡ true → unbroken ys ≡ true → unbroken (xs ++ ys) ≡ true
 unbroken_join [] ys h k = k
 unbroken_join (x ∷ xs) ys h k = rw (not_newline x xs h) (unbroken_join xs ys (rest_unbroken x xs h) k)
 
--- a line that stands in a piece
-pub line_split : (w : List ℕ) (from end : ℕ) → from ≤ end → end < length w → get_or w end 0 ≡ 10 → drop from w ≡ slice_range w from end ++ (10 ∷ drop (end + 1) w)
-line_split w from end le lt is = drop_split w from end le ∙ ap (λ l. slice_range w from end ++ l) (drop_more w end 0 lt ∙ ap (λ b. b ∷ drop (end + 1) w) is)
-
-pub heard_line : (line : List ℕ) → unbroken line ≡ true → 0 < length line → heard_in line ≡ heard line ∷ []
+pub heard_line : (line : List ℕ) → unbroken line ≡ true → 0 < length line → heard_in line ≡ parsed line ∷ []
 heard_line [] h lt = absurd (omega arith)
 heard_line (x ∷ line) h lt =
     let e : lines_of ((x ∷ line) ++ []) ≡ ((x ∷ line) ++ []) ∷ [] = first_line x line [] h in
     let same : (x ∷ line) ++ [] ≡ x ∷ line = append-nil (x ∷ line) in
-    ap (map heard) (sym (ap lines_of same) ∙ e ∙ ap (λ l. l ∷ []) same)
-
-too_long : (line : List ℕ) → 65536 < length line → heard line ≡ TooLong
-unfolding heard
-too_long line lt = let t : nat_lt 65536 (length line) ≡ true = lt-ltb 65536 (length line) lt in rw t refl
+    ap (map parsed) (sym (ap lines_of same) ∙ e ∙ ap (λ l. l ∷ []) same)
 
 heard_long : (line more : List ℕ) → unbroken line ≡ true → 65536 < length line → heard_in (line ++ more) ≡ TooLong ∷ heard_in (past more)
 heard_long [] more h lt = absurd (omega arith)
 heard_long (x ∷ line) more h lt =
     let long : 65536 < length ((x ∷ line) ++ upto more) = omega (arith, lt, length-append (x ∷ line) (upto more)) in
-    ap (map heard) (first_line x line more h) ∙ ap (λ t. t ∷ heard_in (past more)) (too_long ((x ∷ line) ++ upto more) long)
+    ap (map parsed) (first_line x line more h) ∙ ap (λ t. t ∷ heard_in (past more)) (too_long ((x ∷ line) ++ upto more) long)
 
 pub IsTaken-none : (bytes : List ℕ) → IsTaken bytes [] bytes
 IsTaken-none bytes = record { says = λ more. refl }
 
 -- one more line of a piece
-pub IsTaken-line : (bytes w : List ℕ) (hs : List Heard) (from end : ℕ) (h : Heard) → IsTaken bytes hs (drop from w) → from ≤ end → end < length w → get_or w end 0 ≡ 10 → unbroken (slice_range w from end) ≡ true → h ≡ heard (slice_range w from end) → IsTaken bytes (hs ++ h ∷ []) (drop (end + 1) w)
+pub IsTaken-line : (bytes w : List ℕ) (hs : List ParsedLine) (from end : ℕ) (h : ParsedLine) → IsTaken bytes hs (drop from w) → from ≤ end → end < length w → get_or w end 0 ≡ 10 → unbroken (slice_range w from end) ≡ true → h ≡ parsed (slice_range w from end) → IsTaken bytes (hs ++ h ∷ []) (drop (end + 1) w)
 IsTaken-line bytes w hs from end h t le lt is whole e = record {
   says = λ more.
       let line : List ℕ = slice_range w from end in
       let split : drop from w ++ more ≡ line ++ (10 ∷ (drop (end + 1) w ++ more)) = ap (λ l. l ++ more) (line_split w from end le lt is) ∙ append_assoc line (10 ∷ drop (end + 1) w) more in
-      let one : heard_in (drop from w ++ more) ≡ h ∷ heard_in (drop (end + 1) w ++ more) = ap heard_in split ∙ ap (map heard) (whole_line line (drop (end + 1) w ++ more) whole) ∙ ap (λ x. x ∷ heard_in (drop (end + 1) w ++ more)) (sym e) in
+      let one : heard_in (drop from w ++ more) ≡ h ∷ heard_in (drop (end + 1) w ++ more) = ap heard_in split ∙ ap (map parsed) (whole_line line (drop (end + 1) w ++ more) whole) ∙ ap (λ x. x ∷ heard_in (drop (end + 1) w ++ more)) (sym e) in
       t.says more ∙ ap (λ l. hs ++ l) one ∙ sym (append_assoc hs (h ∷ []) (heard_in (drop (end + 1) w ++ more)));
 }
 
 -- lines after lines
-pub IsTaken-append : (bytes next rest : List ℕ) (hs more : List Heard) → IsTaken bytes hs next → IsTaken next more rest → IsTaken bytes (hs ++ more) rest
+pub IsTaken-append : (bytes next rest : List ℕ) (hs more : List ParsedLine) → IsTaken bytes hs next → IsTaken next more rest → IsTaken bytes (hs ++ more) rest
 IsTaken-append bytes next rest hs more t u = record {
   says = λ after. t.says after ∙ ap (λ l. hs ++ l) (u.says after) ∙ sym (append_assoc hs more (heard_in (rest ++ after)));
 }
 
-pub heard_taken : (bytes : List ℕ) (hs : List Heard) (rest : List ℕ) → IsTaken bytes hs rest → heard_in bytes ≡ hs ++ heard_in rest
+pub heard_taken : (bytes : List ℕ) (hs : List ParsedLine) (rest : List ℕ) → IsTaken bytes hs rest → heard_in bytes ≡ hs ++ heard_in rest
 heard_taken bytes hs rest t = sym (ap heard_in (append-nil bytes)) ∙ t.says [] ∙ ap (λ l. hs ++ heard_in l) (append-nil rest)
 
 pub false_true : false ≡ true → ⊥
@@ -135,7 +90,7 @@ IsCut-skipped piece h =
     rw none (record { whole = refl; bare = λ e. refl; says = λ more. ap heard_in (past_unbroken piece more h) })
 
 -- a piece of which the rest is too long for a line
-pub IsCut-long : (piece : List ℕ) (skipping : Bool) (hs : List Heard) (start end : ℕ) → ((more : List ℕ) → left skipping (piece ++ more) ≡ drop start piece ++ more) → IsTaken (drop start piece) hs (drop end piece) → unbroken (drop end piece) ≡ true → 65536 < length (drop end piece) → IsCut piece skipping (hs ++ TooLong ∷ []) true (drop (length piece) piece)
+pub IsCut-long : (piece : List ℕ) (skipping : Bool) (hs : List ParsedLine) (start end : ℕ) → ((more : List ℕ) → left skipping (piece ++ more) ≡ drop start piece ++ more) → IsTaken (drop start piece) hs (drop end piece) → unbroken (drop end piece) ≡ true → 65536 < length (drop end piece) → IsCut piece skipping (hs ++ TooLong ∷ []) true (drop (length piece) piece)
 IsCut-long piece skipping hs start end begins t h lt =
     let none : drop (length piece) piece ≡ [] = drop_all (length piece) piece (omega arith) in
     rw none (record {
@@ -145,7 +100,7 @@ IsCut-long piece skipping hs start end begins t h lt =
     })
 
 -- one more piece
-pub IsCut-more : (read kept new piece : List ℕ) (hs hs' : List Heard) (skips skips' : Bool) (kept' : List ℕ) → IsCut read false hs skips kept → piece ≡ kept ++ new → IsCut piece skips hs' skips' kept' → IsCut (read ++ new) false (hs ++ hs') skips' kept'
+pub IsCut-more : (read kept new piece : List ℕ) (hs hs' : List ParsedLine) (skips skips' : Bool) (kept' : List ℕ) → IsCut read false hs skips kept → piece ≡ kept ++ new → IsCut piece skips hs' skips' kept' → IsCut (read ++ new) false (hs ++ hs') skips' kept'
 IsCut-more read kept new piece hs hs' skips skips' kept' a e b = record {
   whole = b.whole;
   bare = b.bare;
@@ -155,11 +110,11 @@ IsCut-more read kept new piece hs hs' skips skips' kept' a e b = record {
 }
 
 -- what the bytes say that were read so far and a piece more
-pub heard_more : (read kept new piece : List ℕ) (hs : List Heard) (skips : Bool) → IsCut read false hs skips kept → piece ≡ kept ++ new → heard_in (read ++ new) ≡ hs ++ heard_in (left skips piece)
+pub heard_more : (read kept new piece : List ℕ) (hs : List ParsedLine) (skips : Bool) → IsCut read false hs skips kept → piece ≡ kept ++ new → heard_in (read ++ new) ≡ hs ++ heard_in (left skips piece)
 heard_more read kept new piece hs skips a e = a.says new ∙ ap (λ l. hs ++ heard_in (left skips l)) (sym e)
 
 -- what all bytes say
-pub heard_all : (read kept : List ℕ) (hs : List Heard) (skips : Bool) → IsCut read false hs skips kept → heard_in read ≡ hs ++ heard_in kept
+pub heard_all : (read kept : List ℕ) (hs : List ParsedLine) (skips : Bool) → IsCut read false hs skips kept → heard_in read ≡ hs ++ heard_in kept
 heard_all read kept hs true a =
     let none : kept ≡ [] = a.bare refl in
     sym (ap heard_in (append-nil read)) ∙ a.says [] ∙ ap (λ l. hs ++ heard_in (past (l ++ []))) none ∙ ap (λ l. hs ++ heard_in l) (sym none)

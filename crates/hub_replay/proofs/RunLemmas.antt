@@ -7,20 +7,21 @@ use Rattle.taf_messages.specs.declared.call.Call.{Call}
 use Rattle.hub_model.specs.declared.entry.Entry.{Entry}
 use Rattle.hub_replay.specs.declared.counts.Counts.{Counts}
 use Rattle.hub_replay.specs.declared.desk.Desk.{Desk}
-use Rattle.hub_replay.specs.declared.heard.Heard.{Heard}
-use Rattle.hub_replay.specs.declared.heard.Heard.TheVariants.{Blank, TooLong, Fault, Called}
+use Rattle.call_lines.specs.declared.parsed.ParsedLine.{ParsedLine}
+use Rattle.call_lines.specs.declared.parsed.ParsedLine.TheVariants.{Blank, TooLong, Fault, Called}
 use Rattle.hub_replay.specs.declared.fault.RunFault.{RunFault}
 use Rattle.hub_replay.specs.declared.fault.RunFault.TheVariants.{Read, Write, NoEnd, Memory}
-use Rattle.hub_replay.specs.Lines.{reply_text, heard_in}
+use Rattle.call_lines.specs.Lines.{reply_text}
+use Rattle.hub_replay.specs.Lines.{heard_in}
 use Rattle.hub_replay.specs.Outcomes.{Outcome, outcome, after, faulted, replied, entry_of, one_fault_more, one_call_more, IsStopped, start_of, Answers}
 use Rattle.hub_replay.specs.Running.{IsUnderway, Goes, Stops, ComesLate, ComesOf}
 use Rattle.hub_replay.proofs.StreamLemmas.{Appends-none, Appends-kept, Appends-append}
 
-pub outcome-append : (o : Outcome) (xs ys : List Heard) → outcome o (xs ++ ys) ≡ outcome (outcome o xs) ys
+pub outcome-append : (o : Outcome) (xs ys : List ParsedLine) → outcome o (xs ++ ys) ≡ outcome (outcome o xs) ys
 outcome-append o xs ys = fold-append after o xs ys
 
 -- what is written only grows
-pub grows_after : (o : Outcome) (h : Heard) → (more : List ℕ) × ((after o h).output ≡ o.output ++ more)
+pub grows_after : (o : Outcome) (h : ParsedLine) → (more : List ℕ) × ((after o h).output ≡ o.output ++ more)
 unfolding faulted replied
 grows_after o Blank = ([], sym (append-nil o.output))
 grows_after o TooLong = (_, refl)
@@ -29,7 +30,7 @@ grows_after o (Called call) =
     elim (nat_lt (length o.entries) 1000000) as (λ t. (more : List ℕ) × ((cond t (replied o call) (faulted o (codes "{\"fault\":\"hub_full\"}"))).output ≡ o.output ++ more))
     [ true ↦ (_, refl) | false ↦ (_, refl) ]
 
-pub grows : (o : Outcome) (hs : List Heard) → (more : List ℕ) × ((outcome o hs).output ≡ o.output ++ more)
+pub grows : (o : Outcome) (hs : List ParsedLine) → (more : List ℕ) × ((outcome o hs).output ≡ o.output ++ more)
 grows o [] = ([], sym (append-nil o.output))
 grows o (h ∷ hs) =
     let one = grows_after o h in
@@ -37,7 +38,7 @@ grows o (h ∷ hs) =
     (one.0 ++ rest.0, rest.1 ∙ ap (λ l. l ++ rest.0) one.1 ∙ append_assoc o.output one.0 rest.0)
 
 -- a stop stays one when more lines follow
-pub IsStopped-more : (start : Outcome) (hs more : List Heard) (written : List ℕ) (entries : List Entry) → IsStopped start hs written entries → IsStopped start (hs ++ more) written entries
+pub IsStopped-more : (start : Outcome) (hs more : List ParsedLine) (written : List ℕ) (entries : List Entry) → IsStopped start hs written entries → IsStopped start (hs ++ more) written entries
 IsStopped-more start hs more written entries s = record {
   told = s.told;
   last = s.last;
@@ -52,7 +53,7 @@ IsStopped-more start hs more written entries s = record {
 }
 
 -- Where a run is underway it may stop, with any front of what is pending written.
-pub IsStopped-underway : (start : Outcome) (hs : List Heard) (written : List ℕ) (entries : List Entry) (front back : List ℕ) (counts : Counts) → IsUnderway start hs written entries (front ++ back) counts → IsStopped start hs (written ++ front) entries
+pub IsStopped-underway : (start : Outcome) (hs : List ParsedLine) (written : List ℕ) (entries : List Entry) (front back : List ℕ) (counts : Counts) → IsUnderway start hs written entries (front ++ back) counts → IsStopped start hs (written ++ front) entries
 IsStopped-underway start hs written entries front back counts u = record {
   told = u.told;
   last = u.rest;
@@ -67,7 +68,7 @@ IsStopped-underway start hs written entries front back counts u = record {
 }
 
 -- all that is pending is written
-pub IsUnderway-flushed : (start : Outcome) (hs : List Heard) (written : List ℕ) (entries : List Entry) (pending : List ℕ) (counts : Counts) → IsUnderway start hs written entries pending counts → IsUnderway start hs (written ++ pending) entries [] counts
+pub IsUnderway-flushed : (start : Outcome) (hs : List ParsedLine) (written : List ℕ) (entries : List Entry) (pending : List ℕ) (counts : Counts) → IsUnderway start hs written entries pending counts → IsUnderway start hs (written ++ pending) entries [] counts
 IsUnderway-flushed start hs written entries pending counts u = record {
   sum = u.sum ∙ ap (λ l. record { entries = entries; output = l; counts = counts }) (sym (append-nil (written ++ pending)));
   told = hs;
@@ -78,7 +79,7 @@ IsUnderway-flushed start hs written entries pending counts u = record {
 }
 
 -- a line that only adds to what is pending, and brings no entry
-pub IsUnderway-said : (start : Outcome) (hs : List Heard) (h : Heard) (written : List ℕ) (entries : List Entry) (pending pending' : List ℕ) (counts counts' : Counts) → IsUnderway start hs written entries pending counts → after (record { entries = entries; output = written ++ pending; counts = counts }) h ≡ record { entries = entries; output = written ++ pending'; counts = counts' } → IsUnderway start (hs ++ h ∷ []) written entries pending' counts'
+pub IsUnderway-said : (start : Outcome) (hs : List ParsedLine) (h : ParsedLine) (written : List ℕ) (entries : List Entry) (pending pending' : List ℕ) (counts counts' : Counts) → IsUnderway start hs written entries pending counts → after (record { entries = entries; output = written ++ pending; counts = counts }) h ≡ record { entries = entries; output = written ++ pending'; counts = counts' } → IsUnderway start (hs ++ h ∷ []) written entries pending' counts'
 IsUnderway-said start hs h written entries pending pending' counts counts' u e = record {
   sum = outcome-append start hs (h ∷ []) ∙ ap (λ o. after o h) u.sum ∙ e;
   told = u.told;
@@ -96,7 +97,7 @@ Goes-none c e d = record { goes = λ start before written u. ([], Appends-none c
 pub Goes-kept : (c₀ c₁ : Option (List ℕ)) (e : List Entry) (d : Desk) → Keeps c₀ c₁ → Goes c₀ c₁ e d e d []
 Goes-kept c₀ c₁ e d k = record { goes = λ start before written u. ([], Appends-kept c₀ c₁ k, rw (append-nil before, append-nil written) u) }
 
-pub Goes-append : {c₀ c₁ c₂ : Option (List ℕ)} {e₀ e₁ e₂ : List Entry} {d₀ d₁ d₂ : Desk} {xs ys : List Heard} → Goes c₀ c₁ e₀ d₀ e₁ d₁ xs → Goes c₁ c₂ e₁ d₁ e₂ d₂ ys → Goes c₀ c₂ e₀ d₀ e₂ d₂ (xs ++ ys)
+pub Goes-append : {c₀ c₁ c₂ : Option (List ℕ)} {e₀ e₁ e₂ : List Entry} {d₀ d₁ d₂ : Desk} {xs ys : List ParsedLine} → Goes c₀ c₁ e₀ d₀ e₁ d₁ xs → Goes c₁ c₂ e₁ d₁ e₂ d₂ ys → Goes c₀ c₂ e₀ d₀ e₂ d₂ (xs ++ ys)
 Goes-append {c₀} {c₁} {c₂} {e₀} {e₁} {e₂} {d₀} {d₁} {d₂} {xs} {ys} a b = record {
   goes = λ start before written u.
       let p = a.goes start before written u in
@@ -104,7 +105,7 @@ Goes-append {c₀} {c₁} {c₂} {e₀} {e₁} {e₂} {d₀} {d₁} {d₂} {xs} 
       (p.0 ++ q.0, Appends-append c₀ c₁ c₂ p.0 q.0 p.1 q.1, rw (← append_assoc before xs ys, ← append_assoc written p.0 q.0) q.2);
 }
 
-pub Stops-after : {c₀ c₁ c₂ : Option (List ℕ)} {e₀ e₁ e₂ : List Entry} {d₀ d₁ : Desk} {xs ys : List Heard} → Goes c₀ c₁ e₀ d₀ e₁ d₁ xs → Stops c₁ c₂ e₁ d₁ e₂ ys → Stops c₀ c₂ e₀ d₀ e₂ (xs ++ ys)
+pub Stops-after : {c₀ c₁ c₂ : Option (List ℕ)} {e₀ e₁ e₂ : List Entry} {d₀ d₁ : Desk} {xs ys : List ParsedLine} → Goes c₀ c₁ e₀ d₀ e₁ d₁ xs → Stops c₁ c₂ e₁ d₁ e₂ ys → Stops c₀ c₂ e₀ d₀ e₂ (xs ++ ys)
 Stops-after {c₀} {c₁} {c₂} {e₀} {e₁} {e₂} {d₀} {d₁} {xs} {ys} a b = record {
   stops = λ start before written u.
       let p = a.goes start before written u in
@@ -112,7 +113,7 @@ Stops-after {c₀} {c₁} {c₂} {e₀} {e₁} {e₂} {d₀} {d₁} {xs} {ys} a 
       (p.0 ++ q.0, Appends-append c₀ c₁ c₂ p.0 q.0 p.1 q.1, rw (← append_assoc before xs ys, ← append_assoc written p.0 q.0) q.2);
 }
 
-pub Stops-more : {c₀ c₁ : Option (List ℕ)} {e₀ e₁ : List Entry} {d₀ : Desk} {xs : List Heard} (ys : List Heard) → Stops c₀ c₁ e₀ d₀ e₁ xs → Stops c₀ c₁ e₀ d₀ e₁ (xs ++ ys)
+pub Stops-more : {c₀ c₁ : Option (List ℕ)} {e₀ e₁ : List Entry} {d₀ : Desk} {xs : List ParsedLine} (ys : List ParsedLine) → Stops c₀ c₁ e₀ d₀ e₁ xs → Stops c₀ c₁ e₀ d₀ e₁ (xs ++ ys)
 Stops-more {c₀} {c₁} {e₀} {e₁} {d₀} {xs} ys a = record {
   stops = λ start before written u.
       let p = a.stops start before written u in
@@ -120,14 +121,14 @@ Stops-more {c₀} {c₁} {e₀} {e₁} {d₀} {xs} ys a = record {
 }
 
 -- a call whose reply's line is written too
-pub IsUnderway-replied : (start : Outcome) (hs : List Heard) (call : Call) (written : List ℕ) (entries entries' : List Entry) (pending pending' : List ℕ) (counts counts' : Counts) → IsUnderway start hs written entries pending counts → length entries < 1000000 → entries' ≡ entries ++ entry_of entries call ∷ [] → pending' ≡ pending ++ (reply_text (entry_of entries call).reply ++ 10 ∷ []) → counts' ≡ one_call_more counts → outcome start (hs ++ Called call ∷ []) ≡ record { entries = entries'; output = written ++ pending'; counts = counts' }
+pub IsUnderway-replied : (start : Outcome) (hs : List ParsedLine) (call : Call) (written : List ℕ) (entries entries' : List Entry) (pending pending' : List ℕ) (counts counts' : Counts) → IsUnderway start hs written entries pending counts → length entries < 1000000 → entries' ≡ entries ++ entry_of entries call ∷ [] → pending' ≡ pending ++ (reply_text (entry_of entries call).reply ++ 10 ∷ []) → counts' ≡ one_call_more counts → outcome start (hs ++ Called call ∷ []) ≡ record { entries = entries'; output = written ++ pending'; counts = counts' }
 unfolding replied
 IsUnderway-replied start hs call written entries entries' pending pending' counts counts' u room e p k =
     let fits : nat_lt (length entries) 1000000 ≡ true = lt-ltb (length entries) 1000000 room in
     outcome-append start hs (Called call ∷ []) ∙ ap (λ o. after o (Called call)) u.sum ∙ rw (fits, e, p, k) (ap (λ l. record { entries = entries ++ entry_of entries call ∷ []; output = l; counts = one_call_more counts }) (append_assoc written pending (reply_text (entry_of entries call).reply ++ 10 ∷ [])))
 
 -- a state in which all is written
-pub IsUnderway-told : (start : Outcome) (hs : List Heard) (written : List ℕ) (entries : List Entry) (counts : Counts) → outcome start hs ≡ record { entries = entries; output = written; counts = counts } → IsUnderway start hs written entries [] counts
+pub IsUnderway-told : (start : Outcome) (hs : List ParsedLine) (written : List ℕ) (entries : List Entry) (counts : Counts) → outcome start hs ≡ record { entries = entries; output = written; counts = counts } → IsUnderway start hs written entries [] counts
 IsUnderway-told start hs written entries counts e = record {
   sum = e ∙ ap (λ l. record { entries = entries; output = l; counts = counts }) (sym (append-nil written));
   told = hs;
@@ -138,7 +139,7 @@ IsUnderway-told start hs written entries counts e = record {
 }
 
 -- a call that is in the history, and of whose reply and what was pending any front is written
-pub IsStopped-replied : (start : Outcome) (hs : List Heard) (call : Call) (written : List ℕ) (entries entries' : List Entry) (pending front back : List ℕ) (counts counts' : Counts) → IsUnderway start hs written entries pending counts → outcome start (hs ++ Called call ∷ []) ≡ record { entries = entries'; output = written ++ (front ++ back); counts = counts' } → length entries' ≤ length entries + 1 → IsStopped start (hs ++ Called call ∷ []) (written ++ front) entries'
+pub IsStopped-replied : (start : Outcome) (hs : List ParsedLine) (call : Call) (written : List ℕ) (entries entries' : List Entry) (pending front back : List ℕ) (counts counts' : Counts) → IsUnderway start hs written entries pending counts → outcome start (hs ++ Called call ∷ []) ≡ record { entries = entries'; output = written ++ (front ++ back); counts = counts' } → length entries' ≤ length entries + 1 → IsStopped start (hs ++ Called call ∷ []) (written ++ front) entries'
 IsStopped-replied start hs call written entries entries' pending front back counts counts' u e few =
     let split : hs ++ Called call ∷ [] ≡ u.told ++ (u.rest ++ Called call ∷ []) = ap (λ l. l ++ Called call ∷ []) u.split ∙ append_assoc u.told u.rest (Called call ∷ []) in
     record {
@@ -160,7 +161,7 @@ said_as entries written pending pending' text counts counts' p k =
     rw (p, k) (ap (λ l. record { entries = entries; output = l; counts = one_fault_more counts }) (append_assoc written pending (text ++ 10 ∷ [])))
 
 -- a line that is answered by a fault
-pub Goes-said : (c : Option (List ℕ)) (e : List Entry) (d₀ d₁ : Desk) (h : Heard) (text : List ℕ) → ((o : Outcome) → o.entries ≡ e → after o h ≡ faulted o text) → d₁.out.items ≡ d₀.out.items ++ (text ++ 10 ∷ []) → d₁.counts ≡ one_fault_more d₀.counts → Goes c c e d₀ e d₁ (h ∷ [])
+pub Goes-said : (c : Option (List ℕ)) (e : List Entry) (d₀ d₁ : Desk) (h : ParsedLine) (text : List ℕ) → ((o : Outcome) → o.entries ≡ e → after o h ≡ faulted o text) → d₁.out.items ≡ d₀.out.items ++ (text ++ 10 ∷ []) → d₁.counts ≡ one_fault_more d₀.counts → Goes c c e d₀ e d₁ (h ∷ [])
 Goes-said c e d₀ d₁ h text same p k = record {
   goes = λ start before written u.
       let o : Outcome = record { entries = e; output = written ++ d₀.out.items; counts = d₀.counts } in
@@ -176,7 +177,7 @@ Goes-blank c e d = record {
 }
 
 -- nothing is done, and the run stops
-pub Stops-here : (c : Option (List ℕ)) (e : List Entry) (d : Desk) (hs : List Heard) → Stops c c e d e hs
+pub Stops-here : (c : Option (List ℕ)) (e : List Entry) (d : Desk) (hs : List ParsedLine) → Stops c c e d e hs
 Stops-here c e d hs = record {
   stops = λ start before written u. ([], Appends-none c, IsStopped-more start before hs (written ++ []) e (IsStopped-underway start before written e [] d.out.items d.counts u));
 }
@@ -215,17 +216,17 @@ pub on_err : {A E : Type 0} (r : Result A E) {R : Type 0} → R → OnErr r R
 on_err (Ok x) h = tt
 on_err (Err e) h = h
 
-pub Stops-err : {A E : Type 0} (r : Result A E) {c₀ c₁ : Option (List ℕ)} {e₀ e₁ : List Entry} {d₀ : Desk} {xs ys : List Heard} → ys ≡ xs → Stops c₀ c₁ e₀ d₀ e₁ xs → OnErr r (Stops c₀ c₁ e₀ d₀ e₁ ys)
+pub Stops-err : {A E : Type 0} (r : Result A E) {c₀ c₁ : Option (List ℕ)} {e₀ e₁ : List Entry} {d₀ : Desk} {xs ys : List ParsedLine} → ys ≡ xs → Stops c₀ c₁ e₀ d₀ e₁ xs → OnErr r (Stops c₀ c₁ e₀ d₀ e₁ ys)
 Stops-err r e s = on_err r (rw e s)
 
 -- a whole run begins at nothing
 begun : (e : List Entry) (d : Desk) → d.out.items ≡ [] → d.counts ≡ record { lines = 0; calls = 0; faults = 0 } → IsUnderway (start_of e) [] [] e d.out.items d.counts
 begun e d out counts = rw (out, counts) (record { sum = refl; told = []; rest = []; split = refl; flushed = refl; answered = refl })
 
-pub stopped : {c₀ c₁ : Option (List ℕ)} {e₀ e₁ : List Entry} {d₀ : Desk} (xs : List Heard) → d₀.out.items ≡ [] → d₀.counts ≡ record { lines = 0; calls = 0; faults = 0 } → Stops c₀ c₁ e₀ d₀ e₁ xs → (written : List ℕ) × Appends c₀ c₁ written × IsStopped (start_of e₀) xs written e₁
+pub stopped : {c₀ c₁ : Option (List ℕ)} {e₀ e₁ : List Entry} {d₀ : Desk} (xs : List ParsedLine) → d₀.out.items ≡ [] → d₀.counts ≡ record { lines = 0; calls = 0; faults = 0 } → Stops c₀ c₁ e₀ d₀ e₁ xs → (written : List ℕ) × Appends c₀ c₁ written × IsStopped (start_of e₀) xs written e₁
 stopped {c₀} {c₁} {e₀} {e₁} {d₀} xs out counts s = s.stops (start_of e₀) [] [] (begun e₀ d₀ out counts)
 
-pub ended : {c₀ c₁ : Option (List ℕ)} {e₀ e₁ : List Entry} {d₀ d₁ : Desk} (read : List ℕ) (xs : List Heard) (told : Counts) → d₀.out.items ≡ [] → d₀.counts ≡ record { lines = 0; calls = 0; faults = 0 } → d₁.out.items ≡ [] → told ≡ d₁.counts → heard_in read ≡ xs → Goes c₀ c₁ e₀ d₀ e₁ d₁ xs → (written : List ℕ) × Appends c₀ c₁ written × Answers e₀ read e₁ written told
+pub ended : {c₀ c₁ : Option (List ℕ)} {e₀ e₁ : List Entry} {d₀ d₁ : Desk} (read : List ℕ) (xs : List ParsedLine) (told : Counts) → d₀.out.items ≡ [] → d₀.counts ≡ record { lines = 0; calls = 0; faults = 0 } → d₁.out.items ≡ [] → told ≡ d₁.counts → heard_in read ≡ xs → Goes c₀ c₁ e₀ d₀ e₁ d₁ xs → (written : List ℕ) × Appends c₀ c₁ written × Answers e₀ read e₁ written told
 ended {c₀} {c₁} {e₀} {e₁} {d₀} {d₁} read xs told out counts none same e g =
     let p = g.goes (start_of e₀) [] [] (begun e₀ d₀ out counts) in
     (p.0, p.1, ap (outcome (start_of e₀)) e ∙ p.2.sum ∙ ap (λ l. record { entries = e₁; output = p.0 ++ l; counts = d₁.counts }) none ∙ ap (λ l. record { entries = e₁; output = l; counts = d₁.counts }) (append-nil p.0) ∙ ap (λ k. record { entries = e₁; output = p.0; counts = k }) (sym same))
@@ -236,5 +237,5 @@ late Write r₀ r₁ w₀ w w₁ n h read same le = (read, omega (arith, h, same
 late NoEnd r₀ r₁ w₀ w w₁ n h read same le = absurd h
 late Memory r₀ r₁ w₀ w w₁ n h read same le = (read, h ∙ same, le)
 
-pub Stops-as : {c₀ c₁ : Option (List ℕ)} {e₀ e₁ : List Entry} {d₀ : Desk} {xs ys : List Heard} → ys ≡ xs → Stops c₀ c₁ e₀ d₀ e₁ xs → Stops c₀ c₁ e₀ d₀ e₁ ys
+pub Stops-as : {c₀ c₁ : Option (List ℕ)} {e₀ e₁ : List Entry} {d₀ : Desk} {xs ys : List ParsedLine} → ys ≡ xs → Stops c₀ c₁ e₀ d₀ e₁ xs → Stops c₀ c₁ e₀ d₀ e₁ ys
 Stops-as e s = rw e s

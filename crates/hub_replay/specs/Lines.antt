@@ -1,17 +1,7 @@
--- The lines of bytes, and what each says.
-use Rattle.std.specs.Prelude.{◌≡◌, ℕ, ◌==◌, ◌||◌, nat_lt, not, Bool, true, false, List, [], ◌∷◌, ◌++◌, length, map, Result, Ok, Err, if◌then◌else◌}
-use Rattle.std.specs.List.{list_all}
-use Rattle.std.specs.Str.{is_utf8}
-use Rattle.serde_json.specs.Read.{read as read_json}
-use Rattle.serde_json.specs.Written.{compact_text}
-use Rattle.taf_messages.specs.declared.call.Call.{Call}
-use Rattle.taf_messages.specs.declared.reply.Reply.{Reply}
-use Rattle.taf_messages.specs.declared.fault.RecordFault.{RecordFault}
-use Rattle.taf_messages.specs.declared.fault.RecordFault.TheVariants.{BadJson, Memory}
-use Rattle.call_reader.specs.Reading.{call_read}
-use Rattle.reply_writer.specs.ReplyShapes.{reply_data, fault_data}
-use Rattle.hub_replay.specs.declared.heard.Heard.{Heard}
-use Rattle.hub_replay.specs.declared.heard.Heard.TheVariants.{Blank, TooLong, Fault, Called}
+-- Where the lines of bytes begin and end.
+use Rattle.std.specs.Prelude.{◌≡◌, ℕ, ◌==◌, Bool, true, false, List, [], ◌∷◌, ◌++◌, map, if◌then◌else◌}
+use Rattle.call_lines.specs.declared.parsed.ParsedLine.{ParsedLine}
+use Rattle.call_lines.specs.Lines.{parsed, unbroken}
 
 -- a byte goes onto the first of the lines, or begins one
 abbrev pub onto_first : ℕ → List (List ℕ) → List (List ℕ)
@@ -23,40 +13,9 @@ abbrev pub lines_of : List ℕ → List (List ℕ)
 lines_of [] = []
 lines_of (b ∷ bytes) = if b == 10 then [] ∷ lines_of bytes else onto_first b (lines_of bytes)
 
--- blanks, tabs and carriage returns alone, or nothing
-abbrev pub is_blank : List ℕ → Bool
-is_blank = list_all (λ b. b == 32 || b == 9 || b == 13)
-
--- the call of a line, or its first fault; a line that is no UTF-8 is no JSON
-unfoldable pub call_in : List ℕ → Result Call RecordFault
-call_in line = if is_utf8 line then call_read (read_json line) else Err BadJson
-
-abbrev pub heard_as : Result Call RecordFault → Heard
-heard_as (Ok call) = Called call
-heard_as (Err fault) = Fault fault
-
--- what a line says
-unfoldable pub heard : List ℕ → Heard
-heard line = if nat_lt 65536 (length line) then TooLong else if is_blank line then Blank else heard_as (call_in line)
-
 -- what the lines of the bytes say
-abbrev pub heard_in : List ℕ → List Heard
-heard_in bytes = map heard (lines_of bytes)
-
--- want of memory is no fault of a line
-abbrev pub CanBeTold : Heard → Type 0
-CanBeTold (Fault Memory) = ⊥
-CanBeTold _ = Unit {0}
-
-unfoldable pub fault_text : RecordFault → List ℕ
-fault_text fault = compact_text (fault_data fault)
-
-unfoldable pub reply_text : Reply → List ℕ
-reply_text reply = compact_text (reply_data reply)
-
--- no newline among the bytes
-abbrev pub unbroken : List ℕ → Bool
-unbroken = list_all (λ b. not (b == 10))
+abbrev pub heard_in : List ℕ → List ParsedLine
+heard_in bytes = map parsed (lines_of bytes)
 
 -- what follows the first newline
 abbrev pub past : List ℕ → List ℕ
@@ -70,11 +29,11 @@ left false bytes = bytes
 
 -- The lines of the bytes say these things, up to the last newline or the end of a line that is too long. What is
 -- kept is the beginning of a line, or nothing where the rest of a line is skipped.
-pub record IsCut (bytes : List ℕ) (skipping : Bool) (hs : List Heard) (skips : Bool) (kept : List ℕ) : Type 0 where
+pub record IsCut (bytes : List ℕ) (skipping : Bool) (hs : List ParsedLine) (skips : Bool) (kept : List ℕ) : Type 0 where
   pub whole : unbroken kept ≡ true
   pub bare : skips ≡ true → kept ≡ []
   pub says : (more : List ℕ) → heard_in (left skipping (bytes ++ more)) ≡ hs ++ heard_in (left skips (kept ++ more))
 
 -- These bytes say these things, and then what those bytes say, whatever follows.
-pub record IsTaken (bytes : List ℕ) (hs : List Heard) (rest : List ℕ) : Type 0 where
+pub record IsTaken (bytes : List ℕ) (hs : List ParsedLine) (rest : List ℕ) : Type 0 where
   pub says : (more : List ℕ) → heard_in (bytes ++ more) ≡ hs ++ heard_in (rest ++ more)

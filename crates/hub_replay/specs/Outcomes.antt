@@ -5,9 +5,10 @@ use Rattle.taf_messages.specs.declared.reply.Reply.{Reply}
 use Rattle.hub_model.specs.declared.entry.Entry.{Entry}
 use Rattle.hub_model.specs.Answers.{answer}
 use Rattle.hub_replay.specs.declared.counts.Counts.{Counts}
-use Rattle.hub_replay.specs.declared.heard.Heard.{Heard}
-use Rattle.hub_replay.specs.declared.heard.Heard.TheVariants.{Blank, TooLong, Fault, Called}
-use Rattle.hub_replay.specs.Lines.{heard_in, fault_text, reply_text}
+use Rattle.call_lines.specs.declared.parsed.ParsedLine.{ParsedLine}
+use Rattle.call_lines.specs.declared.parsed.ParsedLine.TheVariants.{Blank, TooLong, Fault, Called}
+use Rattle.call_lines.specs.Lines.{fault_text, reply_text}
+use Rattle.hub_replay.specs.Lines.{heard_in}
 
 -- the entries of the history, the bytes written so far, and the counts
 pub record Outcome : Type 0 where
@@ -42,19 +43,19 @@ replied o call = record {
 }
 
 -- what one more line leads to: a full history takes no call
-abbrev pub after : Outcome → Heard → Outcome
+abbrev pub after : Outcome → ParsedLine → Outcome
 after o Blank = o
 after o TooLong = faulted o (codes "{\"fault\":\"line_too_long\"}")
 after o (Fault fault) = faulted o (fault_text fault)
 after o (Called call) = if nat_lt (length o.entries) 1000000 then replied o call else faulted o (codes "{\"fault\":\"hub_full\"}")
 
 -- a line that is answered: all but the blank ones
-abbrev pub is_told : Heard → Bool
+abbrev pub is_told : ParsedLine → Bool
 is_told Blank = false
 is_told _ = true
 
 -- what lines lead to
-abbrev pub outcome : Outcome → List Heard → Outcome
+abbrev pub outcome : Outcome → List ParsedLine → Outcome
 outcome o hs = fold after o hs
 
 abbrev pub start_of : List Entry → Outcome
@@ -67,10 +68,10 @@ Answers old read new written counts = outcome (start_of old) (heard_in read) ≡
 -- The lines were answered up to some place. What was written begins with the whole answers to the lines `told`, and
 -- is a front of those to `told` and `last`. The entries are those that the calls among both lead to, and `last`
 -- brought at most one.
-pub record IsStopped (start : Outcome) (hs : List Heard) (written : List ℕ) (entries : List Entry) : Type 0 where
-  pub told : List Heard
-  pub last : List Heard
-  pub rest : List Heard
+pub record IsStopped (start : Outcome) (hs : List ParsedLine) (written : List ℕ) (entries : List Entry) : Type 0 where
+  pub told : List ParsedLine
+  pub last : List ParsedLine
+  pub rest : List ParsedLine
   pub split : hs ≡ told ++ (last ++ rest)
   pub cut : List ℕ
   pub begins : written ≡ (outcome start told).output ++ cut

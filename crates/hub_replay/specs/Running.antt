@@ -4,16 +4,16 @@ use Rattle.std.specs.Io.KnownBytes.{Appends}
 use Rattle.hub_model.specs.declared.entry.Entry.{Entry}
 use Rattle.hub_replay.specs.declared.counts.Counts.{Counts}
 use Rattle.hub_replay.specs.declared.desk.Desk.{Desk}
-use Rattle.hub_replay.specs.declared.heard.Heard.{Heard}
+use Rattle.call_lines.specs.declared.parsed.ParsedLine.{ParsedLine}
 use Rattle.hub_replay.specs.declared.fault.RunFault.{RunFault}
 use Rattle.hub_replay.specs.declared.fault.RunFault.TheVariants.{Read, Write, NoEnd, Memory}
 use Rattle.hub_replay.specs.Outcomes.{Outcome, outcome, IsStopped}
 
 -- All the lines are answered; what isn't written yet is pending, and has no call's reply.
-pub record IsUnderway (start : Outcome) (hs : List Heard) (written : List ℕ) (entries : List Entry) (pending : List ℕ) (counts : Counts) : Type 0 where
+pub record IsUnderway (start : Outcome) (hs : List ParsedLine) (written : List ℕ) (entries : List Entry) (pending : List ℕ) (counts : Counts) : Type 0 where
   pub sum : outcome start hs ≡ record { entries = entries; output = written ++ pending; counts = counts }
-  pub told : List Heard
-  pub rest : List Heard
+  pub told : List ParsedLine
+  pub rest : List ParsedLine
   pub split : hs ≡ told ++ rest
   pub flushed : (outcome start told).output ≡ written
   pub answered : (outcome start told).entries ≡ entries
@@ -38,9 +38,9 @@ ComesOf NoEnd r₀ r₁ w₀ w₁ n = (r₁ ≡ r₀) × (w₁ ≡ w₀) × (n �
 ComesOf Memory r₀ r₁ w₀ w₁ n = (r₁ ≡ r₀) × (w₁ ≡ w₀) × (n ≤ 2 ^ 40)
 
 -- From one state to another, by these lines.
-pub record Goes (c₀ c₁ : Option (List ℕ)) (e₀ : List Entry) (d₀ : Desk) (e₁ : List Entry) (d₁ : Desk) (hs : List Heard) : Type 0 where
-  pub goes : (start : Outcome) (before : List Heard) (written : List ℕ) → IsUnderway start before written e₀ d₀.out.items d₀.counts → (w : List ℕ) × Appends c₀ c₁ w × IsUnderway start (before ++ hs) (written ++ w) e₁ d₁.out.items d₁.counts
+pub record Goes (c₀ c₁ : Option (List ℕ)) (e₀ : List Entry) (d₀ : Desk) (e₁ : List Entry) (d₁ : Desk) (hs : List ParsedLine) : Type 0 where
+  pub goes : (start : Outcome) (before : List ParsedLine) (written : List ℕ) → IsUnderway start before written e₀ d₀.out.items d₀.counts → (w : List ℕ) × Appends c₀ c₁ w × IsUnderway start (before ++ hs) (written ++ w) e₁ d₁.out.items d₁.counts
 
 -- From a state to a stop among these lines.
-pub record Stops (c₀ c₁ : Option (List ℕ)) (e₀ : List Entry) (d₀ : Desk) (e₁ : List Entry) (hs : List Heard) : Type 0 where
-  pub stops : (start : Outcome) (before : List Heard) (written : List ℕ) → IsUnderway start before written e₀ d₀.out.items d₀.counts → (w : List ℕ) × Appends c₀ c₁ w × IsStopped start (before ++ hs) (written ++ w) e₁
+pub record Stops (c₀ c₁ : Option (List ℕ)) (e₀ : List Entry) (d₀ : Desk) (e₁ : List Entry) (hs : List ParsedLine) : Type 0 where
+  pub stops : (start : Outcome) (before : List ParsedLine) (written : List ℕ) → IsUnderway start before written e₀ d₀.out.items d₀.counts → (w : List ℕ) × Appends c₀ c₁ w × IsStopped start (before ++ hs) (written ++ w) e₁

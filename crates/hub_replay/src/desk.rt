@@ -2,7 +2,7 @@
 ghost use Rattle.std.specs.Prelude.{◌≡◌, ◌≢◌, ◌+◌, ◌<◌, ◌≤◌, ◌^◌, ◌++◌, ◌∷◌, [], List, ℕ, OnOk, OnErr, IfErr};
 ghost use Rattle.std.specs.Io.KnownBytes.{Appends};
 ghost use Rattle.taf_messages.specs.declared.fault.RecordFault.TheVariants.{Memory as NoMemory};
-ghost use Rattle.hub_replay.specs.Lines.{fault_text, reply_text};
+ghost use Rattle.call_lines.specs.Lines.{fault_text, reply_text};
 ghost use Rattle.hub_replay.specs.Running.{tally};
 ghost use Rattle.hub_replay.specs.Outcomes.{one_fault_more, one_call_more};
 
@@ -49,7 +49,6 @@ impl Desk {
     }
 
     /// Adds the line of a record's fault.
-    #[tactic(auto, unfolding(crate::specs::Lines::fault_text))]
     pub(crate) fn say_fault(&mut self, fault: &RecordFault) -> Result<(), RunFault>
         requires few { tally self.old.counts < 2 ^ 62 }
         requires told { fault.now ≢ NoMemory }
@@ -62,7 +61,6 @@ impl Desk {
     }
 
     /// Adds the line of a reply.
-    #[tactic(auto, unfolding(crate::specs::Lines::reply_text))]
     pub(crate) fn say_reply(&mut self, reply: &Reply) -> Result<(), RunFault>
         requires { tally self.old.counts < 2 ^ 62 }
         ensures out { OnOk result (self.new.out.items ≡ self.old.out.items ++ (reply_text reply.now ++ 10 ∷ [])) }

@@ -2,7 +2,8 @@
 //!
 //! [`run`] reads to the reader's end, gives the call of each line to the hub and writes one line for each line that
 //! is not blank: the hub's reply, or a fault line where the line is no call or the hub's history is full. What lines
-//! lead to is defined in `specs/Outcomes.antt`, and what a line says in `specs/Lines.antt`.
+//! lead to is defined in `specs/Outcomes.antt`, where lines begin and end in `specs/Lines.antt`, and what a line says in
+//! `call_lines`.
 //!
 //! Lines are heard in spans: while those of a span are answered, a thread of its own hears those of the next, where the
 //! reader gave as many. Of what was read at once the first span has about 16,384 bytes, and each other a quarter as many
@@ -17,9 +18,7 @@
 mod counts;
 mod desk;
 mod fault;
-mod heard;
 mod listener;
-mod newline;
 mod pieces;
 mod replay;
 mod span;

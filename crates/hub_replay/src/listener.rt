@@ -1,10 +1,10 @@
 //! Who hears lines.
 ghost use Rattle.std.specs.Prelude.{◌≡◌, ◌<◌, ◌≤◌, true, length, take, IfOk};
-ghost use Rattle.hub_replay.specs.Lines.{unbroken};
+ghost use Rattle.call_lines.specs.Lines.{unbroken};
 ghost use Rattle.hub_replay.specs.Spans.{IsSpan};
 
-use crate::heard::Heard;
 use crate::span::{Span, hear_span};
+use call_lines::ParsedLine;
 use std::alloc::Global;
 use std::collections::VecDeque;
 use std::mem::replace;
@@ -15,8 +15,8 @@ use taf_codes::Memory;
 pub(crate) struct Listener<'a, T> {
     pub(crate) rt: &'a T,
     alloc: Global,
-    first: VecDeque<Heard>,
-    second: VecDeque<Heard>,
+    first: VecDeque<ParsedLine>,
+    second: VecDeque<ParsedLine>,
 }
 
 impl<'a, T> Listener<'a, T> {
@@ -31,13 +31,13 @@ impl<'a, T> Listener<'a, T> {
     }
 
     /// The list that was put last, or one without memory.
-    pub(crate) fn take(&mut self) -> VecDeque<Heard> {
+    pub(crate) fn take(&mut self) -> VecDeque<ParsedLine> {
         let second = replace(&mut self.second, VecDeque::new(self.alloc));
         replace(&mut self.first, second)
     }
 
     /// Keeps a list, which is the next one that is taken.
-    pub(crate) fn put(&mut self, list: VecDeque<Heard>) {
+    pub(crate) fn put(&mut self, list: VecDeque<ParsedLine>) {
         let first = replace(&mut self.first, list);
         self.second = first;
     }

@@ -1,17 +1,17 @@
 //! The lines of a piece of the input.
 ghost use Rattle.std.specs.Prelude.{◌≡◌, ◌+◌, ◌*◌, ◌-◌, ◌<◌, ◌≤◌, ◌^◌, ◌++◌, ◌∷◌, [], ℕ, List, true, false, length, drop, take, slice_range, OnOk, OnErr, IfOk, IfErr, MatchOption};
-ghost use Rattle.hub_replay.specs.declared.heard.Heard.{Heard};
-ghost use Rattle.hub_replay.specs.Lines.{IsCut, IsTaken, heard_in, left, past, unbroken};
+ghost use Rattle.call_lines.specs.declared.parsed.ParsedLine.{ParsedLine};
+ghost use Rattle.call_lines.specs.Lines.{unbroken};
+ghost use Rattle.hub_replay.specs.Lines.{IsCut, IsTaken, heard_in, left, past};
 ghost use Rattle.hub_replay.specs.Running.{Goes, Stops, tally, ComesLate};
 
 use crate::counts::Counts;
 use crate::desk::Desk;
 use crate::fault::RunFault;
-use crate::heard::{Heard, LONGEST, hear};
 use crate::listener::Listener;
-use crate::newline::next_newline;
 use crate::telling::tell_and_hear;
 use crate::turn::{flush, turn};
+use call_lines::{LONGEST, ParsedLine, next_newline, parse_line};
 use call_reader::CallReader;
 use hub_core::Hub;
 use std::mem::replace;
@@ -61,7 +61,7 @@ pub(crate) fn take_lines<W: Sink>(
     requires room { tally desk.old.counts + 2 * length piece.now < 2 ^ 62 }
     ensures bounds { IfOk result (λ end. (start ≤ end) × (end ≤ length piece.now)) }
     ensures whole { IfOk result (λ end. unbroken (drop end piece.now) ≡ true) }
-    ensures ok { IfOk result (λ end. (hs : List Heard) × IsTaken (drop start piece.now) hs (drop end piece.now) × Goes (W.contents writer.old) (W.contents writer.new) hub.old desk.old hub.new desk.new hs) }
+    ensures ok { IfOk result (λ end. (hs : List ParsedLine) × IsTaken (drop start piece.now) hs (drop end piece.now) × Goes (W.contents writer.old) (W.contents writer.new) hub.old desk.old hub.new desk.new hs) }
     ensures err { OnErr result (Stops (W.contents writer.old) (W.contents writer.new) hub.old desk.old hub.new (heard_in (drop start piece.now))) }
     ensures fault { IfErr result (λ f. ComesLate f (W.failures writer.old) (W.failures writer.new)) }
     ensures kept { OnOk result (W.failures writer.new ≡ W.failures writer.old) }
@@ -113,7 +113,7 @@ pub(crate) fn take_piece<W: Sink>(
     requires bare { skipping ≡ true → seen ≡ 0 }
     requires room { tally desk.old.counts + 2 * length piece.now < 2 ^ 62 }
     ensures bounds { IfOk result (λ rest. (rest.start ≤ length piece.now) × (length piece.now ≤ rest.start + 65536)) }
-    ensures ok { IfOk result (λ rest. (hs : List Heard) × IsCut piece.now skipping hs rest.skipping (drop rest.start piece.now) × Goes (W.contents writer.old) (W.contents writer.new) hub.old desk.old hub.new desk.new hs) }
+    ensures ok { IfOk result (λ rest. (hs : List ParsedLine) × IsCut piece.now skipping hs rest.skipping (drop rest.start piece.now) × Goes (W.contents writer.old) (W.contents writer.new) hub.old desk.old hub.new desk.new hs) }
     ensures err { OnErr result (Stops (W.contents writer.old) (W.contents writer.new) hub.old desk.old hub.new (heard_in (left skipping piece.now))) }
     ensures fault { IfErr result (λ f. ComesLate f (W.failures writer.old) (W.failures writer.new)) }
     ensures kept { OnOk result (W.failures writer.new ≡ W.failures writer.old) }
@@ -133,7 +133,7 @@ pub(crate) fn take_piece<W: Sink>(
             skipping: false,
         });
     }
-    turn(writer, hub, desk, Heard::TooLong)?;
+    turn(writer, hub, desk, ParsedLine::TooLong)?;
     Ok(Rest {
         start: piece.len(),
         skipping: true,
@@ -177,6 +177,6 @@ fn last_line<W: Sink>(
     if line.is_empty() {
         return Ok(());
     }
-    let heard = hear(&mut CallReader::new(desk.alloc), line)?;
+    let heard = parse_line(&mut CallReader::new(desk.alloc), line)?;
     turn(writer, hub, desk, heard)
 }

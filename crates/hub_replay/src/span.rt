@@ -1,10 +1,9 @@
 //! What lines in a row say.
 ghost use Rattle.std.specs.Prelude.{◌≡◌, ◌<◌, ◌≤◌, true, length, take, IfOk};
-ghost use Rattle.hub_replay.specs.Lines.{unbroken};
+ghost use Rattle.call_lines.specs.Lines.{unbroken};
 ghost use Rattle.hub_replay.specs.Spans.{IsSpan};
 
-use crate::heard::{Heard, hear};
-use crate::newline::next_newline;
+use call_lines::{ParsedLine, next_newline, parse_line};
 use call_reader::CallReader;
 use std::alloc::Global;
 use std::collections::VecDeque;
@@ -14,7 +13,7 @@ use taf_codes::Memory;
 /// What lines in a row say, and where the last of them ends.
 #[derive(Drop)]
 pub(crate) struct Span {
-    pub(crate) heard: VecDeque<Heard>,
+    pub(crate) heard: VecDeque<ParsedLine>,
     /// In bytes, with the newline.
     pub(crate) end: usize,
 }
@@ -23,7 +22,7 @@ pub(crate) struct Span {
 /// comes before `seen`.
 pub(crate) fn hear_span(
     alloc: Global,
-    list: &mut VecDeque<Heard>,
+    list: &mut VecDeque<ParsedLine>,
     bytes: &[u8],
     seen: usize,
     most: usize,
@@ -42,7 +41,7 @@ pub(crate) fn hear_span(
         let Some(end) = next_newline(bytes, place) else {
             return Ok(Span { heard, end: from });
         };
-        heard.push_back(hear(&mut reader, &bytes[from..end])?)?;
+        heard.push_back(parse_line(&mut reader, &bytes[from..end])?)?;
         from = end + 1;
         place = from;
     }

@@ -1,15 +1,15 @@
 //! What lines say is told, and what the next ones say is heard.
 ghost use Rattle.std.specs.Prelude.{◌≡◌, ◌+◌, ◌*◌, ◌<◌, ◌≤◌, ◌^◌, length, All, OnOk, OnErr, IfOk, IfErr};
-ghost use Rattle.hub_replay.specs.Lines.{CanBeTold};
+ghost use Rattle.call_lines.specs.Lines.{IsNotMemory};
 ghost use Rattle.hub_replay.specs.Running.{Goes, Stops, tally, ComesLate};
 ghost use Rattle.hub_replay.specs.Spans.{IsSpan};
 
 use crate::desk::Desk;
 use crate::fault::RunFault;
-use crate::heard::Heard;
 use crate::listener::Listener;
 use crate::span::{Span, hear_span};
 use crate::turn::{turn, write_much};
+use call_lines::ParsedLine;
 use hub_core::Hub;
 use std::collections::VecDeque;
 use std::thread::{Threads, join_mut};
@@ -23,10 +23,10 @@ fn tell<W: Sink>(
     writer: &mut W,
     hub: &mut Hub,
     desk: &mut Desk,
-    heard: &mut VecDeque<Heard>,
+    heard: &mut VecDeque<ParsedLine>,
 ) -> Result<(), RunFault>
     requires few { tally desk.old.counts + 2 * length heard.old.items < 2 ^ 62 }
-    requires told { All CanBeTold heard.old.items }
+    requires told { All IsNotMemory heard.old.items }
     ensures ok { OnOk result (Goes (W.contents writer.old) (W.contents writer.new) hub.old desk.old hub.new desk.new heard.old.items) }
     ensures err { OnErr result (Stops (W.contents writer.old) (W.contents writer.new) hub.old desk.old hub.new heard.old.items) }
     ensures fault { IfErr result (λ f. ComesLate f (W.failures writer.old) (W.failures writer.new)) }
@@ -47,13 +47,13 @@ pub(crate) fn tell_and_hear<W: Sink>(
     writer: &mut W,
     hub: &mut Hub,
     desk: &mut Desk,
-    heard: &mut VecDeque<Heard>,
+    heard: &mut VecDeque<ParsedLine>,
     next: &[u8],
     most: usize,
 ) -> (Result<(), RunFault>, Result<Span, Memory>)
     requires few { tally desk.old.counts + 2 * length heard.old.items < 2 ^ 62 }
     requires some { 0 < most }
-    requires told { All CanBeTold heard.old.items }
+    requires told { All IsNotMemory heard.old.items }
     ensures ok { OnOk result.0 (Goes (W.contents writer.old) (W.contents writer.new) hub.old desk.old hub.new desk.new heard.old.items) }
     ensures err { OnErr result.0 (Stops (W.contents writer.old) (W.contents writer.new) hub.old desk.old hub.new heard.old.items) }
     ensures fault { IfErr result.0 (λ f. ComesLate f (W.failures writer.old) (W.failures writer.new)) }

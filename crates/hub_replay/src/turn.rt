@@ -1,14 +1,14 @@
 //! One line at a time: its answer, and what is written of it.
 ghost use Rattle.std.specs.Prelude.{◌≡◌, ◌+◌, ◌<◌, ◌≤◌, ◌^◌, ◌∷◌, [], List, IfOk, OnOk, OnErr, IfErr};
 ghost use Rattle.hub_model.specs.declared.entry.Entry.{Entry};
-ghost use Rattle.hub_replay.specs.declared.heard.Heard.TheVariants.{Called};
-ghost use Rattle.hub_replay.specs.Lines.{CanBeTold};
+ghost use Rattle.call_lines.specs.declared.parsed.ParsedLine.TheVariants.{Called};
+ghost use Rattle.call_lines.specs.Lines.{IsNotMemory};
 ghost use Rattle.hub_replay.specs.Outcomes.{IsEntered};
 ghost use Rattle.hub_replay.specs.Running.{Goes, Stops, tally, ComesLate};
 
 use crate::desk::{Desk, write_all};
 use crate::fault::RunFault;
-use crate::heard::Heard;
+use call_lines::ParsedLine;
 use hub_core::{Hub, HubFault};
 use taf_codes::{Memory, Sink};
 use taf_messages::{Call, Reply};
@@ -21,10 +21,10 @@ pub(crate) fn turn<W: Sink>(
     writer: &mut W,
     hub: &mut Hub,
     desk: &mut Desk,
-    heard: Heard,
+    heard: ParsedLine,
 ) -> Result<(), RunFault>
     requires few { tally desk.old.counts < 2 ^ 62 }
-    requires told { CanBeTold heard }
+    requires told { IsNotMemory heard }
     ensures ok { OnOk result (Goes (W.contents writer.old) (W.contents writer.new) hub.old desk.old hub.new desk.new (heard ∷ [])) }
     ensures err { OnErr result (Stops (W.contents writer.old) (W.contents writer.new) hub.old desk.old hub.new (heard ∷ [])) }
     ensures fault { IfErr result (λ f. ComesLate f (W.failures writer.old) (W.failures writer.new)) }
@@ -32,10 +32,10 @@ pub(crate) fn turn<W: Sink>(
     ensures counted { OnOk result (tally desk.new.counts ≤ tally desk.old.counts + 2) }
 {
     match heard {
-        Heard::Blank => Ok(()),
-        Heard::TooLong => desk.say_text(b"{\"fault\":\"line_too_long\"}"),
-        Heard::Fault(fault) => desk.say_fault(&fault),
-        Heard::Called(call) => give(writer, hub, desk, call),
+        ParsedLine::Blank => Ok(()),
+        ParsedLine::TooLong => desk.say_text(b"{\"fault\":\"line_too_long\"}"),
+        ParsedLine::Fault(fault) => desk.say_fault(&fault),
+        ParsedLine::Called(call) => give(writer, hub, desk, call),
     }
 }
 

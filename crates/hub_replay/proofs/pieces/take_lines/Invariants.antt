@@ -1,5 +1,5 @@
 use Rattle.std.proofs.Common.{◌≡◌, ◌<◌, ◌≤◌, ◌+◌, ◌-◌, ◌*◌, List, length, drop}
-use Rattle.hub_replay.specs.declared.heard.Heard.{Heard}
+use Rattle.call_lines.specs.declared.parsed.ParsedLine.{ParsedLine}
 use Rattle.hub_replay.specs.Lines.{IsTaken}
 use Rattle.hub_replay.specs.Running.{Goes, tally}
 use Rattle.hub_replay.specs.Spans.{IsSpan}
@@ -13,7 +13,7 @@ invariant-spans g l =
     × IsSpan (drop l.from l.piece) l.span
     × (tally l.desk.counts + 2 * l.start ≤ tally l.initial.desk.counts + 2 * l.from)
     × (g.W.Sink.failures l.writer ≡ g.W.Sink.failures l.initial.writer)
-    × ((hs : List Heard) × IsTaken (drop l.start l.piece) hs (drop l.from l.piece)
+    × ((hs : List ParsedLine) × IsTaken (drop l.start l.piece) hs (drop l.from l.piece)
     × Goes (g.W.Sink.contents l.initial.writer) (g.W.Sink.contents l.writer) l.initial.hub l.initial.desk l.hub l.desk hs)
 
 abbrev pub decreases-spans : goal.decreases-spans

@@ -1,5 +1,5 @@
 use Rattle.std.proofs.Common.{◌≡◌, ◌<◌, ◌++◌, ◌∷◌, [], arith, ◌∙◌, drop, length, length-drop, ap}
-use Rattle.hub_replay.specs.declared.heard.Heard.TheVariants.{TooLong}
+use Rattle.call_lines.specs.declared.parsed.ParsedLine.TheVariants.{TooLong}
 use Rattle.hub_replay.specs.Lines.{heard_in, left}
 use Rattle.hub_replay.proofs.LineLemmas.{IsCut-skipped, IsCut-long, heard_from, heard_rest, heard_taken}
 use Rattle.hub_replay.proofs.RunLemmas.{Goes-none, Goes-append, Stops-after, Stops-err}

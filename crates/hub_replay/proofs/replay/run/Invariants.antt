@@ -1,6 +1,6 @@
 use Rattle.std.proofs.Common.{◌≡◌, ◌≤◌, ◌+◌, ◌-◌, ◌*◌, ◌^◌, ℕ, List, length, take, false}
 use Rattle.std.specs.Io.KnownBytes.{Consumes}
-use Rattle.hub_replay.specs.declared.heard.Heard.{Heard}
+use Rattle.call_lines.specs.declared.parsed.ParsedLine.{ParsedLine}
 use Rattle.hub_replay.specs.Lines.{IsCut}
 use Rattle.hub_replay.specs.Running.{Goes, tally}
 use Rattle.hub_replay.proofs.replay.run.Given as goal
@@ -12,7 +12,7 @@ invariant-pieces g l =
     × (tally l.desk.counts + 2 * l.held ≤ 2 * l.total)
     × (g.R.Source.failures l.reader ≡ g.R.Source.failures l.initial.reader)
     × (g.W.Sink.failures l.writer ≡ g.W.Sink.failures l.initial.writer)
-    × ((read : List ℕ) × (hs : List Heard)
+    × ((read : List ℕ) × (hs : List ParsedLine)
     × (length read ≡ l.total)
     × Consumes (g.R.Source.remaining l.initial.reader) (g.R.Source.remaining l.reader) read
     × IsCut read false hs l.skipping (take l.held l.room)

@@ -1,7 +1,7 @@
 use Rattle.std.proofs.Common.{◌≡◌, ◌+◌, ◌∙◌, ◌∷◌, [], true, arith, ap, sym, drop, length, length-append}
 use Rattle.std.specs.List.{slice_range}
 use Rattle.std.proofs.lemmas.List.Elements.{All-same, All-push}
-use Rattle.hub_replay.specs.Lines.{CanBeTold, unbroken}
+use Rattle.call_lines.specs.Lines.{IsNotMemory, unbroken}
 use Rattle.hub_replay.proofs.LineLemmas.{IsTaken-line, unbroken_slices, unbroken_rest, unbroken_nothing}
 use Rattle.hub_replay.proofs.span.hear_span.Goals as goal
 
@@ -21,14 +21,14 @@ pub lines-preserved : goal.lines-preserved
 lines-preserved c =
     let i = c.lines.invariant in
     let n = c.in-Some.ensures in
-    let h = c.in_ok-hear.field-0 in
+    let h = c.in_ok-parse_line.field-0 in
     let whole : unbroken (slice_range c.args.bytes.now c.lines.from c.in-Some.end) ≡ true = unbroken_slices c.args.bytes.now c.lines.from c.lines.place c.in-Some.end i.order n.0 i.seen n.3 in
     let more = c.in_ok-push_back.ensures.items in
     record {
       order = omega arith;
       bounds = omega (arith, n.1);
       seen = unbroken_nothing c.args.bytes.now (c.in-Some.end + 1);
-      says = rw more (IsTaken-line c.args.bytes.now c.args.bytes.now c.lines.heard.items c.lines.from c.in-Some.end h i.says (omega (arith, i.order, n.0)) n.1 n.2 whole c.in_ok-hear.ensures.value);
-      told = All-same CanBeTold _ _ more (All-push CanBeTold c.lines.heard.items h i.told c.in_ok-hear.ensures.told);
+      says = rw more (IsTaken-line c.args.bytes.now c.args.bytes.now c.lines.heard.items c.lines.from c.in-Some.end h i.says (omega (arith, i.order, n.0)) n.1 n.2 whole c.in_ok-parse_line.ensures.value);
+      told = All-same IsNotMemory _ _ more (All-push IsNotMemory c.lines.heard.items h i.told c.in_ok-parse_line.ensures.told);
       few = omega (arith, ap length more, length-append c.lines.heard.items (h ∷ []), i.few, i.order, n.0);
     }

@@ -1,6 +1,7 @@
 use Rattle.std.proofs.Common.{◌≡◌, ◌≤◌, ◌-◌, length, drop, true}
 use Rattle.std.specs.List.{All, slice_range}
-use Rattle.hub_replay.specs.Lines.{CanBeTold, IsTaken, unbroken}
+use Rattle.call_lines.specs.Lines.{IsNotMemory, unbroken}
+use Rattle.hub_replay.specs.Lines.{IsTaken}
 use Rattle.hub_replay.proofs.span.hear_span.Given as goal
 
 -- the lines before `from` are heard, and no newline comes from there to `place`
@@ -10,7 +11,7 @@ invariant-lines l = record {
   bounds : l.place ≤ length l.bytes;
   seen : unbroken (slice_range l.bytes l.from l.place) ≡ true;
   says : IsTaken l.bytes l.heard.items (drop l.from l.bytes);
-  told : All CanBeTold l.heard.items;
+  told : All IsNotMemory l.heard.items;
   few : length l.heard.items ≤ l.from;
 }
 

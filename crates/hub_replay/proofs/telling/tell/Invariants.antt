@@ -1,17 +1,17 @@
 use Rattle.std.proofs.Common.{◌≡◌, ◌≤◌, ◌+◌, ◌*◌, ◌++◌, List, length}
 use Rattle.std.specs.List.{All}
-use Rattle.hub_replay.specs.declared.heard.Heard.{Heard}
-use Rattle.hub_replay.specs.Lines.{CanBeTold}
+use Rattle.call_lines.specs.declared.parsed.ParsedLine.{ParsedLine}
+use Rattle.call_lines.specs.Lines.{IsNotMemory}
 use Rattle.hub_replay.specs.Running.{Goes, tally}
 use Rattle.hub_replay.proofs.telling.tell.Given as goal
 
 -- some are answered, and the others come next
 abbrev pub invariant-loop-line : goal.invariant-loop-line
 invariant-loop-line g l = record {
-  told : All CanBeTold l.heard.items;
+  told : All IsNotMemory l.heard.items;
   tallied : tally l.desk.counts + 2 * length l.heard.items ≤ tally l.initial.desk.counts + 2 * length l.initial.heard.items;
   kept : g.W.Sink.failures l.writer ≡ g.W.Sink.failures l.initial.writer;
-  answered : (hs : List Heard) × (l.initial.heard.items ≡ hs ++ l.heard.items)
+  answered : (hs : List ParsedLine) × (l.initial.heard.items ≡ hs ++ l.heard.items)
       × Goes (g.W.Sink.contents l.initial.writer) (g.W.Sink.contents l.writer) l.initial.hub l.initial.desk l.hub l.desk hs;
 }
 

@@ -1,6 +1,6 @@
 use Rattle.std.proofs.Common.{◌≡◌, ◌++◌, ◌∷◌, [], ap, sym, ◌∙◌, refl, List, ℕ}
 use Rattle.taf_messages.specs.declared.reply.Reply.{Reply}
-use Rattle.hub_replay.specs.Lines.{reply_text}
+use Rattle.call_lines.specs.Lines.{reply_text}
 use Rattle.hub_replay.proofs.StreamLemmas.{Appends-none}
 use Rattle.hub_replay.proofs.RunLemmas.{Goes-said, full_fault, Stops-here, Goes-replied, Stops-replied, on_ok, on_err}
 use Rattle.hub_replay.proofs.turn.give.Goals as goal

@@ -4,8 +4,8 @@ use Rattle.std.proofs.lemmas.Str.{IsUtf8-from_is_utf8, is_utf8-from_IsUtf8}
 use Rattle.serde_json.specs.Read.{read as read_json}
 use Rattle.taf_messages.specs.declared.fault.RecordFault.TheVariants.{BadJson}
 use Rattle.call_reader.specs.Reading.{Gives, call_read}
-use Rattle.hub_replay.specs.Lines.{call_in}
-use Rattle.hub_replay.proofs.heard.call_of.Goals as goal
+use Rattle.call_lines.specs.Lines.{call_in}
+use Rattle.call_lines.proofs.parsed.call_of.Goals as goal
 
 false_true : false ≡ true → ⊥
 false_true e = cc
