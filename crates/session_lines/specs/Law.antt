@@ -1,0 +1,21 @@
+-- The laws of sessions.
+use Rattle.std.specs.Prelude.{◌≡◌, ℕ, List}
+use Rattle.session_lines.specs.States.{new_state}
+use Rattle.session_lines.specs.LockStep.{Answers, lock_step}
+use Rattle.session_lines.specs.Runs.{Event, new_run, run_of, HasOwnDones, completed_transcript}
+use Rattle.session_lines.specs.Tallies.{own_dones, IsOwnTally}
+
+-- Where no memory is refused and each Done is the session's own: the jobs given out, the lines said and those of the slots
+-- behind them, and the tally with the answers of the jobs that are out, are those of the same lines in lock step.
+abbrev pub WindowsAreLockStep : Type 0
+WindowsAreLockStep =
+    (id : ℕ) (answers : Answers) (events : List Event)
+    → HasOwnDones answers (new_run (new_state id)) events
+    → lock_step id answers (run_of id events).input ≡ completed_transcript answers (run_of id events)
+
+-- whatever happens to a session, memory that is refused and strangers among it, its tally is its own
+abbrev pub TalliesAreOwn : Type 0
+TalliesAreOwn =
+    (id : ℕ) (events : List Event)
+    → IsOwnTally id (run_of id events).jobs (own_dones (new_run (new_state id)) events)
+    (run_of id events).state.tally

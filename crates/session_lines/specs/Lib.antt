@@ -1,0 +1,9 @@
+pub mod Law
+pub mod LineBytes
+pub mod LockStep
+pub mod Meanings
+pub mod Runs
+pub mod States
+pub mod Steps
+pub mod Tallies
+pub mod Texts

@@ -1,0 +1,16 @@
+//! The laws of sessions.
+ghost use Rattle.session_lines.specs.Law.{WindowsAreLockStep, TalliesAreOwn};
+
+/// In whatever order a session's lines and its own Dones come, and whatever Dones its jobs that are out will get: the
+/// jobs that it gives out, the lines that it says, followed by those of its slots, and its tally are those of the
+/// same lines with each Done directly after its job. Memory is not refused. It does nothing.
+pub fn windows_are_lock_step()
+    ensures { WindowsAreLockStep }
+{}
+
+/// Whatever lines and Dones a session takes, and wherever memory is refused, its jobs are counted from 0, and so are
+/// the Dones that it takes as its own; its tally has, in order, for each of these that is Ok, the position, the call
+/// of the job and the reply, and nothing else. It does nothing.
+pub fn tallies_are_own()
+    ensures { TalliesAreOwn }
+{}

@@ -1,0 +1,318 @@
+//! The session with its slots.
+ghost use Rattle.std.specs.Prelude.{◌≡◌, ◌≢◌, ◌+◌, ◌<◌, ◌≤◌, ◌^◌, length, [], true, false, Ok};
+ghost use Rattle.session_lines.specs.declared.meaning.Meaning.TheVariants.{Hello, Calls};
+ghost use Rattle.session_lines.specs.States.{new_state};
+ghost use Rattle.session_lines.specs.Texts.{line_fault_text};
+ghost use Rattle.session_lines.specs.Meanings.{text_meaning};
+ghost use Rattle.session_lines.specs.Steps.{saying_step, after_saying, SoundTakes, TakesLine, IsDoneLine, is_own, after_stranger, after_done, with_entry, is_job_in_front, front_line, after_front};
+
+use crate::fault::LineFault;
+use crate::line::Line;
+use crate::meaning::{Meaning, meaning_of};
+use arrayvec::ArrayVec;
+use call_lines::{LONGEST, is_blank_line};
+use call_reader::CallReader;
+use hub_core::HubFault;
+use hub_shared::{Tally, Told};
+use inbox::Job;
+use std::alloc::Global;
+use std::marker::Model;
+use taf_codes::Railway;
+use taf_messages::{Call, Reply, copy_call};
+
+/// How many slots a session has.
+pub const WINDOW: usize = 16;
+
+/// What a session does at a line.
+#[derive(Drop)]
+pub enum Step {
+    Nothing,
+    /// It says this line.
+    Say(Line),
+    /// It holds the line that it says until those before it are said.
+    Held,
+    /// It gives this job out.
+    Ask(Job),
+    /// It has failed, and does nothing more.
+    Ended,
+}
+
+/// The answer to a job: the position of its call in the history and the reply, or why there is none.
+#[derive(Drop)]
+pub struct Done {
+    pub session: u32,
+    pub index: u64,
+    pub answer: Result<(u64, Reply), HubFault>,
+}
+
+/// A place in the order of the lines that are said.
+#[derive(Drop)]
+pub enum Slot {
+    /// That of the answer to a job that is out, with the job's call.
+    JobOut(Call),
+    /// That of a line that is held.
+    HeldLine(Line),
+}
+
+impl Default for Slot {
+    fn default() -> Slot {
+        Slot::HeldLine(Line::of_fault(LineFault::NoMemory))
+    }
+}
+
+/// A session, with up to sixteen slots taken.
+#[derive(Drop)]
+pub struct Session {
+    alloc: Global,
+    reader: CallReader,
+    id: u32,
+    railway: Option<Railway>,
+    job_count: u64,
+    out_count: u64,
+    slots: ArrayVec<Slot, 16>,
+    has_failed: bool,
+    tally: Tally,
+}
+
+impl Model for Session {
+    ghost use Rattle.std.specs.Prelude.{◌≡◌, ◌≤◌, length, [], true};
+    ghost use Rattle.session_lines.specs.States.{State, jobs_out};
+
+    ghost Value = { State };
+
+    ghost view = { λ s. record {
+      id = s.id;
+      railway = s.railway;
+      job_count = s.job_count;
+      slots = s.slots.items;
+      has_failed = s.has_failed;
+      tally = s.tally.entries;
+    } };
+
+    ghost invariant = { λ s. (s.out_count ≡ jobs_out s.slots.items) × (s.out_count ≤ s.job_count)
+        × (s.out_count ≤ s.tally.spare) × (length s.slots.items ≤ 16)
+        × (s.has_failed ≡ true → s.slots.items ≡ []) };
+}
+
+impl Session {
+    /// A session that has read no line. Takes no memory.
+    pub fn new(alloc: Global, id: u32) -> Session
+        ensures { result ≡ new_state id }
+    {
+        Session {
+            alloc,
+            reader: CallReader::new(alloc),
+            id,
+            railway: None,
+            job_count: 0,
+            out_count: 0,
+            slots: ArrayVec::new(),
+            has_failed: false,
+            tally: Tally::new(alloc),
+        }
+    }
+
+    /// Whether all slots are taken. Takes no memory.
+    pub fn busy(&self) -> bool
+        ensures busy { result ≡ true → length self.now.slots ≡ 16 }
+        ensures free { result ≡ false → length self.now.slots < 16 }
+    {
+        self.slots.len() == WINDOW
+    }
+
+    /// Whether no slot is taken.
+    pub fn is_idle(&self) -> bool
+        ensures idle { result ≡ true → self.now.slots ≡ [] }
+        ensures taken { result ≡ false → self.now.slots ≢ [] }
+    {
+        self.slots.is_empty()
+    }
+
+    /// Whether the slot in front is a job that is out.
+    pub fn has_job_in_front(&self) -> bool
+        ensures { result ≡ is_job_in_front self.now.slots }
+    {
+        matches!(self.slots.first(), Some(Slot::JobOut(_)))
+    }
+
+    /// Whether a stranger's answer came. Then no slot is taken.
+    pub fn has_failed(&self) -> bool
+        ensures value { result ≡ self.now.has_failed }
+        ensures idle { result ≡ true → self.now.slots ≡ [] }
+    {
+        self.has_failed
+    }
+
+    /// How many jobs it gave out.
+    pub fn job_count(&self) -> u64
+        ensures { result ≡ self.now.job_count }
+    {
+        self.job_count
+    }
+
+    /// Takes a line, without its newline, as what it means. Where memory is refused it says so, gives no job out and
+    /// keeps its railway as it was.
+    #[tactic(auto, unfolding(crate::specs::Meanings::meaning_by_length))]
+    pub fn on_line(&mut self, line: &[u8]) -> Step
+        requires free { length self.old.slots < 16 }
+        requires few { self.old.job_count < 2 ^ 62 }
+        ensures { TakesLine self.old line.now result self.new }
+    {
+        if self.has_failed {
+            return Step::Ended;
+        }
+        if line.len() > LONGEST {
+            return self.say(Line::of_fault(LineFault::LineTooLong));
+        }
+        if is_blank_line(line) {
+            return Step::Nothing;
+        }
+        self.on_text(line)
+    }
+
+    // Takes a line that is neither too long nor blank.
+    fn on_text(&mut self, line: &[u8]) -> Step
+        requires free { length self.old.slots < 16 }
+        requires few { self.old.job_count < 2 ^ 62 }
+        requires sound { self.old.has_failed ≡ false }
+        ensures { SoundTakes self.old (text_meaning self.old.railway line.now) result self.new }
+    {
+        let Ok(meaning) = meaning_of(self.alloc, &mut self.reader, self.railway, line) else {
+            return self.say(Line::of_fault(LineFault::NoMemory));
+        };
+        match meaning {
+            Meaning::Blank => Step::Nothing,
+            Meaning::Hello(railway) => self.greet(railway),
+            Meaning::Wrong(line) => self.say(line),
+            Meaning::Calls(call) => self.give(call),
+        }
+    }
+
+    // Says a line at once, or holds it where a slot is taken.
+    fn say(&mut self, line: Line) -> Step
+        requires free { length self.old.slots < 16 }
+        requires sound { self.old.has_failed ≡ false }
+        ensures step { result ≡ saying_step self.old line }
+        ensures after { self.new ≡ after_saying self.old line }
+    {
+        if self.slots.is_empty() {
+            return Step::Say(line);
+        }
+        self.slots.push(Slot::HeldLine(line));
+        Step::Held
+    }
+
+    // Takes the railway of a hello.
+    fn greet(&mut self, railway: Railway) -> Step
+        requires free { length self.old.slots < 16 }
+        requires sound { self.old.has_failed ≡ false }
+        ensures { SoundTakes self.old (Hello railway) result self.new }
+    {
+        let Ok(line) = Line::of_hello(self.alloc, railway) else {
+            return self.say(Line::of_fault(LineFault::NoMemory));
+        };
+        self.railway = Some(railway);
+        self.say(line)
+    }
+
+    // Gives a job out, once a copy of its call is kept and its place in the tally is reserved.
+    fn give(&mut self, call: Call) -> Step
+        requires free { length self.old.slots < 16 }
+        requires few { self.old.job_count < 2 ^ 62 }
+        requires sound { self.old.has_failed ≡ false }
+        ensures { SoundTakes self.old (Calls call) result self.new }
+    {
+        let Ok(copy) = copy_call(&call) else {
+            return self.say(Line::of_fault(LineFault::NoMemory));
+        };
+        if self.tally.reserve(self.slots.len() + 1).is_err() {
+            return self.say(Line::of_fault(LineFault::NoMemory));
+        }
+        let job = Job {
+            session: self.id,
+            index: self.job_count,
+            call,
+        };
+        self.slots.push(Slot::JobOut(copy));
+        self.out_count += 1;
+        self.job_count += 1;
+        Step::Ask(job)
+    }
+
+    /// Takes the answer of the oldest job that is out, and gives its line, or the line that says that its memory is
+    /// refused. Its entry in the tally takes no memory. Any other answer is a stranger's: the session has failed,
+    /// drops its held lines, and its jobs that are out get no entry.
+    pub fn on_done(&mut self, done: Done) -> Line
+        requires { is_job_in_front self.old.slots ≡ true }
+        ensures line { IsDoneLine self.old done result }
+        ensures after { self.new ≡ after_done self.old done }
+    {
+        if !self.owns(&done) {
+            return self.fail();
+        }
+        let Slot::JobOut(call) = self.slots.remove(0) else {
+            unreachable!()
+        };
+        self.out_count -= 1;
+        match done.answer {
+            Ok((position, reply)) => {
+                let line = Line::of_reply(self.alloc, &reply);
+                enter(&mut self.tally, position, call, reply);
+                line
+            }
+            Err(fault) => Line::of_hub_fault(&fault),
+        }
+    }
+
+    // Whether the answer is that of the oldest job that is out.
+    fn owns(&self, done: &Done) -> bool
+        ensures { result ≡ is_own self.now done.now }
+    {
+        done.session == self.id && done.index == self.job_count - self.out_count
+    }
+
+    // Ends the session after a stranger's answer, and says so.
+    fn fail(&mut self) -> Line
+        ensures line { result ≡ line_fault_text LineFault.Stranger }
+        ensures after { self.new ≡ after_stranger self.old }
+    {
+        self.has_failed = true;
+        self.out_count = 0;
+        self.slots.clear();
+        Line::of_fault(LineFault::Stranger)
+    }
+
+    /// The line in front, where that is one that was held. Its slot is then free. Takes no memory.
+    pub fn next_held(&mut self) -> Option<Line>
+        ensures line { result ≡ front_line self.old.slots }
+        ensures after { self.new ≡ after_front self.old }
+    {
+        if let Some(Slot::HeldLine(_)) = self.slots.first() {
+            if let Slot::HeldLine(line) = self.slots.remove(0) {
+                return Some(line);
+            }
+        }
+        None
+    }
+
+    /// What it was told. Takes no memory.
+    pub fn on_end(self) -> Tally
+        ensures { result.entries ≡ self.tally }
+    {
+        let Session { tally, .. } = self;
+        tally
+    }
+}
+
+// Enters an answer into a tally that has room for it.
+fn enter(tally: &mut Tally, position: u64, call: Call, reply: Reply)
+    requires { 0 < tally.old.spare }
+    ensures entry { tally.new.entries ≡ with_entry tally.old.entries call (Ok (position, reply)) }
+    ensures room { tally.old.spare ≤ tally.new.spare + 1 }
+{
+    let _ = tally.note(Told {
+        position,
+        call,
+        reply,
+    });
+}
