@@ -1,0 +1,5 @@
+pub mod CutLemmas
+pub mod EventLemmas
+pub mod WriteLemmas
+pub mod ServeLemmas
+pub mod EndLemmas

@@ -1,0 +1,83 @@
+-- How what is written is put together.
+use Rattle.std.proofs.Common.{◌≡◌, ℕ, ◌-◌, ◌≤◌, Bool, true, false, List, [], ◌++◌, take, drop, length, Option, Some, None, refl, ap, ◌∙◌, sym, arith, subst, append_assoc, append-nil, length-drop, take-append-drop}
+use Rattle.std.proofs.lemmas.List.{take_all}
+use Rattle.std.proofs.KnownBytes.{Appends-nil, Appends-trans}
+use Rattle.std.specs.Io.KnownBytes.{Appends, Keeps}
+use Rattle.session_serving.specs.Output.{Output, output_of, Writes}
+
+pub false_true : false ≡ true → ⊥
+false_true e = cc
+
+Appends-kept : (c d e : Option (List ℕ)) (xs : List ℕ) → Appends c d xs → Keeps d e → Appends c e xs
+Appends-kept None d e xs h k = tt
+Appends-kept (Some c) None e xs h k = absurd h
+Appends-kept (Some c) (Some d) None xs h k = absurd k
+Appends-kept (Some c) (Some d) (Some e) xs h k = k ∙ h
+
+-- what is left once some of it was taken
+pub pushed : (bytes front rest : List ℕ) (n : ℕ) → n ≤ length rest → bytes ≡ front ++ rest → bytes ≡ (front ++ take n rest) ++ take (length rest - n) (drop n rest)
+pushed bytes front rest n le e =
+    let all : length (drop n rest) ≤ length rest - n = omega (arith, length-drop n rest) in
+    e ∙ ap (λ l. front ++ l) (sym (take-append-drop n rest)) ∙ sym (append_assoc front (take n rest) (drop n rest)) ∙ ap (λ l. (front ++ take n rest) ++ l) (sym (take_all (length rest - n) (drop n rest) all))
+
+pub writes_none : (a : Output) (full : Bool) → Writes a a full []
+writes_none a full = record { front = []; left = a.pending; moved = Appends-nil a.written; parts = sym (append-nil a.pending); all = λ _. refl }
+
+pub writes-then : (a b c : Output) (full : Bool) (t u : List ℕ) → Writes a b true t → Writes b c full u → Writes a c full (t ++ u)
+writes-then a b c full t u f g = record {
+  front = f.front ++ g.front;
+  left = g.left;
+  moved = Appends-trans a.written b.written c.written f.front g.front f.moved g.moved;
+  parts = append_assoc f.front g.front g.left
+      ∙ ap (λ l. f.front ++ l) (g.parts ∙ ap (λ l. l ++ u) (f.all refl))
+      ∙ sym (append_assoc f.front f.left u)
+      ∙ ap (λ l. l ++ u) f.parts
+      ∙ append_assoc a.pending t u;
+  all = g.all;
+}
+
+-- nothing more is written
+pub writes-part : (a b : Output) (full : Bool) (t u : List ℕ) → Writes a b full t → Writes a b false (t ++ u)
+writes-part a b full t u f = record {
+  front = f.front;
+  left = f.left ++ u;
+  moved = f.moved;
+  parts = sym (append_assoc f.front f.left u) ∙ ap (λ l. l ++ u) f.parts ∙ append_assoc a.pending t u;
+  all = λ e. absurd (false_true e);
+}
+
+-- the bytes are held back
+pub writes-held : (c : Option (List ℕ)) (old new bytes : List ℕ) → new ≡ old ++ bytes → Writes (output_of c old) (output_of c new) true bytes
+writes-held c old new bytes e = record { front = []; left = old ++ bytes; moved = Appends-nil c; parts = refl; all = λ _. e }
+
+-- all that was pending is written
+pub writes-pending : (c d : Option (List ℕ)) (old new bytes : List ℕ) → bytes ≡ old → Appends c d bytes → new ≡ [] → Writes (output_of c old) (output_of d new) true []
+writes-pending c d old new bytes e moved none = record { front = bytes; left = []; moved = moved; parts = ap (λ l. l ++ []) e; all = λ _. none }
+
+-- a front of it is
+pub stops-pending : (c d : Option (List ℕ)) (old new bytes front rest : List ℕ) → bytes ≡ old → bytes ≡ front ++ rest → Appends c d front → Writes (output_of c old) (output_of d new) false []
+stops-pending c d old new bytes front rest e parts moved = record { front = front; left = rest; moved = moved; parts = sym parts ∙ e ∙ sym (append-nil old); all = λ f. absurd (false_true f) }
+
+-- nothing is pending, and the bytes are written
+pub writes-apart : (c d : Option (List ℕ)) (old bytes : List ℕ) → old ≡ [] → Appends c d bytes → Writes (output_of c old) (output_of d old) true bytes
+writes-apart c d old bytes none moved = record { front = bytes; left = []; moved = moved; parts = append-nil bytes ∙ ap (λ l. l ++ bytes) (sym none); all = λ _. none }
+
+pub stops-apart : (c d : Option (List ℕ)) (old new bytes front rest : List ℕ) → old ≡ [] → bytes ≡ front ++ rest → Appends c d front → Writes (output_of c old) (output_of d new) false bytes
+stops-apart c d old new bytes front rest none parts moved = record { front = front; left = rest; moved = moved; parts = sym parts ∙ ap (λ l. l ++ bytes) (sym none); all = λ f. absurd (false_true f) }
+
+-- what is written is sent on
+pub writes-sent : (a : Output) (d e : Option (List ℕ)) (pending bytes : List ℕ) (full : Bool) → Writes a (output_of d pending) true bytes → Keeps d e → Writes a (output_of e pending) full bytes
+writes-sent a d e pending bytes full f kept = record { front = f.front; left = f.left; moved = Appends-kept a.written d e f.front f.moved kept; parts = f.parts; all = λ _. f.all refl }
+
+pub writes-line : (a b c : Output) (full : Bool) (t line u : List ℕ) → t ≡ line → Writes a b true t → Writes b c full u → Writes a c full (line ++ u)
+writes-line a b c full t line u e f g = subst (λ l. Writes a c full (l ++ u)) e (writes-then a b c full t u f g)
+
+pub writes-more : (a b c : Output) (full : Bool) (u : List ℕ) → Writes a b true [] → Writes b c full u → Writes a c full u
+writes-more a b c full u f g = writes-then a b c full [] u f g
+
+-- no more is written, though there was more
+pub writes-fails : (a b : Output) (u : List ℕ) → Writes a b false [] → Writes a b false u
+writes-fails a b u f = writes-part a b false [] u f
+
+pub writes-line-fails : (a b : Output) (t line u : List ℕ) → t ≡ line → Writes a b false t → Writes a b false (line ++ u)
+writes-line-fails a b t line u e f = subst (λ l. Writes a b false (l ++ u)) e (writes-part a b false t u f)

@@ -1,0 +1,18 @@
+use Rattle.std.proofs.Common.{◌∙◌, ap, length, arith}
+use Rattle.session_lines.specs.States.{State}
+use Rattle.session_lines.proofs.EventLemmas.{after_done-kept, after_done-fewer}
+use Rattle.session_serving.proofs.EventLemmas.{done-advances}
+use Rattle.session_serving.proofs.ServeLemmas.{says-line}
+use Rattle.session_serving.proofs.answers.answer.Goals as goal
+
+pub returns-clause-says : goal.returns-clause-says
+returns-clause-says g c = says-line _ _ _ _ c.on_done-line.result _ (done-advances _ _ c.args.done _ c.requires.job c.on_done-line.ensures.line c.on_done-line.ensures.after) c.put_line.ensures.writes
+
+pub returns-clause-same : goal.returns-clause-same
+returns-clause-same g c =
+    let kept = after_done-kept c.args.session.now c.args.done in
+    let after = c.on_done-line.ensures.after in
+    (ap (λ (s : State). s.id) after ∙ kept.0, ap (λ (s : State). s.job_count) after ∙ kept.1)
+
+pub returns-clause-fewer : goal.returns-clause-fewer
+returns-clause-fewer g c = omega (arith, ap (λ (s : State). length s.slots) c.on_done-line.ensures.after, after_done-fewer c.args.session.now c.args.done c.requires.job)

@@ -1,0 +1,40 @@
+use Rattle.std.proofs.Common.{true, refl, ◌∙◌}
+use Rattle.session_serving.proofs.ServeLemmas.{says-then, says_none}
+use Rattle.session_serving.proofs.answers.take_all.Goals as goal
+
+pub loop-writer-init : goal.loop-writer-init
+loop-writer-init g c = record {
+  says = says_none _ _ true;
+  writer = refl;
+  port = refl;
+  session = refl;
+  sent = refl;
+  id = refl;
+  count = refl;
+  sound = c.requires.sound;
+  front = c.requires.front;
+  fits = c.requires.fits;
+}
+
+pub loop-writer-preserved : goal.loop-writer-preserved
+loop-writer-preserved g c =
+    let i = c.loop-writer.invariant in
+    let t = c.in-Ok-true.ensures in
+    record {
+      says = says-then _ _ _ _ _ _ true i.says t.says;
+      writer = t.blames.0 ∙ i.writer;
+      port = t.blames.1 ∙ i.port;
+      session = t.port.0 ∙ i.session;
+      sent = t.port.1 ∙ i.sent;
+      id = t.same.0 ∙ i.id;
+      count = t.same.1 ∙ i.count;
+      sound = (t.on c.in-Ok-true.field-0-test).1;
+      front = (t.on c.in-Ok-true.field-0-test).0;
+      fits = t.fits;
+    }
+
+pub returns-in-Ok-false-clause-says : goal.returns-in-Ok-false-clause-says
+returns-in-Ok-false-clause-says g c = says-then _ _ _ _ _ _ true c.loop-writer.invariant.says c.in-Ok-false.ensures.says
+
+pub returns-in-Err-clause-says : goal.returns-in-Err-clause-says
+returns-in-Err-clause-says g c = says-then _ _ _ _ _ _ _ c.loop-writer.invariant.says c.in-Err.ensures.says

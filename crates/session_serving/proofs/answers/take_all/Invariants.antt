@@ -1,0 +1,21 @@
+use Rattle.std.proofs.Common.{◌≡◌, None, true, false, length}
+use Rattle.session_lines.specs.Steps.{front_line}
+use Rattle.session_serving.specs.Output.{output_of, Says, HasRoom}
+use Rattle.session_serving.proofs.answers.take_all.Given as goal
+
+abbrev pub invariant-loop-writer : goal.invariant-loop-writer
+invariant-loop-writer g l = record {
+  says : Says l.initial.session (output_of (g.K.Sink.contents l.initial.writer) l.initial.out.items) l.session (output_of (g.K.Sink.contents l.writer) l.out.items) true;
+  writer : g.K.Sink.failures l.writer ≡ g.K.Sink.failures l.initial.writer;
+  port : g.P.Port.failures l.port ≡ g.P.Port.failures l.initial.port;
+  session : g.P.Port.session l.port ≡ g.P.Port.session l.initial.port;
+  sent : g.P.Port.sent l.port ≡ g.P.Port.sent l.initial.port;
+  id : l.session.id ≡ l.initial.session.id;
+  count : l.session.job_count ≡ l.initial.session.job_count;
+  sound : l.session.has_failed ≡ false;
+  front : front_line l.session.slots ≡ None;
+  fits : HasRoom l.out;
+}
+
+abbrev pub decreases-loop-writer : goal.decreases-loop-writer
+decreases-loop-writer g l = length l.session.slots

@@ -1,0 +1,27 @@
+use Rattle.std.proofs.Common.{◌≡◌, ◌≤◌, ◌+◌, ◌-◌, None, true, false, length, take, vec_len, vec_capacity}
+use Rattle.session_lines.specs.Steps.{front_line}
+use Rattle.session_serving.specs.Bytes.{cut_after, max_kept}
+use Rattle.session_serving.specs.Output.{HasRoom}
+use Rattle.session_serving.specs.Serving.{exchange_of, Serves}
+use Rattle.session_serving.proofs.chunk.serve_lines.Given as goal
+
+-- the lines before `from` were given
+abbrev pub invariant-loop-end : goal.invariant-loop-end
+invariant-loop-end g l = record {
+  serves : Serves (exchange_of l.initial.session (g.K.Sink.contents l.initial.writer) l.initial.buffers.out.items (g.P.Port.sent l.initial.port)) (cut_after l.initial.buffers.line.items (take l.from l.chunk)).whole (exchange_of l.session (g.K.Sink.contents l.writer) l.buffers.out.items (g.P.Port.sent l.port)) true true;
+  rest : l.buffers.line.items ≡ (cut_after l.initial.buffers.line.items (take l.from l.chunk)).rest;
+  writer : g.K.Sink.failures l.writer ≡ g.K.Sink.failures l.initial.writer;
+  port : g.P.Port.failures l.port ≡ g.P.Port.failures l.initial.port;
+  session : g.P.Port.session l.port ≡ g.P.Port.session l.initial.port;
+  id : l.session.id ≡ l.initial.session.id;
+  count : l.session.job_count ≤ l.initial.session.job_count + l.from;
+  sound : l.session.has_failed ≡ false;
+  front : front_line l.session.slots ≡ None;
+  order : l.from ≤ length l.chunk;
+  short : vec_len l.buffers.line ≤ max_kept;
+  room : max_kept ≤ vec_capacity l.buffers.line;
+  fits : HasRoom l.buffers.out;
+}
+
+abbrev pub decreases-loop-end : goal.decreases-loop-end
+decreases-loop-end g l = length l.chunk - l.from

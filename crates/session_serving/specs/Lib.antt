@@ -1,0 +1,5 @@
+pub mod Advances
+pub mod Bytes
+pub mod Faults
+pub mod Output
+pub mod Serving

@@ -1,0 +1,177 @@
+//! Answers taken from a port.
+ghost use Rattle.std.specs.Prelude.{◌≡◌, ◌<◌, ◌≤◌, ◌+◌, [], None, true, false, length, OnOk, IfOk, OnErr, is_ok};
+ghost use Rattle.session_lines.specs.Steps.{is_job_in_front, front_line};
+ghost use Rattle.session_serving.specs.Output.{output_of, Writes, Says, HasRoom};
+ghost use Rattle.session_serving.specs.Advances.{GivesNoJob};
+ghost use Rattle.session_serving.specs.Faults.{Blames, goes_on, writes_all};
+
+use crate::fault::SessionFault;
+use crate::output::{put_line, write_out};
+use crate::port::Port;
+use session_lines::{Done, Session};
+use taf_codes::{Failed, Sink};
+
+// Takes a Done, and puts its line.
+fn answer<K: Sink>(
+    writer: &mut K,
+    out: &mut Vec<u8>,
+    session: &mut Session,
+    done: Done,
+) -> Result<(), Failed>
+    requires job { is_job_in_front session.old.slots ≡ true }
+    requires fits { HasRoom out.old }
+    ensures says { Says session.old (output_of (K.contents writer.old) out.old.items)
+        session.new (output_of (K.contents writer.new) out.new.items) (is_ok result) }
+    ensures failed { OnErr result (K.failures writer.new ≡ K.failures writer.old + 1) }
+    ensures kept { OnOk result (K.failures writer.new ≡ K.failures writer.old) }
+    ensures same { GivesNoJob session.old session.new }
+    ensures fewer { length session.new.slots < length session.old.slots }
+    ensures fits { HasRoom out.new }
+{
+    let line = session.on_done(done);
+    put_line(writer, out, &line)
+}
+
+// Puts the lines that were held until now.
+fn put_held<K: Sink>(writer: &mut K, out: &mut Vec<u8>, session: &mut Session) -> Result<(), Failed>
+    requires fits { HasRoom out.old }
+    ensures says { Says session.old (output_of (K.contents writer.old) out.old.items)
+        session.new (output_of (K.contents writer.new) out.new.items) (is_ok result) }
+    ensures front { OnOk result (front_line session.new.slots ≡ None) }
+    ensures failed { OnErr result (K.failures writer.new ≡ K.failures writer.old + 1) }
+    ensures kept { OnOk result (K.failures writer.new ≡ K.failures writer.old) }
+    ensures same { GivesNoJob session.old session.new }
+    ensures sound { session.new.has_failed ≡ session.old.has_failed }
+    ensures fewer { length session.new.slots ≤ length session.old.slots }
+    ensures fits { HasRoom out.new }
+{
+    while let Some(line) = session.next_held() {
+        match put_line(writer, out, &line) {
+            Ok(()) => {}
+            Err(Failed) => return Err(Failed),
+        }
+    }
+    Ok(())
+}
+
+// Writes what is pending, unless the next answer is there.
+#[tactic(auto, using(crate::proofs::WriteLemmas::writes_none))]
+fn write_unless_ready<K: Sink, P: Port>(
+    writer: &mut K,
+    out: &mut Vec<u8>,
+    port: &P,
+) -> Result<(), Failed>
+    requires fits { HasRoom out.old }
+    ensures writes { Writes (output_of (K.contents writer.old) out.old.items)
+        (output_of (K.contents writer.new) out.new.items) (is_ok result) [] }
+    ensures failed { OnErr result (K.failures writer.new ≡ K.failures writer.old + 1) }
+    ensures kept { OnOk result (K.failures writer.new ≡ K.failures writer.old) }
+    ensures fits { HasRoom out.new }
+{
+    if port.is_ready() {
+        return Ok(());
+    }
+    write_out(writer, out)
+}
+
+/// Takes the next answer, and puts its line and those that were held behind it. False where the
+/// session has failed.
+pub(crate) fn take_next<K: Sink, P: Port>(
+    writer: &mut K,
+    out: &mut Vec<u8>,
+    port: &mut P,
+    session: &mut Session,
+) -> Result<bool, SessionFault>
+    requires job { is_job_in_front session.old.slots ≡ true }
+    requires fits { HasRoom out.old }
+    ensures says { Says session.old (output_of (K.contents writer.old) out.old.items)
+        session.new (output_of (K.contents writer.new) out.new.items) (writes_all result) }
+    ensures blames { Blames result (K.failures writer.old) (K.failures writer.new)
+        (P.failures port.old) (P.failures port.new) }
+    ensures same { GivesNoJob session.old session.new }
+    ensures port { (P.session port.new ≡ P.session port.old) × (P.sent port.new ≡ P.sent port.old) }
+    ensures fewer { OnOk result (length session.new.slots < length session.old.slots) }
+    ensures on { goes_on result ≡ true → (front_line session.new.slots ≡ None)
+        × (session.new.has_failed ≡ false) }
+    ensures over { IfOk result (λ on. on ≡ false
+        → (session.new.has_failed ≡ true) × (session.new.slots ≡ [])) }
+    ensures fits { HasRoom out.new }
+{
+    let Ok(()) = write_unless_ready(writer, out, port) else {
+        return Err(SessionFault::Write);
+    };
+    let Ok(done) = port.next() else {
+        return Err(SessionFault::Port);
+    };
+    let Ok(()) = answer(writer, out, session, done) else {
+        return Err(SessionFault::Write);
+    };
+    if session.has_failed() {
+        return Ok(false);
+    }
+    let Ok(()) = put_held(writer, out, session) else {
+        return Err(SessionFault::Write);
+    };
+    Ok(true)
+}
+
+/// Takes an answer where all slots are taken. False where the session has failed.
+#[tactic(auto, using(crate::proofs::EventLemmas::full_has_job, crate::proofs::EventLemmas::no_slot, crate::proofs::ServeLemmas::says_none))]
+pub(crate) fn make_room<K: Sink, P: Port>(
+    writer: &mut K,
+    out: &mut Vec<u8>,
+    port: &mut P,
+    session: &mut Session,
+) -> Result<bool, SessionFault>
+    requires front { front_line session.old.slots ≡ None }
+    requires sound { session.old.has_failed ≡ false }
+    requires fits { HasRoom out.old }
+    ensures says { Says session.old (output_of (K.contents writer.old) out.old.items)
+        session.new (output_of (K.contents writer.new) out.new.items) (writes_all result) }
+    ensures blames { Blames result (K.failures writer.old) (K.failures writer.new)
+        (P.failures port.old) (P.failures port.new) }
+    ensures same { GivesNoJob session.old session.new }
+    ensures port { (P.session port.new ≡ P.session port.old) × (P.sent port.new ≡ P.sent port.old) }
+    ensures on { goes_on result ≡ true → (front_line session.new.slots ≡ None)
+        × (session.new.has_failed ≡ false) × (length session.new.slots < 16) }
+    ensures over { IfOk result (λ on. on ≡ false
+        → (session.new.has_failed ≡ true) × (session.new.slots ≡ [])) }
+    ensures fits { HasRoom out.new }
+{
+    if !session.busy() {
+        return Ok(true);
+    }
+    take_next(writer, out, port, session)
+}
+
+/// Takes all answers. False where the session has failed.
+#[tactic(auto, using(crate::proofs::EventLemmas::full_has_job, crate::proofs::EventLemmas::no_slot))]
+pub(crate) fn take_all<K: Sink, P: Port>(
+    writer: &mut K,
+    out: &mut Vec<u8>,
+    port: &mut P,
+    session: &mut Session,
+) -> Result<bool, SessionFault>
+    requires front { front_line session.old.slots ≡ None }
+    requires sound { session.old.has_failed ≡ false }
+    requires fits { HasRoom out.old }
+    ensures says { Says session.old (output_of (K.contents writer.old) out.old.items)
+        session.new (output_of (K.contents writer.new) out.new.items) (writes_all result) }
+    ensures blames { Blames result (K.failures writer.old) (K.failures writer.new)
+        (P.failures port.old) (P.failures port.new) }
+    ensures same { GivesNoJob session.old session.new }
+    ensures port { (P.session port.new ≡ P.session port.old) × (P.sent port.new ≡ P.sent port.old) }
+    ensures none { OnOk result (session.new.slots ≡ []) }
+    ensures on { goes_on result ≡ true → session.new.has_failed ≡ false }
+    ensures over { IfOk result (λ on. on ≡ false → session.new.has_failed ≡ true) }
+    ensures fits { HasRoom out.new }
+{
+    while session.has_job_in_front() {
+        match take_next(writer, out, port, session) {
+            Ok(true) => {}
+            Ok(false) => return Ok(false),
+            Err(fault) => return Err(fault),
+        }
+    }
+    Ok(true)
+}
