@@ -14,9 +14,10 @@ pub enum Bench {
     Journey,
     Hub,
     Report,
+    Lane,
 }
 
-pub const ALL: [Bench; 9] = [
+pub const ALL: [Bench; 10] = [
     Bench::Parse,
     Bench::Read,
     Bench::Replies,
@@ -26,6 +27,7 @@ pub const ALL: [Bench; 9] = [
     Bench::Journey,
     Bench::Hub,
     Bench::Report,
+    Bench::Lane,
 ];
 
 impl Bench {
@@ -42,6 +44,7 @@ impl Bench {
             Bench::Journey => "journey",
             Bench::Hub => "hub",
             Bench::Report => "report",
+            Bench::Lane => "lane",
         }
     }
 
@@ -65,6 +68,7 @@ impl Bench {
             Bench::Journey => "events on tracks of several lengths",
             Bench::Hub => "calls of whole trips, to hubs of several lengths",
             Bench::Report => "lines of the report, by one thread and by all",
+            Bench::Lane => "jobs from one thread to another, by an inbox and by a plain queue",
         }
     }
 
@@ -72,7 +76,7 @@ impl Bench {
     pub fn usual_count(self) -> u64 {
         match self {
             Bench::Parse | Bench::Read => 200_000,
-            Bench::Replies => 1_000_000,
+            Bench::Replies | Bench::Lane => 1_000_000,
             Bench::Record | Bench::Items => 10_000,
             Bench::Copies | Bench::Journey | Bench::Report => 100_000,
             Bench::Hub => 900_000,

@@ -14,6 +14,7 @@
 //! | `journey` | one exception more on a track of up to 10, 100, 1,000 and 10,000 exceptions, with its checks and estimates | 100,000 |
 //! | `hub` | a call of a trip, given to hubs that take an eighteenth of the calls, a quarter, and all | 900,000 |
 //! | `report` | a line of the report, made by one thread (`report plain`) and by all (`report`) | 100,000 |
+//! | `lane` | a job from one thread to another, through an inbox and through a plain queue (`lane of a plain queue`) | 1,000,000 |
 //!
 //! What is made is made before the clock starts. Promised: which name is which benchmark ([`Bench::named`]), and what
 //! a duration comes to ([`Measured::per_second`]). No clause says how long anything takes.
@@ -23,6 +24,7 @@ mod bench;
 mod codec;
 mod copies;
 mod journeys;
+mod lanes;
 mod measured;
 mod measurements;
 mod report;

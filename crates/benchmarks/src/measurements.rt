@@ -1,15 +1,16 @@
 use crate::bench::{ALL, Bench};
 use crate::words::Asked;
-use crate::{codec, copies, journeys, report, trips};
+use crate::{codec, copies, journeys, lanes, report, trips};
 use anyhow::Result;
 use std::alloc::Global;
 use std::io::Write;
+use std::sync::Wait;
 use std::thread::Threads;
 use std::time::Clock;
 
 /// Does what the words ask for.
 pub fn perform<W: Write>(
-    rt: &(impl Threads + Clock + Sync),
+    rt: &(impl Threads + Wait + Clock + Sync),
     alloc: Global,
     output: &mut W,
     asked: Asked,
@@ -29,7 +30,7 @@ fn print_names<W: Write>(output: &mut W) -> Result<()> {
 }
 
 fn measure<W: Write>(
-    rt: &(impl Threads + Clock + Sync),
+    rt: &(impl Threads + Wait + Clock + Sync),
     alloc: Global,
     output: &mut W,
     bench: Bench,
@@ -45,6 +46,7 @@ fn measure<W: Write>(
         Bench::Journey => return measure_journeys(rt, alloc, output, count),
         Bench::Hub => return measure_hubs(rt, alloc, output, count),
         Bench::Report => return measure_report(rt, alloc, output, count),
+        Bench::Lane => return measure_lanes(rt, alloc, output, count),
     };
     output.write_fmt(format_args!("{}: {measured}\n", bench.name()))?;
     Ok(())
@@ -101,5 +103,18 @@ fn measure_report<W: Write>(
     output.write_fmt(format_args!("report plain: {plain}\n"))?;
     let parallel = report::parallel(rt, alloc, &view, count)?;
     output.write_fmt(format_args!("report: {parallel}\n"))?;
+    Ok(())
+}
+
+fn measure_lanes<W: Write>(
+    rt: &(impl Threads + Wait + Clock + Sync),
+    alloc: Global,
+    output: &mut W,
+    count: u64,
+) -> Result<()> {
+    let inbox = lanes::through_inbox(rt, alloc, count)?;
+    output.write_fmt(format_args!("lane: {inbox}\n"))?;
+    let plain = lanes::through_plain_queue(rt, alloc, count)?;
+    output.write_fmt(format_args!("lane of a plain queue: {plain}\n"))?;
     Ok(())
 }

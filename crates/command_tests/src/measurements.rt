@@ -1,5 +1,6 @@
 use benchmarks::{Asked, Bench, Measured, perform, read_words};
 use std::alloc::Global;
+use std::sync::Wait;
 use std::test::Fail;
 use std::thread::Threads;
 use std::time::Clock;
@@ -20,7 +21,7 @@ fn asked(alloc: Global, words: &[&str]) -> Result<Asked, Fail> {
 
 // What is printed where this is asked for.
 fn printed(
-    rt: &(impl Threads + Clock + Sync),
+    rt: &(impl Threads + Wait + Clock + Sync),
     alloc: Global,
     words: &[&str],
 ) -> Result<Vec<u8>, Fail> {
@@ -31,7 +32,7 @@ fn printed(
 }
 
 // The benchmarks, and how many lines each prints.
-const BENCHMARKS: [(&str, usize); 9] = [
+const BENCHMARKS: [(&str, usize); 10] = [
     ("parse", 1),
     ("read", 1),
     ("replies", 1),
@@ -41,6 +42,7 @@ const BENCHMARKS: [(&str, usize); 9] = [
     ("journey", 4),
     ("hub", 3),
     ("report", 2),
+    ("lane", 2),
 ];
 
 #[test]
