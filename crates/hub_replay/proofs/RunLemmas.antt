@@ -1,7 +1,8 @@
 -- How a run goes on, and where it may stop.
-use Rattle.std.proofs.Common.{◌≡◌, ℕ, ◌+◌, ◌<◌, ◌≤◌, ◌^◌, nat_lt, true, false, cond, List, [], ◌∷◌, ◌++◌, length, Option, Result, Ok, Err, OnOk, OnErr, refl, ap, ◌∙◌, sym, append_assoc, append-nil, length-append, arith, codes}
+use Rattle.std.proofs.Common.{◌≡◌, ℕ, ◌+◌, ◌<◌, ◌≤◌, ◌^◌, nat_lt, true, false, cond, List, [], ◌∷◌, ◌++◌, length, Option, Result, Ok, Err, OnOk, OnErr, refl, ap, ◌∙◌, sym, subst, append_assoc, append-nil, length-append, arith, codes}
 use Rattle.std.proofs.lemmas.Bool.{lt-ltb}
 use Rattle.std.proofs.lemmas.List.Sums.{fold-append}
+use Rattle.std.specs.Prelude.{IfErr}
 use Rattle.std.specs.Io.KnownBytes.{Appends, Keeps}
 use Rattle.taf_messages.specs.declared.call.Call.{Call}
 use Rattle.hub_model.specs.declared.entry.Entry.{Entry}
@@ -211,6 +212,11 @@ Stops-replied c₀ c₁ e e' d₀ call front back room grown p app = record {
 pub on_ok : {A E : Type 0} (r : Result A E) {P Q R : Type 0} → OnOk r P → OnOk r Q → (P → Q → R) → OnOk r R
 on_ok (Ok x) p q f = f p q
 on_ok (Err e) p q f = tt
+
+-- memory that is refused ends a run with no failure of the writer
+pub comes_late : {A : Type 0} (r : Result A RunFault) (failures : ℕ) → IfErr r (λ f. f ≡ Memory) → IfErr r (λ f. ComesLate f failures failures)
+comes_late (Ok x) failures h = tt
+comes_late (Err f) failures h = subst (λ (f : RunFault). ComesLate f failures failures) (sym h) refl
 
 pub on_err : {A E : Type 0} (r : Result A E) {R : Type 0} → R → OnErr r R
 on_err (Ok x) h = tt

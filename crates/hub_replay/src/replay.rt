@@ -127,11 +127,7 @@ fn pull_piece<R: Source>(
     ensures fault { IfErr result (λ f. (f ≡ RunFault.Read) × (R.failures reader.new ≡ R.failures reader.old + 1)) }
     ensures same { OnOk result (R.failures reader.new ≡ R.failures reader.old) }
 {
-    let size = if most < PIECE as u64 {
-        most as usize
-    } else {
-        PIECE
-    };
+    let size = most.min(PIECE as u64) as usize;
     match reader.pull(&mut room[held..held + size]) {
         Ok(count) => Ok(count),
         Err(_) => Err(RunFault::Read),

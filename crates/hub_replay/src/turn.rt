@@ -63,7 +63,6 @@ fn give<W: Sink>(writer: &mut W, hub: &mut Hub, desk: &mut Desk, call: Call) -> 
 }
 
 // Gives a call to the hub. None where its history is full.
-#[tactic(auto, unfolding(crate::specs::Outcomes::entry_of))]
 fn enter(hub: &mut Hub, call: Call) -> Result<Option<Reply>, Memory>
     ensures ok { IfOk result (λ reply. IsEntered hub.old call hub.new reply) }
     ensures err { OnErr result (hub.new ≡ hub.old) }
@@ -99,10 +98,10 @@ pub(crate) fn write_much<W: Sink>(writer: &mut W, desk: &mut Desk) -> Result<(),
     ensures kept { OnOk result (W.failures writer.new ≡ W.failures writer.old) }
     ensures counts { OnOk result (desk.new.counts ≡ desk.old.counts) }
 {
-    if desk.out.len() < MUCH {
-        return Ok(());
+    if desk.out.len() >= MUCH {
+        return write_out(writer, desk);
     }
-    write_out(writer, desk)
+    Ok(())
 }
 
 /// Writes what is pending, and has the writer send it on.

@@ -6,3 +6,9 @@ returns-in-Ok-clause-ok g c = λ e. Goes-append (c.in_ok-write_out.ensures.ok e)
 
 pub returns-in-Err-clause-err : goal.returns-in-Err-clause-err
 returns-in-Err-clause-err g c = λ e. Stops-after (c.in_ok-write_out.ensures.ok e) (Stops-kept _ _ e c.write_out.new.desk c.in-Err.ensures.bytes)
+
+pub returns-in-Err-clause-ok : goal.returns-in-Err-clause-ok
+returns-in-Err-clause-ok g c = tt
+
+pub returns-in-Err-clause-kept : goal.returns-in-Err-clause-kept
+returns-in-Err-clause-kept g c = tt

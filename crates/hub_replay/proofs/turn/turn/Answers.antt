@@ -1,5 +1,5 @@
 use Rattle.std.proofs.Common.{refl}
-use Rattle.hub_replay.proofs.RunLemmas.{Goes-said, Goes-blank, Stops-here, on_ok, on_err}
+use Rattle.hub_replay.proofs.RunLemmas.{Goes-said, Goes-blank, Stops-here, comes_late, on_ok, on_err}
 use Rattle.hub_replay.proofs.turn.turn.Goals as goal
 
 pub returns-in-Blank-clause-ok : goal.returns-in-Blank-clause-ok
@@ -18,3 +18,6 @@ returns-in-Fault-clause-ok g c = on_ok c.say_fault.result c.say_fault.ensures.ou
 
 pub returns-in-Fault-clause-err : goal.returns-in-Fault-clause-err
 returns-in-Fault-clause-err g c = on_err c.say_fault.result (Stops-here _ c.args.hub.now c.args.desk.now _)
+
+pub returns-in-Fault-clause-fault : goal.returns-in-Fault-clause-fault
+returns-in-Fault-clause-fault g c = comes_late c.say_fault.result (g.W.Sink.failures c.args.writer.now) c.say_fault.ensures.err
