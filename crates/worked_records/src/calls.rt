@@ -59,34 +59,64 @@ fn moved(alloc: Global, by: &str, no: u64, at: &str, what: MovementKind) -> Resu
 
 #[test]
 fn movements(rt: HostRuntime) -> Result<(), Fail> {
-    for (line, by, no, at, what) in MOVEMENTS {
-        are_call(rt.alloc(), line, &moved(rt.alloc(), by, no, at, what)?)?;
+    for (line, by, no, at, what) in &MOVEMENTS {
+        are_call(rt.alloc(), line, &moved(rt.alloc(), by, *no, at, *what)?)?;
     }
     Ok(())
 }
 
+// What a movement of this kind says of the first wagon, and more than the others.
+fn movement_that_says_more(alloc: Global, kind: &str) -> Result<Call, Fail> {
+    let place = place("AT00002")?;
+    let delay = within(45)?;
+    let (by, no, at, what) = match kind {
+        "yard_in" => (
+            "R101",
+            2,
+            "2025-03-01T10:40Z",
+            MovementKind::YardArrival { place },
+        ),
+        "yard_out" => (
+            "R102",
+            4,
+            "2025-03-01T11:30Z",
+            MovementKind::YardDeparture { place },
+        ),
+        _ => (
+            "R101",
+            2,
+            "2025-03-01T07:00Z",
+            MovementKind::Exception { delay },
+        ),
+    };
+    moved(alloc, by, no, at, what)
+}
+
+static MOVEMENTS_THAT_SAY_MORE: [(&str, &str); 3] = [
+    (
+        "yard_in",
+        r#"{"kind":"yard_in","from":"R101","no":2,"wagon":"218124712173","at":"2025-03-01T10:40Z","place":"AT00002"}"#,
+    ),
+    (
+        "yard_out",
+        r#"{"kind":"yard_out","from":"R102","no":4,"wagon":"218124712173","at":"2025-03-01T11:30Z","place":"AT00002"}"#,
+    ),
+    (
+        "exception",
+        r#"{"kind":"exception","from":"R101","no":2,"wagon":"218124712173","at":"2025-03-01T07:00Z","delay":45}"#,
+    ),
+];
+
 #[test]
 fn movements_that_say_more(rt: HostRuntime) -> Result<(), Fail> {
-    let alloc = rt.alloc();
-    let place = place("AT00002")?;
-    let arrival = MovementKind::YardArrival { place };
-    let departure = MovementKind::YardDeparture { place };
-    let exception = MovementKind::Exception { delay: within(45)? };
-    are_call(
-        alloc,
-        r#"{"kind":"yard_in","from":"R101","no":2,"wagon":"218124712173","at":"2025-03-01T10:40Z","place":"AT00002"}"#,
-        &moved(alloc, "R101", 2, "2025-03-01T10:40Z", arrival)?,
-    )?;
-    are_call(
-        alloc,
-        r#"{"kind":"yard_out","from":"R102","no":4,"wagon":"218124712173","at":"2025-03-01T11:30Z","place":"AT00002"}"#,
-        &moved(alloc, "R102", 4, "2025-03-01T11:30Z", departure)?,
-    )?;
-    are_call(
-        alloc,
-        r#"{"kind":"exception","from":"R101","no":2,"wagon":"218124712173","at":"2025-03-01T07:00Z","delay":45}"#,
-        &moved(alloc, "R101", 2, "2025-03-01T07:00Z", exception)?,
-    )
+    for (kind, line) in &MOVEMENTS_THAT_SAY_MORE {
+        are_call(
+            rt.alloc(),
+            line,
+            &movement_that_says_more(rt.alloc(), kind)?,
+        )?;
+    }
+    Ok(())
 }
 
 fn estimate_asked(alloc: Global) -> Result<Call, Fail> {
@@ -165,55 +195,58 @@ fn answer(
     send(alloc, "R102", no, Body::Answer(Shared::new(alloc, answer)?))
 }
 
-#[test]
-fn other_messages(rt: HostRuntime) -> Result<(), Fail> {
-    let alloc = rt.alloc();
-    are_call(
-        alloc,
-        r#"{"kind":"eti_ask","from":"R100","no":3,"wagon":"218124712173"}"#,
-        &estimate_asked(alloc)?,
-    )?;
-    are_call(
-        alloc,
-        r#"{"kind":"leg_time","from":"R102","no":1,"wagon":"218124712173","leg":1,"minutes":200}"#,
-        &leg_time(alloc)?,
-    )?;
-    are_call(
-        alloc,
-        r#"{"kind":"withdraw","from":"R101","no":7,"at":"2025-03-01T11:00Z","offer":6}"#,
-        &withdrawal(alloc)?,
-    )?;
-    are_call(
-        alloc,
-        r#"{"kind":"reroute","from":"R100","no":3,"wagon":"218124712173","legs":[{"ru":"R103","origin":"AT00002","target":"CH00004","minutes":180}]}"#,
-        &reroute(alloc)?,
-    )
+// The message that stands under these words below.
+fn other_message(alloc: Global, words: &str) -> Result<Call, Fail> {
+    match words {
+        "eti_ask" => estimate_asked(alloc),
+        "leg_time" => leg_time(alloc),
+        "withdraw" => withdrawal(alloc),
+        "reroute" => reroute(alloc),
+        "offer" => offer(alloc),
+        "answer" => answer(alloc, 1, &[ONE], &[TWO], Some(railway("I300")?)),
+        _ => answer(alloc, 3, &[ONE, TWO], &[], None),
+    }
 }
 
-// An answer may name no manager.
-const NO_MANAGER: &str =
-    r#"{"kind":"answer","from":"R102","no":3,"at":"2025-03-01T11:10Z","offerer":"R101","offer":6,"received":["218124712173","338478961232"],"refused":[]}
-{"kind":"answer","from":"R102","no":3,"at":"2025-03-01T11:10Z","offerer":"R101","offer":6,"received":["218124712173","338478961232"],"refused":[],"manager":null}"#;
+// Lines of other messages. An answer may name no manager.
+static OTHER_MESSAGES: [(&str, &str); 7] = [
+    (
+        "eti_ask",
+        r#"{"kind":"eti_ask","from":"R100","no":3,"wagon":"218124712173"}"#,
+    ),
+    (
+        "leg_time",
+        r#"{"kind":"leg_time","from":"R102","no":1,"wagon":"218124712173","leg":1,"minutes":200}"#,
+    ),
+    (
+        "withdraw",
+        r#"{"kind":"withdraw","from":"R101","no":7,"at":"2025-03-01T11:00Z","offer":6}"#,
+    ),
+    (
+        "reroute",
+        r#"{"kind":"reroute","from":"R100","no":3,"wagon":"218124712173","legs":[{"ru":"R103","origin":"AT00002","target":"CH00004","minutes":180}]}"#,
+    ),
+    (
+        "offer",
+        r#"{"kind":"offer","from":"R101","no":6,"at":"2025-03-01T10:50Z","train":"T-77","place":"AT00002","to":"R102","wagons":["218124712173","338478961232"]}"#,
+    ),
+    (
+        "answer",
+        r#"{"kind":"answer","from":"R102","no":1,"at":"2025-03-01T11:10Z","offerer":"R101","offer":6,"received":["218124712173"],"refused":["338478961232"],"manager":"I300"}"#,
+    ),
+    (
+        "answer without a manager",
+        r#"{"kind":"answer","from":"R102","no":3,"at":"2025-03-01T11:10Z","offerer":"R101","offer":6,"received":["218124712173","338478961232"],"refused":[]}
+{"kind":"answer","from":"R102","no":3,"at":"2025-03-01T11:10Z","offerer":"R101","offer":6,"received":["218124712173","338478961232"],"refused":[],"manager":null}"#,
+    ),
+];
 
 #[test]
-fn trains(rt: HostRuntime) -> Result<(), Fail> {
-    let alloc = rt.alloc();
-    let manager = Some(railway("I300")?);
-    are_call(
-        alloc,
-        r#"{"kind":"offer","from":"R101","no":6,"at":"2025-03-01T10:50Z","train":"T-77","place":"AT00002","to":"R102","wagons":["218124712173","338478961232"]}"#,
-        &offer(alloc)?,
-    )?;
-    are_call(
-        alloc,
-        r#"{"kind":"answer","from":"R102","no":1,"at":"2025-03-01T11:10Z","offerer":"R101","offer":6,"received":["218124712173"],"refused":["338478961232"],"manager":"I300"}"#,
-        &answer(alloc, 1, &[ONE], &[TWO], manager)?,
-    )?;
-    are_call(
-        alloc,
-        NO_MANAGER,
-        &answer(alloc, 3, &[ONE, TWO], &[], None)?,
-    )
+fn other_messages(rt: HostRuntime) -> Result<(), Fail> {
+    for (words, lines) in &OTHER_MESSAGES {
+        are_call(rt.alloc(), lines, &other_message(rt.alloc(), words)?)?;
+    }
+    Ok(())
 }
 
 /// The plan of the first two wagons over two legs, with a unit on the first wagon or with none.
@@ -245,63 +278,87 @@ pub(crate) fn plan(alloc: Global, unit: Option<UnitCode>) -> Result<Plan, Fail> 
 }
 
 // Lines of the plan without units, and then with one.
-const PLANS: &str =
+static PLANS: &str =
     r#"{"kind":"plan","from":"R100","no":1,"consignment":"C-1","load":"loaded","commit":"2025-03-01T15:30Z","wagons":["218124712173","338478961232"],"legs":[{"ru":"R101","origin":"DE00001","target":"AT00002","minutes":300},{"ru":"R102","origin":"AT00002","target":"IT00003","minutes":240}]}
 {"kind":"plan","from":"R100","no":1,"consignment":"C-1","load":"loaded","commit":"2025-03-01T15:30Z","wagons":["218124712173","338478961232"],"legs":[{"ru":"R101","origin":"DE00001","target":"AT00002","minutes":300},{"ru":"R102","origin":"AT00002","target":"IT00003","minutes":240}],"units":null}
 {"kind":"plan","from":"R100","no":1,"consignment":"C-1","load":"loaded","commit":"2025-03-01T15:30Z","wagons":["218124712173","338478961232"],"legs":[{"ru":"R101","origin":"DE00001","target":"AT00002","minutes":300},{"ru":"R102","origin":"AT00002","target":"IT00003","minutes":240}],"units":[]}
 {"kind":"plan","from":"R100","no":1,"consignment":"C-1","load":"loaded","commit":"2025-03-01T15:30Z","wagons":["218124712173","338478961232"],"legs":[{"ru":"R101","origin":"DE00001","target":"AT00002","minutes":300},{"ru":"R102","origin":"AT00002","target":"IT00003","minutes":240}],"units":7,"units":[]}"#;
 
-const PLANS_WITH_A_UNIT: &str =
+static PLANS_WITH_A_UNIT: &str =
     r#"{"kind":"plan","from":"R100","no":1,"consignment":"C-1","load":"loaded","commit":"2025-03-01T15:30Z","wagons":["218124712173","338478961232"],"legs":[{"ru":"R101","origin":"DE00001","target":"AT00002","minutes":300},{"ru":"R102","origin":"AT00002","target":"IT00003","minutes":240}],"units":[{"unit":"CSQU3054383","wagon":"218124712173"}]}
 {"kind":"plan","from":"R100","no":1,"consignment":"C-1","load":"loaded","commit":"2025-03-01T15:30Z","wagons":["218124712173","338478961232"],"legs":[{"ru":"R101","origin":"DE00001","target":"AT00002","minutes":300},{"ru":"R102","origin":"AT00002","target":"IT00003","minutes":240}],"units":[{"wagon":"218124712173","note":null,"unit":"CSQU3054383"}]}"#;
 
-#[test]
-fn plans(rt: HostRuntime) -> Result<(), Fail> {
-    let alloc = rt.alloc();
-    let unit = Some(UnitCode::read("CSQU3054383")?);
-    let bare = send(alloc, "R100", 1, Body::Plan(plan(alloc, None)?))?;
-    are_call(alloc, PLANS, &bare)?;
-    let loaded = send(alloc, "R100", 1, Body::Plan(plan(alloc, unit)?))?;
-    are_call(alloc, PLANS_WITH_A_UNIT, &loaded)
+// The call of sending the plan.
+fn planned(alloc: Global, unit: Option<UnitCode>) -> Result<Call, Fail> {
+    send(alloc, "R100", 1, Body::Plan(plan(alloc, unit)?))
 }
 
-// Key order, blanks, escapes, unknown fields and repeated keys make no other call.
-const ASK: &str = r#"{"kind":"ask","from":"R100","wagon":"318066552148"}
+#[test]
+fn plans(rt: HostRuntime) -> Result<(), Fail> {
+    let unit = Some(UnitCode::read("CSQU3054383")?);
+    are_call(rt.alloc(), PLANS, &planned(rt.alloc(), None)?)?;
+    are_call(rt.alloc(), PLANS_WITH_A_UNIT, &planned(rt.alloc(), unit)?)
+}
+
+// The question of this kind.
+fn question(kind: &str) -> Result<Call, Fail> {
+    let by = railway("R100")?;
+    let call = match kind {
+        "ask_unit" => Call::AskUnit {
+            by,
+            unit: UnitCode::read("CSQU3054383")?,
+        },
+        "deviation" => Call::Deviation {
+            by,
+            consignment: consignment("C-1")?,
+        },
+        "fetch" => Call::Fetch {
+            by,
+            limit: within(10)?,
+        },
+        "ack" => Call::Ack {
+            by,
+            item: within(0)?,
+        },
+        _ => Call::Ask {
+            by,
+            wagon: wagon(THREE)?,
+        },
+    };
+    Ok(call)
+}
+
+// Lines of questions. Key order, blanks, escapes, unknown fields and repeated keys make no other call.
+static QUESTIONS: [(&str, &str); 6] = [
+    (
+        "ask",
+        r#"{"kind":"ask","from":"R100","wagon":"318066552148"}
 {"wagon":"318066552148","from":"R100","kind":"ask"}
 {"k\u0069nd":"\u0061sk","from":"R100","wagon":"318066552148"}
 {"kind":"ask","from":"R100","wagon":"318066552148","no":-1.5e3,"note":[null,{"kind":"ack"}]}
 {"kind":"fetch","kind":"ask","from":7,"from":"R100","wagon":"318066552148"}
-{"kind":"ask","from":"R100","wagon":"318066552148","note":"\ud83d\ude82 \u00e4"}"#;
+{"kind":"ask","from":"R100","wagon":"318066552148","note":"\ud83d\ude82 \u00e4"}"#,
+    ),
+    (
+        "ask",
+        "\t{ \"kind\" : \"ask\" , \"from\" : \"R100\" , \"wagon\" : \"318066552148\" } \r",
+    ),
+    (
+        "ask_unit",
+        r#"{"kind":"ask_unit","from":"R100","unit":"CSQU3054383"}"#,
+    ),
+    (
+        "deviation",
+        r#"{"kind":"deviation","from":"R100","consignment":"C-1"}"#,
+    ),
+    ("fetch", r#"{"kind":"fetch","from":"R100","limit":10}"#),
+    ("ack", r#"{"kind":"ack","from":"R100","item":0}"#),
+];
 
 #[test]
 fn questions(rt: HostRuntime) -> Result<(), Fail> {
-    let alloc = rt.alloc();
-    let by = railway("R100")?;
-    let wagon = wagon(THREE)?;
-    let unit = UnitCode::read("CSQU3054383")?;
-    let consignment = consignment("C-1")?;
-    let (limit, item) = (within(10)?, within(0)?);
-    are_call(alloc, ASK, &Call::Ask { by, wagon })?;
-    let blanks = "\t{ \"kind\" : \"ask\" , \"from\" : \"R100\" , \"wagon\" : \"318066552148\" } \r";
-    are_call(alloc, blanks, &Call::Ask { by, wagon })?;
-    are_call(
-        alloc,
-        r#"{"kind":"ask_unit","from":"R100","unit":"CSQU3054383"}"#,
-        &Call::AskUnit { by, unit },
-    )?;
-    are_call(
-        alloc,
-        r#"{"kind":"deviation","from":"R100","consignment":"C-1"}"#,
-        &Call::Deviation { by, consignment },
-    )?;
-    are_call(
-        alloc,
-        r#"{"kind":"fetch","from":"R100","limit":10}"#,
-        &Call::Fetch { by, limit },
-    )?;
-    are_call(
-        alloc,
-        r#"{"kind":"ack","from":"R100","item":0}"#,
-        &Call::Ack { by, item },
-    )
+    for (kind, lines) in &QUESTIONS {
+        are_call(rt.alloc(), lines, &question(kind)?)?;
+    }
+    Ok(())
 }

@@ -8,7 +8,7 @@ use std::alloc::Global;
 use std::test::Fail;
 use taf_messages::{Field, RecordFault};
 
-const NO_RECORDS: &str = r#"={"fault":"bad_json"}
+static NO_RECORDS: &str = r#"={"fault":"bad_json"}
 {"kind":"ask","from":"R1
 {"kind":"ask","from":"DE
 []
@@ -38,23 +38,24 @@ fn lines_with_faults(rt: HostRuntime) -> Result<(), Fail> {
     Ok(())
 }
 
+static NO_RECORD: [&[u8]; 4] = [
+    b"",
+    b"{\"kind\":\"ask\",\"note\":\"\xff\"}",
+    b"\xef\xbb\xbf{}",
+    b"\x0c{}",
+];
+
 #[test]
 fn bytes_that_are_no_record(rt: HostRuntime) -> Result<(), Fail> {
-    let open = Vec::from_elem(rt.alloc(), b'[', 30_000)?;
-    for bytes in [
-        open.as_slice(),
-        b"",
-        b"{\"kind\":\"ask\",\"note\":\"\xff\"}",
-        b"\xef\xbb\xbf{}",
-        b"\x0c{}",
-    ] {
+    for bytes in &NO_RECORD {
         has_fault(rt.alloc(), bytes, r#"{"fault":"bad_json"}"#)?;
     }
-    Ok(())
+    let open = Vec::from_elem(rt.alloc(), b'[', 30_000)?;
+    has_fault(rt.alloc(), &open, r#"{"fault":"bad_json"}"#)
 }
 
 // Fields, each with a value that is good for it and with one that is not.
-const FIELDS: &str = r#"from "R101" "r100"
+static FIELDS: &str = r#"from "R101" "r100"
 no 999999999999 0
 consignment "C-1" "C_1"
 load "empty" "Loaded"
@@ -93,7 +94,7 @@ fn values(field: &str) -> Result<(&str, &str), Fail> {
 }
 
 // The kinds of records with their fields in order, of which those with `?` may be absent.
-const KINDS: &str = "plan from no consignment load commit wagons legs units?
+static KINDS: &str = "plan from no consignment load commit wagons legs units?
 release from no wagon at
 depart from no wagon at
 eti from no wagon at
@@ -192,27 +193,29 @@ fn is_written(alloc: Global, fault: RecordFault, text: &str) -> Result<(), Fail>
 }
 
 // The text of a fault names the field.
+static TEXTS: [(RecordFault, &str); 7] = [
+    (RecordFault::BadJson, r#"{"fault":"bad_json"}"#),
+    (RecordFault::BadKind, r#"{"fault":"bad_kind"}"#),
+    (
+        RecordFault::MissingField(Field::From),
+        r#"{"fault":"missing_field","field":"from"}"#,
+    ),
+    (
+        RecordFault::BadField(Field::Delay),
+        r#"{"fault":"bad_field","field":"delay"}"#,
+    ),
+    (
+        RecordFault::BadField(Field::Consignment),
+        r#"{"fault":"bad_field","field":"consignment"}"#,
+    ),
+    (RecordFault::BadPlan(1), r#"{"code":1,"fault":"bad_plan"}"#),
+    (RecordFault::BadPlan(8), r#"{"code":8,"fault":"bad_plan"}"#),
+];
+
 #[test]
 fn texts_of_faults(rt: HostRuntime) -> Result<(), Fail> {
-    for (fault, text) in [
-        (RecordFault::BadJson, r#"{"fault":"bad_json"}"#),
-        (RecordFault::BadKind, r#"{"fault":"bad_kind"}"#),
-        (
-            RecordFault::MissingField(Field::From),
-            r#"{"fault":"missing_field","field":"from"}"#,
-        ),
-        (
-            RecordFault::BadField(Field::Delay),
-            r#"{"fault":"bad_field","field":"delay"}"#,
-        ),
-        (
-            RecordFault::BadField(Field::Consignment),
-            r#"{"fault":"bad_field","field":"consignment"}"#,
-        ),
-        (RecordFault::BadPlan(1), r#"{"code":1,"fault":"bad_plan"}"#),
-        (RecordFault::BadPlan(8), r#"{"code":8,"fault":"bad_plan"}"#),
-    ] {
-        is_written(rt.alloc(), fault, text)?;
+    for (fault, text) in &TEXTS {
+        is_written(rt.alloc(), *fault, text)?;
     }
     Ok(())
 }

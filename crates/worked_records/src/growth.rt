@@ -145,7 +145,7 @@ fn refusals(alloc: Global, ballast: &mut Ballast, attempt: &Attempt) -> Result<u
     Err(Fail::new("always refused"))
 }
 
-const QUESTIONS: &str = r#"{"kind":"ask","from":"R100","wagon":"318066552148"}
+static QUESTIONS: &str = r#"{"kind":"ask","from":"R100","wagon":"318066552148"}
 {"kind":"deviation","from":"R100","consignment":"C-1"}
 {"kind":"fetch","from":"R100","limit":0}
 {"kind":"ack","item":[1,2,{"a":"b"}]}"#;

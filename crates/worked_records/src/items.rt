@@ -8,7 +8,7 @@ use std::test::Fail;
 use taf_messages::{Call, Item, ItemBody, Shared, SubNotice, Wagons};
 
 // Lines, and below each the message that its notice carries: the kind's own fields alone, keys in byte order.
-const NOTICES: &str =
+static NOTICES: &str =
     r#"{"kind":"plan","from":"R100","no":1,"consignment":"C-1","load":"loaded","commit":"2025-03-01T15:30Z","wagons":["218124712173","338478961232"],"legs":[{"ru":"R101","origin":"DE00001","target":"AT00002","minutes":300},{"ru":"R102","origin":"AT00002","target":"IT00003","minutes":240}]}
 {"commit":"2025-03-01T15:30Z","consignment":"C-1","from":"R100","kind":"plan","legs":[{"minutes":300,"origin":"DE00001","ru":"R101","target":"AT00002"},{"minutes":240,"origin":"AT00002","ru":"R102","target":"IT00003"}],"load":"loaded","no":1,"wagons":["218124712173","338478961232"]}
 {"kind":"plan","from":"R100","no":1,"consignment":"C-1","load":"empty","commit":"2025-03-01T15:30Z","wagons":["218124712173"],"legs":[{"ru":"R101","origin":"DE00001","target":"AT00002","minutes":300,"note":[]}],"units":[{"unit":"CSQU3054383","wagon":"218124712173","note":1}],"note":"x"}
@@ -85,7 +85,7 @@ fn sub(alloc: Global) -> Result<ItemBody, Fail> {
     Ok(ItemBody::Sub(Shared::new(alloc, sub)?))
 }
 
-const DEPARTURE: &str =
+static DEPARTURE: &str =
     r#"{"kind":"depart","from":"R101","no":1,"wagon":"218124712173","at":"2025-03-01T06:00Z"}"#;
 
 /// The first two items of the lead: the notice of a departure, and when the wagon is expected.
@@ -99,7 +99,7 @@ pub(crate) fn two_items(alloc: Global) -> Result<Vec<Item>, Fail> {
     Ok(items)
 }
 
-const TWO_ITEMS: &str =
+static TWO_ITEMS: &str =
     r#"{"item":1,"message":{"at":"2025-03-01T06:00Z","from":"R101","kind":"depart","no":1,"wagon":"218124712173"},"type":"notice"}
 {"at":"2025-03-01T15:00Z","item":2,"type":"eta","wagon":"218124712173"}"#;
 
@@ -123,7 +123,7 @@ fn add_others(alloc: Global, items: &mut Vec<Item>, number: u64) -> Result<(), F
     add(items, number, ItemBody::AlertEnds { wagon })
 }
 
-const OTHERS: &str =
+static OTHERS: &str =
     r#"{"at":"2025-03-01T11:10Z","from":"R102","item":1,"offer":6,"offerer":"R101","type":"sub","wagons":["218124712173"]}
 {"at":"2025-03-01T10:30Z","item":1,"leg":0,"type":"eti","wagon":"218124712173"}
 {"at":"2025-03-01T10:30Z","item":1,"leg":1,"type":"eti","wagon":"218124712173"}
@@ -132,7 +132,7 @@ const OTHERS: &str =
 {"item":1,"late_by":4294967295,"type":"alert_begins","wagon":"218124712173"}
 {"item":1,"type":"alert_ends","wagon":"218124712173"}"#;
 
-const OTHERS_OF_THE_GREATEST_NUMBER: &str =
+static OTHERS_OF_THE_GREATEST_NUMBER: &str =
     r#"{"at":"2025-03-01T11:10Z","from":"R102","item":18446744073709551615,"offer":6,"offerer":"R101","type":"sub","wagons":["218124712173"]}
 {"at":"2025-03-01T10:30Z","item":18446744073709551615,"leg":0,"type":"eti","wagon":"218124712173"}
 {"at":"2025-03-01T10:30Z","item":18446744073709551615,"leg":1,"type":"eti","wagon":"218124712173"}
@@ -165,13 +165,16 @@ fn have_texts(alloc: Global, items: &[Item], texts: &str) -> Result<(), Fail> {
     Ok(())
 }
 
+// Fails unless the items of this number that carry no message have the texts of these lines.
+fn others_have_texts(alloc: Global, number: u64, texts: &str) -> Result<(), Fail> {
+    let mut others = Vec::new(alloc);
+    add_others(alloc, &mut others, number)?;
+    have_texts(alloc, &others, texts)
+}
+
 #[test]
 fn texts_of_items(rt: HostRuntime) -> Result<(), Fail> {
     have_texts(rt.alloc(), &two_items(rt.alloc())?, TWO_ITEMS)?;
-    for (number, texts) in [(1, OTHERS), (u64::MAX, OTHERS_OF_THE_GREATEST_NUMBER)] {
-        let mut others = Vec::new(rt.alloc());
-        add_others(rt.alloc(), &mut others, number)?;
-        have_texts(rt.alloc(), &others, texts)?;
-    }
-    Ok(())
+    others_have_texts(rt.alloc(), 1, OTHERS)?;
+    others_have_texts(rt.alloc(), u64::MAX, OTHERS_OF_THE_GREATEST_NUMBER)
 }

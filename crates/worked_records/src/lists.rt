@@ -6,7 +6,7 @@ use taf_messages::{Listed, OfferedWagons, Wagons};
 use wagon_number::WagonNumber;
 
 /// Offers, good and bad.
-pub(crate) const OFFERS: &str = r#"=good
+pub(crate) static OFFERS: &str = r#"=good
 {"kind":"offer","from":"R101","no":6,"at":"2025-03-01T10:50Z","train":"T-77","place":"AT00002","to":"R102","wagons":<60 wagons>}
 {"kind":"offer","from":"R101","no":6,"at":"2025-03-01T10:50Z","train":"T-77","place":"AT00002","to":"R102","wagons":["218124712173"]}
 {"kind":"offer","from":"R101","no":6,"at":"2025-03-01T10:50Z","train":"T-77","place":"AT00002","to":"R102","wagons":["338478961232","218124712173"]}
@@ -22,7 +22,7 @@ pub(crate) const OFFERS: &str = r#"=good
 {"kind":"offer","from":"R101","no":6,"at":"2025-03-01T10:50Z","train":"T-77","place":"AT00002","to":"R102","wagons":null}"#;
 
 /// Answers, good and bad. A wagon may stand twice in their lists.
-pub(crate) const ANSWERS: &str = r#"=good
+pub(crate) static ANSWERS: &str = r#"=good
 {"kind":"answer","from":"R102","no":1,"at":"2025-03-01T11:10Z","offerer":"R101","offer":6,"received":<60 wagons>,"refused":<60 wagons>}
 {"kind":"answer","from":"R102","no":1,"at":"2025-03-01T11:10Z","offerer":"R101","offer":6,"received":[],"refused":[]}
 {"kind":"answer","from":"R102","no":1,"at":"2025-03-01T11:10Z","offerer":"R101","offer":6,"received":["218124712173","218124712173"],"refused":["218124712173","218124712173"]}

@@ -3,7 +3,7 @@ use std::test::Fail;
 use taf_messages::FetchLimit;
 
 /// The numbers at a field's limits and those beside them; at the end what is no number of JSON.
-pub(crate) const NUMBERS: &str = r#"=good
+pub(crate) static NUMBERS: &str = r#"=good
 {"kind":"fetch","from":"R100","limit":1}
 {"kind":"fetch","from":"R100","limit":50}
 {"kind":"ack","from":"R100","item":0}
@@ -65,18 +65,21 @@ pub(crate) const NUMBERS: &str = r#"=good
 {"kind":"fetch","from":"R100","limit":NaN}
 {"kind":"fetch","from":"R100","limit":}"#;
 
+static LIMITS: [(u64, bool); 5] = [
+    (0, false),
+    (1, true),
+    (50, true),
+    (51, false),
+    (u64::MAX, false),
+];
+
 #[test]
-fn numbers_within_limits(rt: HostRuntime) -> Result<(), Fail> {
-    for (number, good) in [
-        (0, false),
-        (1, true),
-        (50, true),
-        (51, false),
-        (u64::MAX, false),
-    ] {
-        match FetchLimit::new(number) {
-            Some(limit) => assert!(rt; good && limit.get() == number, "{number}"),
-            None => assert!(rt; !good, "{number}"),
+fn numbers_within_limits() -> Result<(), Fail> {
+    for (number, good) in &LIMITS {
+        let limit = FetchLimit::new(*number).map(|limit| limit.get());
+        let wanted = if *good { Some(*number) } else { None };
+        if limit != wanted {
+            return Err(Fail::new(*number));
         }
     }
     Ok(())

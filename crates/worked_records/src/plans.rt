@@ -2,7 +2,7 @@
 
 /// A value that is not good for a plan's lists is a fault of the field, before any rule of plans. At most
 /// 120 units are read.
-pub(crate) const LISTS: &str = r#"={"fault":"bad_field","field":"wagons"}
+pub(crate) static LISTS: &str = r#"={"fault":"bad_field","field":"wagons"}
 {"kind":"plan","from":"R100","no":1,"consignment":"C-1","load":"loaded","commit":"2025-03-01T15:30Z","wagons":null,"legs":[]}
 {"kind":"plan","from":"R100","no":1,"consignment":"C-1","load":"loaded","commit":"2025-03-01T15:30Z","wagons":"218124712173","legs":[{"ru":"R101","origin":"DE00001","target":"AT00002","minutes":300},{"ru":"R102","origin":"AT00002","target":"IT00003","minutes":240}]}
 {"kind":"plan","from":"R100","no":1,"consignment":"C-1","load":"loaded","commit":"2025-03-01T15:30Z","wagons":["218124712173",null],"legs":[{"ru":"R101","origin":"DE00001","target":"AT00002","minutes":300},{"ru":"R102","origin":"AT00002","target":"IT00003","minutes":240}]}
@@ -21,7 +21,7 @@ pub(crate) const LISTS: &str = r#"={"fault":"bad_field","field":"wagons"}
 
 /// Plans of as many wagons and legs as there may be, and plans that break a rule. Any number of wagons and
 /// legs is read.
-pub(crate) const PLANS: &str = r#"=good
+pub(crate) static PLANS: &str = r#"=good
 {"kind":"plan","from":"R100","no":1,"consignment":"C-1","load":"loaded","commit":"2025-03-01T15:30Z","wagons":<60 wagons>,"legs":[{"ru":"R101","origin":"DE00001","target":"DE00002","minutes":100000},{"ru":"R102","origin":"DE00002","target":"DE00003","minutes":100000},{"ru":"R103","origin":"DE00003","target":"DE00004","minutes":100000},{"ru":"R104","origin":"DE00004","target":"DE00005","minutes":100000},{"ru":"R105","origin":"DE00005","target":"DE00006","minutes":100000},{"ru":"R106","origin":"DE00006","target":"DE00007","minutes":100000},{"ru":"R107","origin":"DE00007","target":"DE00008","minutes":100000},{"ru":"R108","origin":"DE00008","target":"DE00009","minutes":100000}]}
 ={"code":1,"fault":"bad_plan"}
 {"kind":"plan","from":"R100","no":1,"consignment":"C-1","load":"loaded","commit":"2025-03-01T15:30Z","wagons":<60 wagons>,"legs":[{"ru":"R101","origin":"DE00001","target":"DE00002","minutes":100000},{"ru":"R102","origin":"DE00002","target":"DE00003","minutes":100000},{"ru":"R103","origin":"DE00003","target":"DE00004","minutes":100000},{"ru":"R104","origin":"DE00004","target":"DE00005","minutes":100000},{"ru":"R105","origin":"DE00005","target":"DE00006","minutes":100000},{"ru":"R106","origin":"DE00006","target":"DE00007","minutes":100000},{"ru":"R107","origin":"DE00007","target":"DE00008","minutes":100000},{"ru":"R108","origin":"DE00008","target":"DE00009","minutes":100000},{"ru":"R109","origin":"DE00009","target":"DE00010","minutes":100000}]}
@@ -47,7 +47,7 @@ pub(crate) const PLANS: &str = r#"=good
 {"kind":"plan","from":"R100","no":1,"consignment":"C-1","load":"loaded","commit":"2025-03-01T15:30Z","wagons":["218124712173","338478961232"],"legs":[{"ru":"R101","origin":"DE00001","target":"AT00002","minutes":300},{"ru":"R102","origin":"AT00002","target":"IT00003","minutes":240}],"units":[{"unit":"CSQU3054383","wagon":"318066552148"}]}"#;
 
 /// Routes that break a rule, and others that are none.
-pub(crate) const ROUTES: &str = r#"={"code":1,"fault":"bad_plan"}
+pub(crate) static ROUTES: &str = r#"={"code":1,"fault":"bad_plan"}
 {"kind":"reroute","from":"R100","no":6,"wagon":"218124712173","legs":[]}
 {"kind":"reroute","from":"R100","no":6,"wagon":"218124712173","legs":<8 {"ru":"R103","origin":"AT00002","target":"CH00004","minutes":180}>}
 ={"code":2,"fault":"bad_plan"}

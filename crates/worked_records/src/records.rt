@@ -107,13 +107,13 @@ pub(crate) fn running(alloc: Global, late: bool) -> Result<Record, Fail> {
     Ok(running)
 }
 
-pub(crate) const RUNNING: &str =
+pub(crate) static RUNNING: &str =
     r#"{"commit":"2025-03-01T15:30Z","consignment":"C-1","estimates":[{"at":"2025-03-01T11:00Z","leg":0},{"at":"2025-03-01T15:00Z","leg":1}],"eta":"2025-03-01T15:00Z","events":[{"by":"R100","kind":"plan","no":1},{"at":"2025-03-01T05:30Z","by":"R100","kind":"release","no":2},{"at":"2025-03-01T06:00Z","by":"R101","kind":"depart","no":1}],"late":false,"lead":"R100","leg":0,"load":"loaded","place":null,"responsible":"R101","stage":"running","status":"loaded_on_journey","wagon":"218124712173"}"#;
 
-pub(crate) const LATE: &str =
+pub(crate) static LATE: &str =
     r#"{"commit":"2025-03-01T15:30Z","consignment":"C-1","estimates":[{"at":"2025-03-01T11:45Z","leg":0},{"at":"2025-03-01T15:45Z","leg":1}],"eta":"2025-03-01T15:45Z","events":[{"by":"R100","kind":"plan","no":1},{"at":"2025-03-01T05:30Z","by":"R100","kind":"release","no":2},{"at":"2025-03-01T06:00Z","by":"R101","kind":"depart","no":1},{"at":"2025-03-01T07:00Z","by":"R101","delay":45,"kind":"exception","no":2}],"late":true,"lead":"R100","leg":0,"load":"loaded","place":null,"responsible":"R101","stage":"running","status":"loaded_on_journey","wagon":"218124712173"}"#;
 
-const PLANNED: &str =
+static PLANNED: &str =
     r#"{"commit":"2025-03-01T15:30Z","consignment":"C-1","estimates":[],"eta":null,"events":[{"by":"R100","kind":"plan","no":1}],"late":false,"lead":"R100","leg":0,"load":"loaded","place":"DE00001","responsible":null,"stage":"planned","status":"loading","units":["CSQU3054383"],"wagon":"218124712173"}"#;
 
 #[test]
@@ -196,10 +196,10 @@ fn texts_of_events(rt: HostRuntime) -> Result<(), Fail> {
     has_part(rt.alloc(), &known, EVENTS)
 }
 
-const EVENTS: &str =
+static EVENTS: &str =
     r#""events":[{"by":"R100","kind":"plan","no":3},{"by":"R100","kind":"eti_ask","no":3},{"by":"R100","kind":"leg_time","leg":1,"minutes":200,"no":3},{"by":"R100","kind":"reroute","leg":1,"no":3},{"at":"2025-03-01T11:10Z","by":"R100","kind":"release","no":3},{"at":"2025-03-01T11:10Z","by":"R100","kind":"depart","no":3},{"at":"2025-03-01T11:10Z","by":"R100","kind":"eti","no":3},{"at":"2025-03-01T11:10Z","by":"R100","kind":"arrival","no":3},{"at":"2025-03-01T11:10Z","by":"R100","kind":"delivery","no":3},{"at":"2025-03-01T11:10Z","by":"R100","kind":"withdraw","no":3},{"at":"2025-03-01T11:10Z","by":"R100","kind":"answer","no":3,"received":true},{"at":"2025-03-01T11:10Z","by":"R100","kind":"answer","no":3,"received":false},{"at":"2025-03-01T11:10Z","by":"R100","kind":"yard_in","no":3,"place":"AT00002"},{"at":"2025-03-01T11:10Z","by":"R100","kind":"yard_out","no":3,"place":"AT00002"},{"at":"2025-03-01T11:10Z","by":"R100","delay":45,"kind":"exception","no":3},{"at":"2025-03-01T11:10Z","by":"R100","kind":"offer","no":3,"place":"AT00002"}],"late""#;
 
-const STAGES: &str =
+static STAGES: &str =
     r#""load":"empty","place":"DE00001","responsible":null,"stage":"planned","status":"loading","units"
 "load":"empty","place":"DE00001","responsible":null,"stage":"released","status":"fleet_control","units"
 "load":"empty","place":"DE00001","responsible":null,"stage":"running","status":"loaded_on_journey","units"
@@ -208,26 +208,33 @@ const STAGES: &str =
 "load":"empty","place":"DE00001","responsible":null,"stage":"arrived","status":"empty_on_journey","units"
 "load":"empty","place":"DE00001","responsible":null,"stage":"delivered","status":"unloading","units""#;
 
+static STAGES_AND_STATUSES: [(Stage, Status); 7] = [
+    (Stage::Planned, Status::Loading),
+    (Stage::Released, Status::FleetControl),
+    (Stage::Running, Status::LoadedOnJourney),
+    (Stage::InYard, Status::EmptyOnJourney),
+    (Stage::Offered, Status::LoadedOnJourney),
+    (Stage::Arrived, Status::EmptyOnJourney),
+    (Stage::Delivered, Status::Unloading),
+];
+
+// Fails unless the text of an empty wagon's record of this stage and status has this part.
+fn has_stage(alloc: Global, stage: Stage, status: Status, part: &str) -> Result<(), Fail> {
+    let mut known = planned(alloc)?;
+    known.stage = stage;
+    known.status = status;
+    known.load = Load::Empty;
+    has_part(alloc, &known, part)
+}
+
 #[test]
 fn stages_and_statuses(rt: HostRuntime) -> Result<(), Fail> {
     let mut parts = STAGES.lines();
-    for (stage, status) in [
-        (Stage::Planned, Status::Loading),
-        (Stage::Released, Status::FleetControl),
-        (Stage::Running, Status::LoadedOnJourney),
-        (Stage::InYard, Status::EmptyOnJourney),
-        (Stage::Offered, Status::LoadedOnJourney),
-        (Stage::Arrived, Status::EmptyOnJourney),
-        (Stage::Delivered, Status::Unloading),
-    ] {
+    for (stage, status) in &STAGES_AND_STATUSES {
         let Some(part) = parts.next() else {
             return Err(Fail::new("no part"));
         };
-        let mut known = planned(rt.alloc())?;
-        known.stage = stage;
-        known.status = status;
-        known.load = Load::Empty;
-        has_part(rt.alloc(), &known, part)?;
+        has_stage(rt.alloc(), *stage, *status, part)?;
     }
     Ok(())
 }

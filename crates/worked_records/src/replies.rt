@@ -36,7 +36,7 @@ fn add_refusals(replies: &mut Vec<Reply>) -> Result<(), Fail> {
 }
 
 // The reasons in the order of their names.
-const REASONS: [Why; 20] = [
+static REASONS: [Why; 20] = [
     Why::UnknownWagon,
     Why::UnknownConsignment,
     Why::UnknownOffer,
@@ -60,10 +60,10 @@ const REASONS: [Why; 20] = [
 ];
 
 fn add_reasons(replies: &mut Vec<Reply>) -> Result<(), Fail> {
-    for why in REASONS {
+    for why in &REASONS {
         replies.push(Reply::Refused {
             no: None,
-            why,
+            why: *why,
             wagon: None,
             last: None,
         })?;
@@ -89,7 +89,7 @@ fn short_replies(alloc: Global) -> Result<Vec<Reply>, Fail> {
     Ok(replies)
 }
 
-const TEXTS: &str = r#"{"no":1,"reply":"accepted"}
+static TEXTS: &str = r#"{"no":1,"reply":"accepted"}
 {"no":999999999999,"reply":"accepted"}
 {"acknowledged":1,"reply":"acknowledged"}
 {"reply":"refused","wagon":"318066552148","why":"unknown_wagon"}
