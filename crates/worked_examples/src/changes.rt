@@ -55,7 +55,7 @@ const BAD_UNITS: &str =
 {"commit":"2025-03-01T15:30Z","consignment":"C-1","from":"R100","kind":"plan","legs":[{"minutes":300,"origin":"DE00001","ru":"R101","target":"AT00002"},{"minutes":240,"origin":"AT00002","ru":"R102","target":"IT00003"}],"load":"loaded","no":1,"units":[{"unit":"CSQU3054383","wagon":"318066552148"}],"wagons":["218124712173","338478961232"]}
 > {"code":8,"fault":"bad_plan"}"#;
 
-pub(crate) const EXAMPLES: &[(&str, &[&str])] = &[
+pub(crate) static EXAMPLES: &[(&str, &[&str])] = &[
     ("a wagon gets other legs", &[DEPARTED, OTHER_LEGS]),
     (
         "a wagon gets too many legs",

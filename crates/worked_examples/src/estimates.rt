@@ -111,7 +111,7 @@ const TIMES_OF_LEGS: &str =
 {"from":"R100","kind":"ask","wagon":"218124712173"}
 > {"record":{"commit":"2025-03-01T15:30Z","consignment":"C-1","estimates":[{"at":"2025-03-01T11:00Z","leg":0},{"at":"2025-03-01T14:20Z","leg":1}],"eta":"2025-03-01T14:20Z","events":[{"by":"R100","kind":"plan","no":1},{"at":"2025-03-01T05:30Z","by":"R100","kind":"release","no":2},{"at":"2025-03-01T06:00Z","by":"R101","kind":"depart","no":1},{"by":"R102","kind":"leg_time","leg":1,"minutes":200,"no":1},{"by":"R100","kind":"eti_ask","no":3}],"late":false,"lead":"R100","leg":0,"load":"loaded","place":null,"responsible":"R101","stage":"running","status":"loaded_on_journey","wagon":"218124712173"},"reply":"record"}"#;
 
-pub(crate) const EXAMPLES: &[(&str, &[&str])] = &[
+pub(crate) static EXAMPLES: &[(&str, &[&str])] = &[
     (
         "a delay counts once",
         &[DEPARTED, DELAYED, DELAY_COUNTS_ONCE],

@@ -1,4 +1,4 @@
-use crate::play::{INTERCHANGE, Script, first_output_of, shown};
+use crate::play::{INTERCHANGE, Script, first_output_of, no_difference};
 use std::alloc::Global;
 use std::test::Fail;
 use std::thread::Threads;
@@ -37,7 +37,7 @@ pub(crate) const BAD_LINES: &str = r#"{"kind":"ask","from":"DE
 {"kind":"ask","from":"R100","wagon":"318066552148"}
 > {"reply":"refused","wagon":"318066552148","why":"unknown_wagon"}"#;
 
-pub(crate) const EXAMPLES: &[(&str, &[&str])] = &[("bad lines", &[BAD_LINES])];
+pub(crate) static EXAMPLES: &[(&str, &[&str])] = &[("bad lines", &[BAD_LINES])];
 
 const ASK: &str = r#"{"kind":"ask","from":"R100","wagon":"318066552148"}"#;
 
@@ -55,7 +55,7 @@ const TOO_LONG_AND_BAD: &str = r#"{"fault":"line_too_long"}
 "#;
 
 // How a line begins, the byte that it is filled with, its size, what stands behind it, and what is answered.
-const FILLED: [(&str, u8, usize, &str, &str); 20] = [
+static FILLED: [(&str, u8, usize, &str, &str); 20] = [
     (ASK, b' ', 65_536, "", UNKNOWN),
     (ASK, b' ', 65_536, "\n", UNKNOWN),
     (ASK, b' ', 65_537, "", TOO_LONG),
@@ -90,10 +90,10 @@ fn filled(alloc: Global, line: &str, fill: u8, size: usize, behind: &str) -> Res
 
 #[test]
 fn long_lines_and_blank_ones(rt: HostRuntime) -> Result<(), Fail> {
-    for (line, fill, size, behind, wanted) in FILLED {
-        let input = filled(rt.alloc(), line, fill, size, behind)?;
+    for (line, fill, size, behind, wanted) in &FILLED {
+        let input = filled(rt.alloc(), line, *fill, *size, behind)?;
         let output = first_output_of(&rt, rt.alloc(), &input)?;
-        assert_eq!(rt; shown(&output), wanted, "{line} {fill} {size} {behind}");
+        no_difference(&output, wanted.as_bytes())?;
     }
     Ok(())
 }
@@ -154,7 +154,9 @@ fn is_cut_answered(
 fn an_interchange_is_cut_at_every_byte(rt: HostRuntime) -> Result<(), Fail> {
     let script = Script::of(rt.alloc(), INTERCHANGE)?;
     for cut in 0..=script.input.len() {
-        assert!(rt; is_cut_answered(&rt, rt.alloc(), &script, cut)?, "at {cut}");
+        if !is_cut_answered(&rt, rt.alloc(), &script, cut)? {
+            return Err(Fail::new(cut));
+        }
     }
     Ok(())
 }

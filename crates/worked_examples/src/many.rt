@@ -1,4 +1,4 @@
-use crate::play::{DEPARTED, Script, add_line, first_output_of, no_difference, plays_on};
+use crate::play::{DEPARTED, Script, add_line, first_output_of, new_hub, no_difference, plays_on};
 use call_reader::read_call;
 use hub_core::{Hub, HubFault};
 use std::alloc::Global;
@@ -84,7 +84,7 @@ const PAGES: &str =
 {"from":"R100","kind":"fetch","limit":50}
 > {"items":[],"reply":"items"}"#;
 
-pub(crate) const EXAMPLES: &[(&str, &[&str])] = &[
+pub(crate) static EXAMPLES: &[(&str, &[&str])] = &[
     (
         "as many wagons and legs as a plan has",
         &[MOST_WAGONS_AND_LEGS],
@@ -101,13 +101,13 @@ fn add_numbered(lines: &mut Vec<u8>, before: &str, number: &str, behind: &str) -
     add_line(lines, behind)
 }
 
-const DELAY: &str = r#"{"kind":"exception","from":"R101","no":"#;
+static DELAY: &str = r#"{"kind":"exception","from":"R101","no":"#;
 
-const DELAY_OF_A_MINUTE: &str = r#","wagon":"218124712173","at":"2025-03-01T07:00Z","delay":1}"#;
+static DELAY_OF_A_MINUTE: &str = r#","wagon":"218124712173","at":"2025-03-01T07:00Z","delay":1}"#;
 
-const NUMBER: &str = r#"{"no":"#;
+static NUMBER: &str = r#"{"no":"#;
 
-const ACCEPTED: &str = r#","reply":"accepted"}"#;
+static ACCEPTED: &str = r#","reply":"accepted"}"#;
 
 // Adds a delay of a minute with each of the numbers from 2 to 20,001.
 fn add_delays(alloc: Global, script: &mut Script) -> Result<(), Fail> {
@@ -119,7 +119,7 @@ fn add_delays(alloc: Global, script: &mut Script) -> Result<(), Fail> {
     Ok(())
 }
 
-const AFTER_DELAYS: &str = r#"{"from":"R100","item":64,"kind":"ack"}
+static AFTER_DELAYS: &str = r#"{"from":"R100","item":64,"kind":"ack"}
 > {"acknowledged":64,"reply":"acknowledged"}
 {"from":"R100","kind":"fetch","limit":1}
 > {"items":[{"item":65,"late_by":1,"type":"alert_begins","wagon":"218124712173"}],"reply":"items"}
@@ -132,9 +132,11 @@ const AFTER_DELAYS: &str = r#"{"from":"R100","item":64,"kind":"ack"}
 {"from":"R100","kind":"fetch","limit":50}
 > {"items":[],"reply":"items"}"#;
 
+static A_DEPARTURE: &[&str] = &[DEPARTED];
+
 /// A departure, and then twenty thousand delays.
 pub(crate) fn delays(alloc: Global) -> Result<Script, Fail> {
-    let mut script = Script::of(alloc, &[DEPARTED])?;
+    let mut script = Script::of(alloc, A_DEPARTURE)?;
     add_delays(alloc, &mut script)?;
     script.add(AFTER_DELAYS)?;
     Ok(script)
@@ -144,10 +146,10 @@ pub(crate) fn delays(alloc: Global) -> Result<Script, Fail> {
 fn twenty_thousand_delays(rt: HostRuntime) -> Result<(), Fail> {
     let script = delays(rt.alloc())?;
     let output = first_output_of(&rt, rt.alloc(), &script.input)?;
-    no_difference("delays", &output, &script.wanted)
+    no_difference(&output, &script.wanted)
 }
 
-const ASK: &str = r#"{"kind":"ask","from":"R100","wagon":"318066552148"}"#;
+static ASK: &str = r#"{"kind":"ask","from":"R100","wagon":"318066552148"}"#;
 
 // Gives the hub as many calls as it takes.
 fn fill(hub: &mut Hub, call: &Call) -> Result<(), Fail> {
@@ -178,12 +180,14 @@ fn is_full(alloc: Global, hub: &mut Hub) -> Result<(), Fail> {
     }
 }
 
-const ANSWERED_FULL: &str = r#"{"kind":"ask","from":"R100","wagon":"318066552148"}
-> {"fault":"hub_full"}"#;
+static ON_A_FULL_HUB: &[&str] = &[
+    r#"{"kind":"ask","from":"R100","wagon":"318066552148"}
+> {"fault":"hub_full"}"#,
+];
 
 #[test]
 fn as_many_calls_as_a_hub_takes(rt: HostRuntime) -> Result<(), Fail> {
-    let mut hub = Hub::new(rt.alloc());
+    let mut hub = new_hub(rt.alloc())?;
     is_full(rt.alloc(), &mut hub)?;
-    plays_on(&rt, rt.alloc(), &mut hub, "a full hub", &[ANSWERED_FULL])
+    plays_on(&rt, rt.alloc(), &mut hub, ON_A_FULL_HUB)
 }

@@ -70,7 +70,7 @@ const ARRIVAL_ON_THE_FIRST_LEG: &str =
     r#"{"at":"2025-03-01T10:00Z","from":"R101","kind":"arrival","no":2,"wagon":"218124712173"}
 > {"no":2,"reply":"refused","wagon":"218124712173","why":"not_last_leg"}"#;
 
-pub(crate) const EXAMPLES: &[(&str, &[&str])] = &[
+pub(crate) static EXAMPLES: &[(&str, &[&str])] = &[
     ("a wagon departs", &[DEPARTED, AFTER_DEPARTURE]),
     ("an unknown wagon", &[UNKNOWN]),
     ("a departure before its release", &[BEFORE_RELEASE]),

@@ -3,9 +3,9 @@
 use crate::changes::WITH_UNIT;
 use crate::lines::count_lines;
 use crate::many::{MOST_WAGONS_AND_LEGS, NINE_LEGS, WAGONS_61, delays};
-use crate::play::{DEPARTED, Script, add_line, no_difference, output_of};
+use crate::play::{DEPARTED, Script, add_line, new_hub, no_difference, output_of};
 use ballast::Ballast;
-use hub_core::{Hub, View};
+use hub_core::View;
 use std::alloc::Global;
 use std::test::Fail;
 use std::thread::Threads;
@@ -46,12 +46,12 @@ const OF_THE_LATEST_WAGON: &str = "wagons 1
 218124712173 R100 ---- 0 delivered IT00003 2199-12-31T23:59Z 120968639 unloading AAAU0000060,CSQU3054383
 ";
 
-const AFTER_DELAYS: &str = "wagons 2
+static AFTER_DELAYS: &str = "wagons 2
 218124712173 R100 R101 0 running   ------- 2025-03-15T12:20Z     19970 loaded_on_journey
 ";
 
 // Calls, how many lines the report after them has, and its first ones.
-const REPORTS: &[(&[&str], usize, &str)] = &[
+static REPORTS: &[(&[&str], usize, &str)] = &[
     (&[], 1, "wagons 0\n"),
     (&[DEPARTED], 3, OF_TWO),
     (&[WITH_UNIT], 3, OF_A_UNIT),
@@ -64,7 +64,7 @@ const REPORTS: &[(&[&str], usize, &str)] = &[
 
 // The view after these calls.
 fn view_after(rt: &impl Threads, alloc: Global, input: &[u8]) -> Result<View, Fail> {
-    let mut hub = Hub::new(alloc);
+    let mut hub = new_hub(alloc)?;
     output_of(rt, alloc, &mut hub, input)?;
     Ok(hub.view()?)
 }
@@ -99,7 +99,7 @@ fn reports(
     let view = view_after(rt, alloc, input)?;
     let report = report_of(rt, alloc, &view)?;
     let front = report.get(..wanted.len()).unwrap_or(&report);
-    no_difference("the report", front, wanted.as_bytes())?;
+    no_difference(front, wanted.as_bytes())?;
     if count_lines(&report) == count {
         Ok(())
     } else {
@@ -107,10 +107,21 @@ fn reports(
     }
 }
 
+// The same after the calls of an example.
+fn reports_after(
+    rt: &(impl Threads + Sync),
+    alloc: Global,
+    example: &[&str],
+    count: usize,
+    wanted: &str,
+) -> Result<(), Fail> {
+    let script = Script::of(alloc, example)?;
+    reports(rt, alloc, &script.input, count, wanted)
+}
+
 fn reports_each(rt: &(impl Threads + Sync), alloc: Global) -> Result<(), Fail> {
     for (example, count, wanted) in REPORTS {
-        let script = Script::of(alloc, example)?;
-        reports(rt, alloc, &script.input, *count, wanted)?;
+        reports_after(rt, alloc, example, *count, wanted)?;
     }
     Ok(())
 }
@@ -136,9 +147,11 @@ fn add_expected(records: &mut Vec<Record>, shown: &[Record], minutes: u32) -> Re
     Ok(())
 }
 
+static A_UNIT: &[&str] = &[WITH_UNIT];
+
 // A view of twice so many wagons, every other one with a unit.
 fn many_wagons(rt: &impl Threads, alloc: Global, times: u32) -> Result<View, Fail> {
-    let script = Script::of(alloc, &[WITH_UNIT])?;
+    let script = Script::of(alloc, A_UNIT)?;
     let view = view_after(rt, alloc, &script.input)?;
     let mut records = Vec::new(alloc);
     for minutes in 0..times {
@@ -215,7 +228,6 @@ impl Scarcity {
 fn each_growth_of_a_report_is_refused_in_turn(rt: HostRuntime) -> Result<(), Fail> {
     let view = many_wagons(&rt, rt.alloc(), 10)?;
     let mut scarcity = Scarcity::new(rt.alloc(), view)?;
-    let budgets = scarcity.budgets(&rt, rt.alloc())?;
-    assert!(rt; budgets > 20, "{budgets}");
+    assert!(rt; scarcity.budgets(&rt, rt.alloc())? > 20);
     Ok(())
 }

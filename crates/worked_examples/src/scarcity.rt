@@ -1,6 +1,6 @@
 //! Each growth refused in turn: of a hub that takes the calls of an interchange, and of a view of it.
 
-use crate::play::{INTERCHANGE, Script, no_difference, plays_on};
+use crate::play::{INTERCHANGE, Script, new_hub, no_difference, plays_on};
 use crate::trains::AFTER_INTERCHANGE;
 use ballast::Ballast;
 use call_reader::read_call;
@@ -10,6 +10,8 @@ use std::alloc::Global;
 use std::test::Fail;
 use std::thread::Threads;
 use taf_messages::{Call, Reply};
+
+static AFTERWARDS: &[&str] = &[AFTER_INTERCHANGE];
 
 // The reply of the hub, if memory isn't refused.
 fn reply_of(hub: &mut Hub, call: Call) -> Option<Reply> {
@@ -99,7 +101,7 @@ impl Scarcity {
     fn interchange(&mut self, alloc: Global, hub: &mut Hub) -> Result<(), Fail> {
         let lines = self.replies(alloc, hub)?;
         let script = Script::of(alloc, INTERCHANGE)?;
-        no_difference("the interchange", &lines, &script.wanted)
+        no_difference(&lines, &script.wanted)
     }
 
     // The view of the hub, which is asked for again where memory is refused.
@@ -122,7 +124,7 @@ impl Scarcity {
         hub: &mut Hub,
     ) -> Result<View, Fail> {
         self.interchange(alloc, hub)?;
-        plays_on(rt, alloc, hub, "afterwards", &[AFTER_INTERCHANGE])?;
+        plays_on(rt, alloc, hub, AFTERWARDS)?;
         self.view(hub)
     }
 
@@ -130,7 +132,7 @@ impl Scarcity {
     fn seen(&mut self, rt: &impl Threads, alloc: Global, left: usize) -> Result<View, Fail> {
         self.left = left;
         self.refused = 0;
-        let mut hub = Hub::new(alloc);
+        let mut hub = new_hub(alloc)?;
         self.view_after(rt, alloc, &mut hub)
     }
 

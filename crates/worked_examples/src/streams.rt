@@ -6,11 +6,10 @@ ghost use Rattle.taf_codes.specs.Counting.{count};
 use crate::lines::{BAD_LINES, count_lines, first_lines};
 use crate::many::delays;
 use crate::movement::AFTER_DEPARTURE;
-use crate::play::{DEPARTED, Script};
+use crate::play::{DEPARTED, Script, new_hub};
 use ballast::Ballast;
 use hub_core::Hub;
 use hub_replay::{Counts, RunFault, run};
-use std::alloc::Global;
 use std::test::Fail;
 use std::thread::Threads;
 use taf_codes::{Failed, Failures, Sink, Source};
@@ -18,7 +17,7 @@ use taf_codes::{Failed, Failures, Sink, Source};
 const BLANK_LINES: &str = "\n \t\n  ";
 
 // Lines that are no calls or are blank, a departure, and what came of it.
-const EXAMPLE: &[&str] = &[BAD_LINES, BLANK_LINES, DEPARTED, AFTER_DEPARTURE];
+static EXAMPLE: &[&str] = &[BAD_LINES, BLANK_LINES, DEPARTED, AFTER_DEPARTURE];
 
 /// Two calls and fourteen faults of the bad lines; a plan, a release, a departure, three asks and five fetches.
 const COUNTS: Counts = Counts {
@@ -155,18 +154,17 @@ struct Ran {
     flushes: usize,
 }
 
-// Runs the input through a new hub, with its output behind these bytes.
+// Runs the input through a hub, with its output behind these bytes.
 fn run_through(
-    rt: &impl Threads,
-    alloc: Global,
+    rt: &(impl Threads + AllocGlobal),
+    hub: &mut Hub,
     input: &[u8],
     bytes: Vec<u8>,
     reach: Reach,
 ) -> Ran {
-    let mut hub = Hub::new(alloc);
     let mut from = Bytes::new(input, reach);
     let mut to = Page::new(bytes, reach);
-    let told = run(rt, alloc, &mut from, &mut to, &mut hub);
+    let told = run(rt, rt.alloc(), &mut from, &mut to, hub);
     Ran {
         told,
         output: to.bytes,
@@ -174,6 +172,12 @@ fn run_through(
         reads: from.reads,
         flushes: to.flushes,
     }
+}
+
+// What comes of a run through a new hub.
+fn first_run(rt: &(impl Threads + AllocGlobal), input: &[u8], reach: Reach) -> Result<Ran, Fail> {
+    let mut hub = new_hub(rt.alloc())?;
+    Ok(run_through(rt, &mut hub, input, Vec::new(rt.alloc()), reach))
 }
 
 // Whether all of the script was answered by this. The writer is flushed before each read and at the end.
@@ -229,70 +233,90 @@ fn answers_to_first(script: &Script, size: usize) -> &[u8] {
 }
 
 // Whether the script is answered where a reader and a writer go by so many bytes.
-fn goes_by(rt: &impl Threads, alloc: Global, script: &Script, step: usize, taken: usize) -> bool {
-    let reach = Reach { step, taken, ..FAR };
-    let ran = run_through(rt, alloc, &script.input, Vec::new(alloc), reach);
-    is_whole(&ran, &script.wanted)
+fn goes_by(
+    rt: &(impl Threads + AllocGlobal),
+    script: &Script,
+    step: usize,
+    taken: usize,
+) -> Result<bool, Fail> {
+    let ran = first_run(rt, &script.input, Reach { step, taken, ..FAR })?;
+    Ok(is_whole(&ran, &script.wanted))
 }
+
+// How many bytes a read gives, and how many a write takes.
+static STEPS: [(usize, usize); 9] = [
+    (1, 1),
+    (1, 3),
+    (1, MANY),
+    (7, 1),
+    (7, 3),
+    (7, MANY),
+    (MANY, 1),
+    (MANY, 3),
+    (MANY, MANY),
+];
 
 #[test]
 fn few_bytes_at_once(rt: HostRuntime) -> Result<(), Fail> {
     let script = Script::of(rt.alloc(), EXAMPLE)?;
-    for step in [1usize, 7, 1_000_000] {
-        for taken in [1usize, 3, 1_000_000] {
-            assert!(rt;
-                goes_by(&rt, rt.alloc(), &script, step, taken),
-                "by {step} and {taken}"
-            );
+    for (step, taken) in &STEPS {
+        if !goes_by(&rt, &script, *step, *taken)? {
+            return Err(Fail::new(*step));
         }
     }
     Ok(())
 }
 
 // Whether the lines that were read before a read fails are answered, and no more.
-fn fails_to_read(rt: &impl Threads, alloc: Global, script: &Script, reads: usize) -> bool {
+fn fails_to_read(
+    rt: &(impl Threads + AllocGlobal),
+    script: &Script,
+    reads: usize,
+) -> Result<bool, Fail> {
     let reach = Reach {
         step: 1,
         reads,
         ..FAR
     };
-    let ran = run_through(rt, alloc, &script.input, Vec::new(alloc), reach);
-    is_failed(&ran, RunFault::Read, answers_to_first(script, reads))
+    let ran = first_run(rt, &script.input, reach)?;
+    Ok(is_failed(&ran, RunFault::Read, answers_to_first(script, reads)))
 }
 
 #[test]
 fn each_read_fails(rt: HostRuntime) -> Result<(), Fail> {
     let script = Script::of(rt.alloc(), EXAMPLE)?;
     for reads in 0..=script.input.len() {
-        assert!(rt;
-            fails_to_read(&rt, rt.alloc(), &script, reads),
-            "at {reads}"
-        );
+        if !fails_to_read(&rt, &script, reads)? {
+            return Err(Fail::new(reads));
+        }
     }
     Ok(())
 }
 
 // Whether the bytes that were taken before a write fails are the first ones of the output.
-fn fails_to_write(rt: &impl Threads, alloc: Global, script: &Script, writes: usize) -> bool {
+fn fails_to_write(
+    rt: &(impl Threads + AllocGlobal),
+    script: &Script,
+    writes: usize,
+) -> Result<bool, Fail> {
     let reach = Reach {
         taken: 1,
         writes,
         ..FAR
     };
-    let ran = run_through(rt, alloc, &script.input, Vec::new(alloc), reach);
+    let ran = first_run(rt, &script.input, reach)?;
     let output = script.wanted.as_slice();
     let front = output.get(..writes).unwrap_or(output);
-    is_failed(&ran, RunFault::Write, front) && is_front(&ran, output)
+    Ok(is_failed(&ran, RunFault::Write, front) && is_front(&ran, output))
 }
 
 #[test]
 fn each_write_fails(rt: HostRuntime) -> Result<(), Fail> {
     let script = Script::of(rt.alloc(), EXAMPLE)?;
     for writes in 0..script.wanted.len() {
-        assert!(rt;
-            fails_to_write(&rt, rt.alloc(), &script, writes),
-            "at {writes}"
-        );
+        if !fails_to_write(&rt, &script, writes)? {
+            return Err(Fail::new(writes));
+        }
     }
     Ok(())
 }
@@ -307,18 +331,22 @@ fn a_write_fails_among_many_lines(rt: HostRuntime) -> Result<(), Fail> {
         writes: 12_345,
         ..FAR
     };
-    let ran = run_through(&rt, rt.alloc(), &script.input, Vec::new(rt.alloc()), reach);
+    let ran = first_run(&rt, &script.input, reach)?;
     assert!(rt; is_failed(&ran, RunFault::Write, first_lines(&script.wanted, 12_345)));
-    assert_eq!(rt; ran.entries, 12_346);
+    assert!(rt; ran.entries == 12_346);
     Ok(())
 }
 
 // Whether a flush that fails comes behind as many reads, and behind the answers to the lines that they gave.
-fn fails_to_flush(rt: &impl Threads, alloc: Global, script: &Script, flushes: usize) -> bool {
-    let reach = Reach { flushes, ..FAR };
-    let ran = run_through(rt, alloc, &script.input, Vec::new(alloc), reach);
+fn fails_to_flush(
+    rt: &(impl Threads + AllocGlobal),
+    script: &Script,
+    flushes: usize,
+) -> Result<bool, Fail> {
+    let ran = first_run(rt, &script.input, Reach { flushes, ..FAR })?;
     let answers = answers_to_first(script, flushes.saturating_mul(FAR.step));
-    is_failed(&ran, RunFault::Write, answers) && ran.reads.saturating_add(flushes) == MANY
+    let is_behind_reads = ran.reads.saturating_add(flushes) == MANY;
+    Ok(is_failed(&ran, RunFault::Write, answers) && is_behind_reads)
 }
 
 // There is a flush before each read, one of which finds the end, and one behind them.
@@ -326,10 +354,9 @@ fn fails_to_flush(rt: &impl Threads, alloc: Global, script: &Script, flushes: us
 fn each_flush_fails(rt: HostRuntime) -> Result<(), Fail> {
     let script = Script::of(rt.alloc(), EXAMPLE)?;
     for flushes in 0..=script.input.len().div_ceil(FAR.step).saturating_add(1) {
-        assert!(rt;
-            fails_to_flush(&rt, rt.alloc(), &script, flushes),
-            "at {flushes}"
-        );
+        if !fails_to_flush(&rt, &script, flushes)? {
+            return Err(Fail::new(flushes));
+        }
     }
     Ok(())
 }
@@ -339,30 +366,29 @@ const HELD: usize = 4_259_840;
 
 // What comes of a run where so many bytes are left, beside those that hold its input.
 fn ran_within(
-    rt: &impl Threads,
-    alloc: Global,
+    rt: &(impl Threads + AllocGlobal),
     ballast: &mut Ballast,
     script: &Script,
     left: usize,
 ) -> Result<Ran, Fail> {
-    let held: Vec<u8> = Vec::with_capacity(alloc, HELD)?;
-    let page = Vec::with_capacity(alloc, script.wanted.len())?;
+    let mut hub = new_hub(rt.alloc())?;
+    let held: Vec<u8> = Vec::with_capacity(rt.alloc(), HELD)?;
+    let page = Vec::with_capacity(rt.alloc(), script.wanted.len())?;
     ballast.leave(left)?;
     drop(held);
-    let ran = run_through(rt, alloc, &script.input, page, FAR);
+    let ran = run_through(rt, &mut hub, &script.input, page, FAR);
     ballast.ease();
     Ok(ran)
 }
 
 // Whether so many bytes are enough. Fails unless the script is answered, or memory was refused behind a front of the output.
 fn is_enough(
-    rt: &impl Threads,
-    alloc: Global,
+    rt: &(impl Threads + AllocGlobal),
     ballast: &mut Ballast,
     script: &Script,
     left: usize,
 ) -> Result<bool, Fail> {
-    let ran = ran_within(rt, alloc, ballast, script, left)?;
+    let ran = ran_within(rt, ballast, script, left)?;
     if is_whole(&ran, &script.wanted) {
         return Ok(true);
     }
@@ -374,10 +400,10 @@ fn is_enough(
 }
 
 // How many budgets aren't enough, each of 64 bytes more than the one before.
-fn count_budgets(rt: &impl Threads, alloc: Global, script: &Script) -> Result<usize, Fail> {
-    let mut ballast = Ballast::new(alloc)?;
+fn count_budgets(rt: &(impl Threads + AllocGlobal), script: &Script) -> Result<usize, Fail> {
+    let mut ballast = Ballast::new(rt.alloc())?;
     for step in 0..20_000usize {
-        if is_enough(rt, alloc, &mut ballast, script, step * 64)? {
+        if is_enough(rt, &mut ballast, script, step * 64)? {
             return Ok(step);
         }
     }
@@ -387,7 +413,6 @@ fn count_budgets(rt: &impl Threads, alloc: Global, script: &Script) -> Result<us
 #[test]
 fn each_growth_of_a_run_is_refused_in_turn(rt: HostRuntime) -> Result<(), Fail> {
     let script = Script::of(rt.alloc(), EXAMPLE)?;
-    let budgets = count_budgets(&rt, rt.alloc(), &script)?;
-    assert!(rt; budgets > 300, "{budgets}");
+    assert!(rt; count_budgets(&rt, &script)? > 300);
     Ok(())
 }

@@ -64,7 +64,7 @@ const DELIVERED: &str =
 {"from":"R100","kind":"ask","wagon":"218124712173"}
 > {"record":{"commit":"2025-03-01T15:30Z","consignment":"C-2","estimates":[],"eta":null,"events":[{"by":"R100","kind":"plan","no":6}],"late":false,"lead":"R100","leg":0,"load":"loaded","place":"DE00001","responsible":null,"stage":"planned","status":"loading","wagon":"218124712173"},"reply":"record"}"#;
 
-pub(crate) const EXAMPLES: &[(&str, &[&str])] = &[
+pub(crate) static EXAMPLES: &[(&str, &[&str])] = &[
     (
         "an offer is made for all wagons or none",
         &[DEPARTED, BOTH_DEPARTED, NOT_OFFERED],
