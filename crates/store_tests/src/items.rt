@@ -26,14 +26,25 @@ pub(crate) fn push(
     outboxes.push(railway, body)
 }
 
-// Boxes in which a railway has so many items, each of which got the number after the one before.
-fn with_items(alloc: Global, railway: Railway, count: u64) -> Result<Outboxes, Fail> {
-    let mut outboxes = Outboxes::new(alloc);
+/// Outboxes without items. They lie on the heap, since what owns outboxes itself takes the prover long.
+pub(crate) fn no_items(alloc: Global) -> Result<Box<Outboxes>, Fail> {
+    Ok(Box::new(alloc, Outboxes::new(alloc))?)
+}
+
+// Pushes so many items to a railway. Fails unless each gets the number after the one before.
+fn push_many(outboxes: &mut Outboxes, railway: Railway, count: u64) -> Result<(), Fail> {
     for number in 1..=count {
-        if push(&mut outboxes, railway, alert_ends()?)? != number {
+        if push(outboxes, railway, alert_ends()?)? != number {
             return Err(Fail::new("another number"));
         }
     }
+    Ok(())
+}
+
+// Outboxes in which a railway has so many items, each of which got the number after the one before.
+fn with_items(alloc: Global, railway: Railway, count: u64) -> Result<Box<Outboxes>, Fail> {
+    let mut outboxes = no_items(alloc)?;
+    push_many(&mut outboxes, railway, count)?;
     Ok(outboxes)
 }
 
@@ -58,7 +69,7 @@ fn last_fetched(
 
 // A railway, how many items it fetches at most, the numbers before the first and of the last that it is given, which
 // number it acknowledges then, and the answer.
-const STEPS: [(&str, u64, u64, u64, u64, Result<u64, AckAhead>); 6] = [
+static STEPS: [(&str, u64, u64, u64, u64, Result<u64, AckAhead>); 6] = [
     ("R100", 1, 0, 1, 0, Ok(0)),
     ("R100", 2, 0, 2, 1, Ok(1)),
     ("R100", 2, 1, 3, 99, Err(AckAhead { last: 5 })),
@@ -71,13 +82,14 @@ const STEPS: [(&str, u64, u64, u64, u64, Result<u64, AckAhead>); 6] = [
 fn items_wait_until_they_are_acknowledged(rt: HostRuntime) -> Result<(), Fail> {
     let owner = Railway::read("R100")?;
     let mut outboxes = with_items(rt.alloc(), owner, 5)?;
-    for (code, most, before, last, number, answer) in STEPS {
+    for (code, most, before, last, number, answer) in &STEPS {
         let railway = railway(code)?;
-        assert_eq!(rt; last_fetched(&outboxes, railway, most, before)?, last);
-        assert_eq!(rt; outboxes.ack(railway, number), answer);
+        let is_last = last_fetched(&outboxes, railway, *most, *before)? == *last;
+        if !is_last || outboxes.ack(railway, *number) != *answer {
+            return Err(Fail::new(*most));
+        }
     }
-    assert_eq!(rt; outboxes.acknowledged(owner), 1);
-    assert_eq!(rt; outboxes.last(owner), 5);
+    assert!(rt; outboxes.acknowledged(owner) == 1 && outboxes.last(owner) == 5);
     Ok(())
 }
 
@@ -87,18 +99,25 @@ fn put(outboxes: &mut Outboxes, railway: Railway, body: ItemBody) -> Result<u64,
     Ok(outboxes.put(railway, body))
 }
 
+// Puts three items. Fails where one gets another number than the one after that of the last.
+fn put_three(outboxes: &mut Outboxes, railway: Railway) -> Result<(), Fail> {
+    for number in 1..4u64 {
+        if put(outboxes, railway, alert_ends()?)? != number {
+            return Err(Fail::new(number));
+        }
+    }
+    Ok(())
+}
+
 #[test]
 fn a_box_is_opened_with_its_room(rt: HostRuntime) -> Result<(), Fail> {
     let railway = Railway::read("R100")?;
-    let mut outboxes = Outboxes::new(rt.alloc());
+    let mut outboxes = no_items(rt.alloc())?;
     assert!(rt; !outboxes.is_open(railway));
     outboxes.make_room(railway, 0)?;
-    assert!(rt; outboxes.is_open(railway));
-    assert_eq!(rt; outboxes.last(railway), 0);
-    for number in 1..4u64 {
-        assert_eq!(rt; put(&mut outboxes, railway, alert_ends()?)?, number);
-    }
-    assert_eq!(rt; last_fetched(&outboxes, railway, 50, 0)?, 3);
+    assert!(rt; outboxes.is_open(railway) && outboxes.last(railway) == 0);
+    put_three(&mut outboxes, railway)?;
+    assert!(rt; last_fetched(&outboxes, railway, 50, 0)? == 3);
     Ok(())
 }
 
@@ -122,10 +141,10 @@ fn count_pages(outboxes: &mut Outboxes, railway: Railway) -> Result<u64, Fail> {
 fn many_items_are_pushed_fetched_and_acknowledged(rt: HostRuntime) -> Result<(), Fail> {
     let railway = Railway::read("R100")?;
     let mut outboxes = with_items(rt.alloc(), railway, 40_003)?;
-    assert_eq!(rt; outboxes.last(railway), 40_003);
-    assert_eq!(rt; count_pages(&mut outboxes, railway)?, 40_003);
-    assert_eq!(rt; outboxes.acknowledged(railway), 40_003);
-    assert_eq!(rt; outboxes.last(railway), 40_003);
+    assert!(rt; outboxes.last(railway) == 40_003);
+    assert!(rt; count_pages(&mut outboxes, railway)? == 40_003);
+    assert!(rt; outboxes.acknowledged(railway) == 40_003);
+    assert!(rt; outboxes.last(railway) == 40_003);
     Ok(())
 }
 
@@ -133,8 +152,8 @@ fn many_items_are_pushed_fetched_and_acknowledged(rt: HostRuntime) -> Result<(),
 fn many_items_are_acknowledged_at_once(rt: HostRuntime) -> Result<(), Fail> {
     let railway = Railway::read("R100")?;
     let mut outboxes = with_items(rt.alloc(), railway, 40_003)?;
-    assert_eq!(rt; outboxes.ack(railway, 40_003), Ok(40_003));
-    assert_eq!(rt; last_fetched(&outboxes, railway, 50, 40_003)?, 40_003);
-    assert_eq!(rt; push(&mut outboxes, railway, alert_ends()?)?, 40_004);
+    assert!(rt; outboxes.ack(railway, 40_003) == Ok(40_003));
+    assert!(rt; last_fetched(&outboxes, railway, 50, 40_003)? == 40_003);
+    assert!(rt; push(&mut outboxes, railway, alert_ends()?)? == 40_004);
     Ok(())
 }

@@ -1,6 +1,6 @@
 //! Items that hold memory of their own, pushed while each growth of memory is refused in turn.
 use crate::given::{limit, number_of};
-use crate::items::push;
+use crate::items::{no_items, push};
 use ballast::Ballast;
 use outbox::Outboxes;
 use std::alloc::Global;
@@ -42,39 +42,43 @@ fn push_notice(
     Ok(())
 }
 
-// How many growths were refused, and the boxes.
-struct Filled {
-    refused: u32,
-    outboxes: Outboxes,
+// Pushes the notice, again with all memory where it is refused and nothing was changed. Tells whether it was.
+fn is_refused(
+    alloc: Global,
+    outboxes: &mut Outboxes,
+    ballast: &mut Ballast,
+    railway: Railway,
+    wagon: WagonNumber,
+) -> Result<bool, Memory> {
+    let before = outboxes.last(railway);
+    let pushed = push_notice(alloc, outboxes, railway, wagon);
+    if pushed.is_ok() || outboxes.last(railway) != before {
+        return Ok(false);
+    }
+    ballast.ease();
+    push_notice(alloc, outboxes, railway, wagon)?;
+    Ok(true)
 }
 
-// Pushes forty items to each of two railways with so much memory at hand. What was refused is pushed again with all
-// memory, where nothing was changed.
+// Pushes forty items to each of two railways with what memory is left, and fetches those of the first. Answers how many
+// growths were refused.
 fn fill(
     alloc: Global,
+    outboxes: &mut Outboxes,
     ballast: &mut Ballast,
-    budget: usize,
     railways: [Railway; 2],
     wagon: WagonNumber,
-) -> Result<Filled, Memory> {
-    let mut outboxes = Outboxes::new(alloc);
+) -> Result<u32, Memory> {
     let mut refused: u32 = 0;
-    ballast.leave(budget)?;
     for number in 0..80usize {
-        let railway = railways[number % 2];
-        let before = outboxes.last(railway);
-        let pushed = push_notice(alloc, &mut outboxes, railway, wagon);
-        if pushed.is_err() && outboxes.last(railway) == before {
+        if is_refused(alloc, outboxes, ballast, railways[number % 2], wagon)? {
             refused = refused.saturating_add(1);
-            ballast.ease();
-            push_notice(alloc, &mut outboxes, railway, wagon)?;
         }
     }
     if outboxes.fetch(railways[0], limit(40)?).is_err() {
         refused = refused.saturating_add(1);
     }
-    ballast.ease();
-    Ok(Filled { refused, outboxes })
+    Ok(refused)
 }
 
 // Whether a railway has forty items, each the notice with its number.
@@ -96,27 +100,34 @@ fn is_filled(
     Ok(number == 40)
 }
 
+// Whether so many bytes are enough. Fails unless both railways have all items in the end.
+fn is_enough(
+    alloc: Global,
+    ballast: &mut Ballast,
+    budget: usize,
+    railways: [Railway; 2],
+    wagon: WagonNumber,
+) -> Result<bool, Fail> {
+    let mut outboxes = no_items(alloc)?;
+    ballast.leave(budget)?;
+    let refused = fill(alloc, &mut outboxes, ballast, railways, wagon)?;
+    ballast.ease();
+    let is_first = is_filled(alloc, &outboxes, railways[0], wagon)?;
+    if is_first && is_filled(alloc, &outboxes, railways[1], wagon)? {
+        Ok(refused == 0)
+    } else {
+        Err(Fail::new(budget))
+    }
+}
+
 #[test]
 fn each_growth_is_refused_in_turn(rt: HostRuntime) -> Result<(), Fail> {
     let railways = [Railway::read("R100")?, Railway::read("I300")?];
     let wagon = WagonNumber::read("218124712173")?;
     let mut ballast = Ballast::new(rt.alloc())?;
     for step in 0..4000usize {
-        let Filled { refused, outboxes } = fill(
-            rt.alloc(),
-            &mut ballast,
-            step * 64,
-            railways,
-            wagon,
-        )?;
-        for railway in railways {
-            assert!(rt;
-                is_filled(rt.alloc(), &outboxes, railway, wagon)?,
-                "at {step}"
-            );
-        }
-        if refused == 0 {
-            assert!(rt; step > 20, "{step}");
+        if is_enough(rt.alloc(), &mut ballast, step * 64, railways, wagon)? {
+            assert!(rt; step > 20);
             return Ok(());
         }
     }

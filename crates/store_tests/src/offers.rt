@@ -5,7 +5,7 @@ use interchange::{Offer, Offers};
 use std::alloc::Global;
 use std::test::Fail;
 use taf_codes::{Memory, Place, Railway};
-use taf_messages::{OfferedWagons, Wagons};
+use taf_messages::{MessageNumber, OfferedWagons, Wagons};
 use wagon_number::WagonNumber;
 
 // The wagons that are written with blanks between them.
@@ -34,6 +34,11 @@ fn offer(alloc: Global, number: u64) -> Result<Offer, Memory> {
     })
 }
 
+// A table without offers. It lies on the heap, since what owns a table itself takes the prover long.
+fn no_offers(alloc: Global) -> Result<Box<Offers>, Fail> {
+    Ok(Box::new(alloc, Offers::new(alloc))?)
+}
+
 // Makes an offer where its name is new.
 fn open_new(alloc: Global, offers: &mut Offers, number: u64) -> Result<(), Memory> {
     let offer = offer(alloc, number)?;
@@ -43,15 +48,21 @@ fn open_new(alloc: Global, offers: &mut Offers, number: u64) -> Result<(), Memor
     offers.open_offer(offer)
 }
 
-// Offers of which 6 is made in one step, and 7 where there is room.
-fn with_two(alloc: Global) -> Result<Offers, Memory> {
-    let mut offers = Offers::new(alloc);
-    open_new(alloc, &mut offers, 6)?;
+// Makes an offer where its name is new, and where there is room for it.
+fn open_where_there_is_room(alloc: Global, offers: &mut Offers, number: u64) -> Result<(), Memory> {
     offers.reserve()?;
-    let next = offer(alloc, 7)?;
+    let next = offer(alloc, number)?;
     if offers.find(next.by, next.no).is_none() {
         offers.open_reserved(next);
     }
+    Ok(())
+}
+
+// Offers of which 6 is made in one step, and 7 where there is room.
+fn with_two(alloc: Global) -> Result<Box<Offers>, Fail> {
+    let mut offers = no_offers(alloc)?;
+    open_new(alloc, &mut offers, 6)?;
+    open_where_there_is_room(alloc, &mut offers, 7)?;
     Ok(offers)
 }
 
@@ -59,13 +70,22 @@ fn with_two(alloc: Global) -> Result<Offers, Memory> {
 fn offers_are_open_once_they_are_made(rt: HostRuntime) -> Result<(), Fail> {
     let by = railway("R101")?;
     let six = number_of(6)?;
-    let mut offers = Offers::new(rt.alloc());
+    let mut offers = no_offers(rt.alloc())?;
     assert!(rt; !offers.is_open(by, six));
     assert!(rt; offers.find(by, six).is_none());
     open_new(rt.alloc(), &mut offers, 6)?;
     assert!(rt; offers.is_open(by, six));
     assert!(rt; !offers.is_open(railway("R102")?, six));
     Ok(())
+}
+
+// Whether the offer of two wagons to R102 is still found.
+fn is_kept(offers: &Offers, by: Railway, no: MessageNumber) -> Result<bool, Memory> {
+    let to = railway("R102")?;
+    match offers.find(by, no) {
+        Some(found) => Ok(found.to == to && found.wagons.as_slice().len() == 2),
+        None => Ok(false),
+    }
 }
 
 #[test]
@@ -78,11 +98,7 @@ fn closed_offers_are_found(rt: HostRuntime) -> Result<(), Fail> {
     }
     assert!(rt; !offers.is_open(by, six));
     assert!(rt; offers.is_open(by, number_of(7)?));
-    let Some(found) = offers.find(by, six) else {
-        return Err(Fail::new("a closed offer is forgotten"));
-    };
-    assert_eq!(rt; found.to, railway("R102")?);
-    assert_eq!(rt; found.wagons.as_slice().len(), 2);
+    assert!(rt; is_kept(&offers, by, six)?);
     Ok(())
 }
 
@@ -95,7 +111,7 @@ fn matches(alloc: Global, received: &str, refused: &str) -> Result<bool, Memory>
 }
 
 // The wagons that are received, those that are refused, and whether they are those of the offer.
-const ANSWERS: [(&str, &str, bool); 11] = [
+static ANSWERS: [(&str, &str, bool); 11] = [
     ("218124712173 338478961232", "", true),
     ("", "218124712173 338478961232", true),
     ("218124712173", "338478961232", true),
@@ -111,28 +127,33 @@ const ANSWERS: [(&str, &str, bool); 11] = [
 
 #[test]
 fn answers_name_each_wagon_once(rt: HostRuntime) -> Result<(), Fail> {
-    for (received, refused, wanted) in ANSWERS {
-        let is_answer = matches(rt.alloc(), received, refused)?;
-        assert_eq!(rt; is_answer, wanted, "{received}, {refused}");
+    for (received, refused, wanted) in &ANSWERS {
+        if matches(rt.alloc(), received, refused)? != *wanted {
+            return Err(Fail::new(*received));
+        }
     }
     Ok(())
 }
 
 // Makes forty offers with so much memory at hand, and answers how many growths were refused. What was refused is made again
 // with all memory.
-fn fill(alloc: Global, ballast: &mut Ballast, budget: usize) -> Result<(u32, Offers), Memory> {
-    let mut offers = Offers::new(alloc);
+fn fill(
+    alloc: Global,
+    offers: &mut Offers,
+    ballast: &mut Ballast,
+    budget: usize,
+) -> Result<u32, Memory> {
     let mut refused: u32 = 0;
     ballast.leave(budget)?;
     for number in 1..41u64 {
-        if open_new(alloc, &mut offers, number).is_err() {
+        if open_new(alloc, offers, number).is_err() {
             refused = refused.saturating_add(1);
             ballast.ease();
-            open_new(alloc, &mut offers, number)?;
+            open_new(alloc, offers, number)?;
         }
     }
     ballast.ease();
-    Ok((refused, offers))
+    Ok(refused)
 }
 
 // Whether the offers up to 40 are made and open, and 41 is not.
@@ -147,15 +168,29 @@ fn is_filled(offers: &Offers, by: Railway) -> Result<bool, Memory> {
     Ok(true)
 }
 
+// Whether so many bytes are enough. Fails unless all offers are made in the end.
+fn is_enough(
+    alloc: Global,
+    ballast: &mut Ballast,
+    budget: usize,
+    by: Railway,
+) -> Result<bool, Fail> {
+    let mut offers = no_offers(alloc)?;
+    let refused = fill(alloc, &mut offers, ballast, budget)?;
+    if is_filled(&offers, by)? {
+        Ok(refused == 0)
+    } else {
+        Err(Fail::new(budget))
+    }
+}
+
 #[test]
 fn each_growth_is_refused_in_turn(rt: HostRuntime) -> Result<(), Fail> {
     let by = railway("R101")?;
     let mut ballast = Ballast::new(rt.alloc())?;
     for step in 0..4000usize {
-        let (refused, offers) = fill(rt.alloc(), &mut ballast, step * 32)?;
-        assert!(rt; is_filled(&offers, by)?, "at {step}");
-        if refused == 0 {
-            assert!(rt; step > 20, "{step}");
+        if is_enough(rt.alloc(), &mut ballast, step * 32, by)? {
+            assert!(rt; step > 20);
             return Ok(());
         }
     }

@@ -4,62 +4,80 @@ use history_pages::Pages;
 use std::alloc::{AllocError, Global};
 use std::test::Fail;
 
+// Pushes the numbers below 1,025. Fails where one is handed back.
+fn push_all(pages: &mut Pages<u32>) -> Result<(), Fail> {
+    for number in 0..1025u32 {
+        if pages.len() >= 1025 || pages.push(number).is_err() {
+            return Err(Fail::new(number));
+        }
+    }
+    Ok(())
+}
+
+// Whether the numbers below 1,025 stand under themselves, and nothing behind them.
+fn is_a_page_and_one(pages: &Pages<u32>) -> bool {
+    let first = pages.get(0) == Some(&0);
+    let page = pages.get(1023) == Some(&1023) && pages.get(1024) == Some(&1024);
+    let behind = pages.get(1025).is_none() && pages.get(usize::MAX).is_none();
+    pages.len() == 1025 && !pages.is_empty() && first && page && behind
+}
+
 #[test]
 fn a_page_and_one_entry_more(rt: HostRuntime) -> Result<(), Fail> {
     let mut pages = Pages::new(rt.alloc());
     assert!(rt; pages.is_empty());
-    for number in 0..1025u32 {
-        assert!(rt; pages.len() < 1025);
-        assert_eq!(rt; pages.push(number), Ok(()));
+    push_all(&mut pages)?;
+    assert!(rt; is_a_page_and_one(&pages));
+    Ok(())
+}
+
+// Makes room for the numbers below 2,050 one by one, and pushes each.
+fn push_all_reserved(pages: &mut Pages<u32>) -> Result<(), Fail> {
+    for number in 0..2050u32 {
+        if pages.len() >= 2050 {
+            return Err(Fail::new(number));
+        }
+        pages.reserve()?;
+        pages.push_reserved(number);
     }
-    assert!(rt; !pages.is_empty());
-    assert_eq!(rt; pages.len(), 1025);
-    for (index, number) in [(0, 0), (1023, 1023), (1024, 1024u32)] {
-        assert_eq!(rt; pages.get(index), Some(&number), "at {index}");
-    }
-    assert_eq!(rt; pages.get(1025), None);
-    assert_eq!(rt; pages.get(usize::MAX), None);
     Ok(())
 }
 
 #[test]
 fn room_is_made_beforehand(rt: HostRuntime) -> Result<(), Fail> {
     let mut pages = Pages::new(rt.alloc());
-    for number in 0..2050u32 {
-        assert!(rt; pages.len() < 2050);
-        pages.reserve()?;
-        pages.push_reserved(number);
-    }
-    assert_eq!(rt; pages.len(), 2050);
-    assert_eq!(rt; pages.get(2049), Some(&2049));
+    push_all_reserved(&mut pages)?;
+    assert!(rt; pages.len() == 2050);
+    assert!(rt; pages.get(2049) == Some(&2049));
     Ok(())
 }
 
-// Pushes the numbers up to 2,048 with so much memory at hand, and answers how many pushes were refused. A number that was
-// handed back is pushed again with all memory.
-fn fill(
-    alloc: Global,
-    ballast: &mut Ballast,
-    budget: usize,
-) -> Result<(u32, Pages<u64>), AllocError> {
-    let mut pages = Pages::new(alloc);
+// Pushes a number, again with all memory where it is handed back. Tells whether it was.
+fn is_handed_back(pages: &mut Pages<u64>, ballast: &mut Ballast, number: u64) -> bool {
+    if pages.len() >= 2049 {
+        return false;
+    }
+    let Err(back) = pages.push(number) else {
+        return false;
+    };
+    ballast.ease();
+    if pages.len() < 2049 {
+        let _ = pages.push(back);
+    }
+    true
+}
+
+// Pushes the numbers up to 2,048 with so much memory at hand, and answers how many pushes were refused.
+fn fill(pages: &mut Pages<u64>, ballast: &mut Ballast, budget: usize) -> Result<u32, AllocError> {
     let mut refused: u32 = 0;
     ballast.leave(budget)?;
     for number in 0..2049u64 {
-        if pages.len() >= 2049 {
-            break;
-        }
-        let Err(back) = pages.push(number) else {
-            continue;
-        };
-        refused = refused.saturating_add(1);
-        ballast.ease();
-        if pages.len() >= 2049 || pages.push(back).is_err() {
-            break;
+        if is_handed_back(pages, ballast, number) {
+            refused = refused.saturating_add(1);
         }
     }
     ballast.ease();
-    Ok((refused, pages))
+    Ok(refused)
 }
 
 // Whether the entries are the numbers up to 2,048.
@@ -72,14 +90,23 @@ fn is_filled(pages: &Pages<u64>) -> bool {
     pages.len() == 2049
 }
 
+// Whether so many bytes are enough. Fails unless all numbers are there in the end.
+fn is_enough(alloc: Global, ballast: &mut Ballast, budget: usize) -> Result<bool, Fail> {
+    let mut pages = Pages::new(alloc);
+    let refused = fill(&mut pages, ballast, budget)?;
+    if is_filled(&pages) {
+        Ok(refused == 0)
+    } else {
+        Err(Fail::new(budget))
+    }
+}
+
 #[test]
 fn each_growth_is_refused_in_turn(rt: HostRuntime) -> Result<(), Fail> {
     let mut ballast = Ballast::new(rt.alloc())?;
     for step in 0..4000usize {
-        let (refused, pages) = fill(rt.alloc(), &mut ballast, step * 64)?;
-        assert!(rt; is_filled(&pages), "at {step}");
-        if refused == 0 {
-            assert!(rt; step > 300, "{step}");
+        if is_enough(rt.alloc(), &mut ballast, step * 64)? {
+            assert!(rt; step > 300);
             return Ok(());
         }
     }
