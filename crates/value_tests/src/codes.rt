@@ -19,13 +19,16 @@ const NO_RAILWAYS: [&str; 8] = [
 ];
 
 #[test]
-fn railways(rt: HostRuntime) -> Result<(), Fail> {
-    for text in RAILWAYS {
-        let railway = Railway::read(text)?;
-        assert_eq!(rt; railway.as_str(), text);
+fn railways() -> Result<(), Fail> {
+    for text in &RAILWAYS {
+        if Railway::read(text)?.as_str() != *text {
+            return Err(Fail::new(*text));
+        }
     }
-    for text in NO_RAILWAYS {
-        assert_eq!(rt; Railway::read(text), Err(BadCode), "at {text}");
+    for text in &NO_RAILWAYS {
+        if Railway::read(text) != Err(BadCode) {
+            return Err(Fail::new(*text));
+        }
     }
     Ok(())
 }
@@ -37,13 +40,16 @@ const NO_PLACES: [&str; 8] = [
 ];
 
 #[test]
-fn places(rt: HostRuntime) -> Result<(), Fail> {
-    for text in PLACES {
-        let place = Place::read(text)?;
-        assert_eq!(rt; place.as_str(), text);
+fn places() -> Result<(), Fail> {
+    for text in &PLACES {
+        if Place::read(text)?.as_str() != *text {
+            return Err(Fail::new(*text));
+        }
     }
-    for text in NO_PLACES {
-        assert_eq!(rt; Place::read(text), Err(BadCode), "at {text}");
+    for text in &NO_PLACES {
+        if Place::read(text) != Err(BadCode) {
+            return Err(Fail::new(*text));
+        }
     }
     Ok(())
 }
@@ -62,13 +68,16 @@ const NO_UNITS: [(&str, UnitFault); 8] = [
 ];
 
 #[test]
-fn units(rt: HostRuntime) -> Result<(), Fail> {
-    for text in UNITS {
-        let unit = UnitCode::read(text)?;
-        assert_eq!(rt; unit.as_str(), text);
+fn units() -> Result<(), Fail> {
+    for text in &UNITS {
+        if UnitCode::read(text)?.as_str() != *text {
+            return Err(Fail::new(*text));
+        }
     }
-    for (text, fault) in NO_UNITS {
-        assert_eq!(rt; UnitCode::read(text), Err(fault), "at {text}");
+    for (text, fault) in &NO_UNITS {
+        if UnitCode::read(text) != Err(*fault) {
+            return Err(Fail::new(*text));
+        }
     }
     Ok(())
 }
@@ -86,28 +95,34 @@ const NO_NAMES: [&str; 7] = [
 ];
 
 #[test]
-fn names(rt: HostRuntime) -> Result<(), Fail> {
-    for text in NAMES {
+fn names() -> Result<(), Fail> {
+    for text in &NAMES {
         let consignment = ConsignmentId::read(text)?;
-        assert_eq!(rt; consignment.as_str(), text);
         let train = TrainId::read(text)?;
-        assert_eq!(rt; train.as_str(), text);
+        if consignment.as_str() != *text || train.as_str() != *text {
+            return Err(Fail::new(*text));
+        }
     }
-    for text in NO_NAMES {
-        assert_eq!(rt; ConsignmentId::read(text), Err(BadCode), "at {text}");
-        assert_eq!(rt; TrainId::read(text), Err(BadCode), "at {text}");
+    for text in &NO_NAMES {
+        if ConsignmentId::read(text) != Err(BadCode) || TrainId::read(text) != Err(BadCode) {
+            return Err(Fail::new(*text));
+        }
     }
     Ok(())
 }
 
 #[test]
-fn codes_are_small_and_names_are_ordered(rt: HostRuntime) -> Result<(), Fail> {
-    assert_eq!(rt; size_of::<Railway>(), 4);
-    assert_eq!(rt; size_of::<Place>(), 7);
-    assert_eq!(rt; size_of::<UnitCode>(), 11);
-    assert_eq!(rt; size_of::<ConsignmentId>(), 21);
-    assert_eq!(rt; size_of::<TrainId>(), 21);
-    assert_eq!(rt; size_of::<Failures>(), 1);
+fn codes_are_small(rt: HostRuntime) {
+    assert!(rt; size_of::<Railway>() == 4);
+    assert!(rt; size_of::<Place>() == 7);
+    assert!(rt; size_of::<UnitCode>() == 11);
+    assert!(rt; size_of::<ConsignmentId>() == 21);
+    assert!(rt; size_of::<TrainId>() == 21);
+    assert!(rt; size_of::<Failures>() == 1);
+}
+
+#[test]
+fn names_are_ordered(rt: HostRuntime) -> Result<(), Fail> {
     let short = ConsignmentId::read("A")?;
     let long = ConsignmentId::read("A-")?;
     let last = ConsignmentId::read("B")?;
@@ -116,23 +131,29 @@ fn codes_are_small_and_names_are_ordered(rt: HostRuntime) -> Result<(), Fail> {
 }
 
 #[test]
-fn codes_and_errors_are_printed(rt: HostRuntime) -> Result<(), Fail> {
+fn codes_are_printed(rt: HostRuntime) -> Result<(), Fail> {
     let railway = Railway::read("R101")?;
     let place = Place::read("IT00003")?;
     let unit = UnitCode::read("CSQU3054383")?;
     let consignment = ConsignmentId::read("CIM-17")?;
     let train = TrainId::read("T-77")?;
     let codes = format!(in rt.alloc(); "{railway} {place} {unit} {consignment:>8} {train}")?;
-    assert_eq!(rt; codes.as_str(), "R101 IT00003 CSQU3054383   CIM-17 T-77");
+    assert!(rt; codes.as_str() == "R101 IT00003 CSQU3054383   CIM-17 T-77");
+    Ok(())
+}
+
+const ERRORS: &str = "the text is no code of this kind
+the text is not four capital letters and seven digits
+the last digit is not the check digit of the unit's code
+memory was refused
+a reader or a writer failed";
+
+#[test]
+fn errors_are_printed(rt: HostRuntime) -> Result<(), Fail> {
     let form = UnitFault::NotAUnitCode;
     let digit = UnitFault::BadUnitDigit;
     let errors = format!(in rt.alloc(); "{BadCode}\n{form}\n{digit}\n{Memory}\n{Failed}")?;
-    let lines = "the text is no code of this kind\n\
-        the text is not four capital letters and seven digits\n\
-        the last digit is not the check digit of the unit's code\n\
-        memory was refused\n\
-        a reader or a writer failed";
-    assert_eq!(rt; errors.as_str(), lines);
+    assert!(rt; errors.as_str() == ERRORS);
     Ok(())
 }
 
