@@ -13,7 +13,7 @@ use taf_messages::Record;
 use trip_plan::Load;
 use wimo::record_of;
 
-const LINES: [&str; 5] = [
+static LINES: [&str; 5] = [
     "R100 2 05:30 release",
     "R101 1 06:00 depart",
     "R101 2 10:40 yard_in AT00002",
@@ -21,7 +21,7 @@ const LINES: [&str; 5] = [
     "R102 1 11:10 receive AT00002",
 ];
 
-const LEGS: &str = "R101:DE00001:AT00002:300 R102:AT00002:IT00003:240";
+static LEGS: &str = "R101:DE00001:AT00002:300 R102:AT00002:IT00003:240";
 
 // So many bytes as no track and no record of these lines need.
 const AMPLE: usize = 1 << 16;
@@ -88,18 +88,30 @@ impl Scarcity {
         Ok(record_of(alloc, track)?)
     }
 
-    // The track of the journey, where so many bytes are left for it.
-    fn track(&mut self, alloc: Global, left: usize) -> Result<Track, Fail> {
-        let plan = planned(alloc, Load::Loaded, &[wagon("218124712173")?], LEGS)?;
-        let mut events = last_first(alloc)?;
-        self.ballast.leave(left)?;
-        let mut track = self.open(alloc, plan)?;
-        for line in LINES {
+    // Adds the events, the last of them first.
+    fn add_all(
+        &mut self,
+        alloc: Global,
+        track: &mut Track,
+        events: Vec<Event>,
+    ) -> Result<(), Fail> {
+        let mut events = events;
+        for line in &LINES {
             let Some(next) = events.pop() else {
                 return Err(Fail::new("no event"));
             };
-            self.add(alloc, &mut track, next, line)?;
+            self.add(alloc, track, next, line)?;
         }
+        Ok(())
+    }
+
+    // The track of the journey, where so many bytes are left for it.
+    fn track(&mut self, alloc: Global, left: usize) -> Result<Track, Fail> {
+        let plan = planned(alloc, Load::Loaded, &[wagon("218124712173")?], LEGS)?;
+        let events = last_first(alloc)?;
+        self.ballast.leave(left)?;
+        let mut track = self.open(alloc, plan)?;
+        self.add_all(alloc, &mut track, events)?;
         self.ballast.ease();
         Ok(track)
     }
@@ -157,7 +169,7 @@ impl Scarcity {
 // The events of the lines, the last one first.
 fn last_first(alloc: Global) -> Result<Vec<Event>, Fail> {
     let mut events = Vec::new(alloc);
-    for line in LINES {
+    for line in &LINES {
         events.push(event(alloc, line)?)?;
     }
     events.reverse();
@@ -172,9 +184,9 @@ fn each_growth_is_refused_in_turn(rt: HostRuntime) -> Result<(), Fail> {
         refused: 0,
     };
     let wanted = scarcity.journey(rt.alloc(), AMPLE, AMPLE)?;
-    assert_eq!(rt; scarcity.refused, 0);
-    assert_eq!(rt; wanted.responsible, Some(Railway::read("R102")?));
-    assert_eq!(rt; wanted.events.as_slice().len(), 6);
+    assert!(rt; scarcity.refused == 0);
+    assert!(rt; wanted.responsible == Some(Railway::read("R102")?));
+    assert!(rt; wanted.events.as_slice().len() == 6);
     assert!(rt; scarcity.track_budgets(rt.alloc(), &wanted)? > 0);
     assert!(rt; scarcity.record_budgets(rt.alloc(), &wanted)? > 0);
     Ok(())

@@ -232,23 +232,17 @@ impl Run {
         Ok(())
     }
 
-    /// Goes on with the events of lines, behind each of which stands what is seen then. Tells the first line after which
-    /// another thing is seen.
-    pub(crate) fn first_difference(
-        &mut self,
-        alloc: Global,
-        lines: &str,
-    ) -> Result<Option<String>, Fail> {
+    /// Goes on with the events of lines, behind each of which stands what is seen then. Fails with what is seen where that
+    /// is another thing.
+    pub(crate) fn goes_on_as(&mut self, alloc: Global, lines: &str) -> Result<(), Fail> {
         for line in lines.lines() {
-            let Some((event, wanted)) = line.split_once(" = ") else {
-                return Err(Fail::new(line));
-            };
+            let (event, wanted) = line.split_once(" = ").unwrap_or((line, ""));
             let seen = self.step(alloc, event)?;
             if seen.as_str() != wanted {
-                return Ok(Some(format!(in alloc; "{event}: {seen}")?));
+                return Err(Fail::new(seen));
             }
         }
-        Ok(None)
+        Ok(())
     }
 
     /// Goes on with a prepared event, and tells whether it leads to the stage and the estimate that were foretold.
