@@ -282,3 +282,15 @@ IsOwnTally-run id events =
       dones_in_order = h.dones_in_order;
       entries = h.entries ∙ sym (tally_with-waiting [] h.answered h.waiting dones h.matched) ∙ ap (λ js. tally_with [] js dones) (sym h.parts);
     }
+
+-- where no stranger came, each job has its Done or is out
+pub all_answered : (id : ℕ) (events : List Event) → (run (new_run (new_state id)) events).state.has_failed ≡ false → length (own_dones (new_run (new_state id)) events) + jobs_out (run (new_run (new_state id)) events).state.slots ≡ length (run (new_run (new_state id)) events).jobs
+all_answered id events sound =
+    let r : Run = run (new_run (new_state id)) events in
+    let h : HasOwnTally id r (own_dones (new_run (new_state id)) events) = HasOwnTally-run id (new_run (new_state id)) [] events (HasOwnTally-new id) in
+    let out : length (calls_of h.waiting) ≡ jobs_out r.state.slots = ap (λ (cs : List Call). length cs) (h.calls sound) ∙ length-calls_out r.state.slots in
+    let waiting = length-calls_of h.waiting in
+    let parts : length r.jobs ≡ length (h.answered ++ h.waiting) = ap (λ (js : List Job). length js) h.parts in
+    let split = length-append h.answered h.waiting in
+    let matched = h.matched in
+    omega (arith, out, waiting, parts, split, matched)

@@ -1,6 +1,6 @@
 -- The laws of sessions.
-use Rattle.std.specs.Prelude.{◌≡◌, ℕ, List}
-use Rattle.session_lines.specs.States.{new_state}
+use Rattle.std.specs.Prelude.{◌≡◌, ℕ, ◌+◌, false, List, length}
+use Rattle.session_lines.specs.States.{new_state, jobs_out}
 use Rattle.session_lines.specs.LockStep.{Answers, lock_step}
 use Rattle.session_lines.specs.Runs.{Event, new_run, run_of, HasOwnDones, completed_transcript}
 use Rattle.session_lines.specs.Tallies.{own_dones, IsOwnTally}
@@ -13,9 +13,13 @@ WindowsAreLockStep =
     → HasOwnDones answers (new_run (new_state id)) events
     → lock_step id answers (run_of id events).input ≡ completed_transcript answers (run_of id events)
 
--- whatever happens to a session, memory that is refused and strangers among it, its tally is its own
+-- Whatever happens to a session, memory that is refused and strangers among it, its tally is its own. Unless a stranger
+-- came, each of its jobs has its Done or is out.
 abbrev pub TalliesAreOwn : Type 0
 TalliesAreOwn =
     (id : ℕ) (events : List Event)
     → IsOwnTally id (run_of id events).jobs (own_dones (new_run (new_state id)) events)
     (run_of id events).state.tally
+    × ((run_of id events).state.has_failed ≡ false
+    → length (own_dones (new_run (new_state id)) events) + jobs_out (run_of id events).state.slots
+    ≡ length (run_of id events).jobs)

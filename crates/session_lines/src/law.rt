@@ -10,7 +10,7 @@ pub fn windows_are_lock_step()
 
 /// Whatever lines and Dones a session takes, and wherever memory is refused, its jobs are counted from 0, and so are
 /// the Dones that it takes as its own; its tally has, in order, for each of these that is Ok, the position, the call
-/// of the job and the reply, and nothing else. It does nothing.
+/// of the job and the reply, and nothing else. Unless a stranger came, each job has its Done or is out. It does nothing.
 pub fn tallies_are_own()
     ensures { TalliesAreOwn }
 {}

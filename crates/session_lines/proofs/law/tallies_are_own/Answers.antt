@@ -1,5 +1,5 @@
-use Rattle.session_lines.proofs.TallyLemmas.{IsOwnTally-run}
+use Rattle.session_lines.proofs.TallyLemmas.{IsOwnTally-run, all_answered}
 use Rattle.session_lines.proofs.law.tallies_are_own.Goals as goal
 
 pub returns : goal.returns
-returns c = λ id events. IsOwnTally-run id events
+returns c = λ id events. (IsOwnTally-run id events, all_answered id events)
