@@ -58,7 +58,9 @@ impl Inbox {
         Ok(Pass { pass: other })
     }
 
-    /// Puts a job. It comes back only where the inbox was full at some moment of the call, and then nothing has changed.
+    /// Puts a job. It comes back only where the rule, and what this pass knows, allow that the inbox was full at some moment
+    /// of the call: that it held as many jobs as its capacity, counting jobs that other passes may have put. Then nothing
+    /// has changed.
     pub fn put<R: Wait>(&self, rt: &R, pass: &mut Pass, job: Job) -> Result<(), Job>
         requires own { pass.old.inbox ≡ self.now.id }
         ensures put { OnOk result (pass.new ≡ after_put pass.old job) }
