@@ -1,0 +1,52 @@
+use Rattle.std.proofs.Common.{rules, arith, ap, sym, refl, subst, ◌∙◌, ◌≡◌, ℕ, ◌+◌, ◌%◌, ◌<◌, ◌≤◌, List, length, get_or}
+use Rattle.inbox.specs.States.{PassState, new_pass}
+use Rattle.hub_shared.specs.Seats.{new_seat}
+use Rattle.hub_workers.specs.declared.ends.SessionStart.{SessionStart}
+use Rattle.hub_workers.specs.declared.worker.Worker.{Worker}
+use Rattle.hub_workers.specs.Lanes.{LaneState, new_lane, EachAt, of_lane, HandsOut}
+use Rattle.hub_workers.proofs.PlaceLemmas.{lent_twice, handed_out, first_id, last_id}
+use Rattle.hub_workers.proofs.places.make_places.Goals as goal
+
+pub returns : goal.returns
+returns g c =
+    let made = c.in_ok-lanes.lanes.items in
+    let len = c.in_ok-lanes.lanes.len in
+    let first = c.seat_workers.new.lanes in
+    let last = c.seat_sessions.new.lanes in
+    let sessions = c.in_ok-sessions.sessions.items in
+    let workers = c.in_ok-workers.workers.items in
+    let n = c.args.workers in
+    let long : len ≡ length made = c.in_ok-lanes.lanes.ok.0 in
+    let made_is : length made ≡ n = sym long ∙ c.in_ok-lanes.ensures.0 in
+    let is : c.as_mut_slice.result.now ≡ made = c.as_mut_slice.ensures.value in
+    let lent = lent_twice len made c.as_mut_slice.result.now first c.as_mut_slice-2.result.now last sessions long is c.as_mut_slice-2.ensures.value c.seat_workers.auto.lanes c.seat_sessions.auto.lanes c.in_ok-lanes.ensures.1 c.in_ok-workers.ensures.lanes c.in_ok-sessions.ensures.lanes in
+    let handed = lent.0 in
+    let end = lent.2 in
+    let first_is : length first ≡ n = handed.first_fit ∙ made_is in
+    let begun : EachAt (λ i (s : SessionStart g.row.S.Denot g.row.K.Denot). (s.session ≡ i) × ((d : LaneState) → s.pass ≡ new_pass (get_or first (i % length first) d).id 1)) sessions =
+    subst (λ l. EachAt (λ i (s : SessionStart g.row.S.Denot g.row.K.Denot). (s.session ≡ i) × ((d : LaneState) → s.pass ≡ new_pass (get_or l (i % length l) d).id 1)) sessions) lent.1 c.in_ok-sessions.ensures.starts in
+    let seated : EachAt (λ k (w : Worker g.row.L.Denot). (w.seat ≡ new_seat 1) × ((d : LaneState) → w.pass ≡ new_pass (get_or made k d).id 1)) workers =
+    subst (λ l. EachAt (λ k (w : Worker g.row.L.Denot). (w.seat ≡ new_seat 1) × ((d : LaneState) → w.pass ≡ new_pass (get_or l k d).id 1)) workers) is c.in_ok-workers.ensures.workers in
+    let some = c.requires.workers.0 in
+    let worker_count = c.in_ok-workers.ensures.count in
+    let lane_count = ap (λ (l : List LaneState). length l) is in
+    let listed = c.in_ok-workers.workers.ok.0 in
+    record {
+      counts = (c.in_ok-lanes.ensures.0, omega (arith, worker_count, lane_count, made_is), c.in_ok-sessions.ensures.count);
+      lanes = subst (λ l. EachAt (λ k (r : LaneState). HandsOut (new_lane r.id) r (1 + length (of_lane k n 0 sessions))) l) (sym end) (handed_out n made first last sessions handed made_is);
+      sessions = λ i s low.
+          let known = begun i s low in (
+            known.0,
+            λ d.
+                let within : i % n < length made = omega (arith, some, made_is) in
+                known.1 d ∙ ap (λ j. new_pass j 1) (ap (λ m. (get_or first (i % m) d).id) first_is ∙ (sym (last_id made first last sessions handed (i % n) d within) ∙ ap (λ l. (get_or l (i % n) d).id) (sym end))),
+          );
+      workers = λ k w low.
+          let known = seated k w low in (
+            known.0,
+            λ d.
+                let within : k < length made = omega (arith, low, listed, worker_count, lane_count) in
+                known.1 d ∙ ap (λ j. new_pass j 1) (sym (first_id made first last sessions handed k d within) ∙ ap (λ l. (get_or l k d).id) (sym end)),
+          );
+      seat = c.in_ok-workers.ensures.seat;
+    }

@@ -1,0 +1,101 @@
+//! The end of a shift.
+ghost use Rattle.std.specs.Prelude.{◌≡◌, ◌+◌, ◌<◌, ◌≤◌, [], ◌∷◌, ◌++◌, length, map, vec_len, slice_index_or, sum_by, IfOk};
+ghost use Rattle.std.specs.List.{All};
+ghost use Rattle.inbox.specs.Rules.{ALL_PARTS};
+ghost use Rattle.inbox.specs.States.{IsKeptBy};
+ghost use Rattle.hub_workers.specs.Lanes.{EachAt, EachPair, of_lane, TakesBack, EachLane};
+
+use crate::ends::{Served, SessionEnd};
+use crate::lane::Lane;
+use crate::worker::Worker;
+use hub_shared::{Seat, Tally};
+use inbox::Left;
+use std::alloc::Global;
+use std::sync::Wait;
+use std::sync::ledger::Ledger;
+use taf_codes::Memory;
+
+// What the sessions of a shift left.
+#[derive(Drop)]
+pub(crate) struct Outcomes {
+    pub ends: Vec<SessionEnd>,
+    pub tallies: Vec<Tally>,
+}
+
+// Takes the sessions' passes back into their lanes, and gives how they ended and their tallies.
+pub(crate) fn take_sessions(
+    alloc: Global,
+    lanes: &mut [Lane],
+    served: Vec<Served>,
+) -> Result<Outcomes, Memory>
+    requires { 1 ≤ length lanes.old }
+    ensures ends { IfOk result (λ o. o.ends.items ≡ map (λ s. s.end) served.items) }
+    ensures tallies { IfOk result (λ o. o.tallies.items ≡ map (λ s. s.tally) served.items) }
+    ensures lanes { IfOk result (λ o. EachLane (λ k before after. TakesBack before after
+        (of_lane k (length lanes.old) 0 (map (λ s. s.pass) served.items))) lanes.old lanes.new) }
+{
+    let (mut ends, mut tallies) = (Vec::new(alloc), Vec::new(alloc));
+    for back in served {
+        let Served { end, tally, pass } = back;
+        let lane = tallies.len() % lanes.len();
+        lanes[lane].take_back(pass)?;
+        ends.push(end).map_err(|_| Memory)?;
+        tallies.push(tally).map_err(|_| Memory)?;
+    }
+    Ok(Outcomes { ends, tallies })
+}
+
+// Takes the workers' passes back into their lanes, and gives their seats.
+pub(crate) fn take_workers<L: Ledger>(
+    alloc: Global,
+    lanes: &mut [Lane],
+    workers: Vec<Worker<L>>,
+) -> Result<Vec<Seat<L>>, Memory>
+    requires { vec_len workers ≡ length lanes.old }
+    ensures seats { IfOk result (λ v. v.items ≡ map (λ w. w.seat) workers.items) }
+    ensures lanes { IfOk result (λ v. (k : _) (d : _) (e : _) → k < length lanes.old
+        → TakesBack (slice_index_or lanes.old k d) (slice_index_or lanes.new k d)
+        ((slice_index_or workers.items k e).pass ∷ [])) }
+{
+    let mut seats = Vec::new(alloc);
+    let mut lane = 0;
+    for back in workers {
+        let Worker { pass, seat } = back;
+        lanes[lane].take_back(pass)?;
+        seats.push(seat).map_err(|_| Memory)?;
+        lane += 1;
+    }
+    Ok(seats)
+}
+
+// Closes each lane.
+pub(crate) fn close_lanes(
+    rt: &impl Wait,
+    alloc: Global,
+    lanes: Vec<Lane>,
+) -> Result<Vec<Left>, Memory>
+    requires own { EachAt (λ k l. All (λ p. p.inbox ≡ l.id) l.back) lanes.items }
+    requires parts { EachAt (λ k l. sum_by (λ p. p.parts) l.back + l.pass.parts ≡ ALL_PARTS)
+        lanes.items }
+    ensures { IfOk result (λ v. EachPair (λ k l left. IsKeptBy (l.back ++ l.pass ∷ []) left)
+        lanes.items v.items) }
+{
+    let mut all = Vec::new(alloc);
+    for lane in lanes {
+        let left = lane.close(rt)?;
+        all.push(left).map_err(|_| Memory)?;
+    }
+    Ok(all)
+}
+
+// The faults of all seats.
+pub(crate) fn add_refused<L: Ledger>(seats: &[Seat<L>]) -> u64
+    requires { length seats.now ≤ 9 }
+    ensures { result ≡ sum_by (λ s. s.refused) seats.now }
+{
+    let mut refused = 0;
+    for seat in seats {
+        refused += seat.refused();
+    }
+    refused
+}

@@ -1,0 +1,168 @@
+//! The lanes of a shift: a queue of jobs for each worker.
+ghost use Rattle.std.specs.Prelude.{◌≡◌, ◌+◌, ◌%◌, ◌≤◌, [], ◌∷◌, ◌++◌, length, vec_len, slice_index_or, sum_by, OnOk, IfOk};
+ghost use Rattle.std.specs.List.{All};
+ghost use Rattle.inbox.specs.Rules.{ALL_PARTS};
+ghost use Rattle.inbox.specs.States.{new_pass, IsKeptBy};
+ghost use Rattle.hub_shared.specs.Seats.{new_seat};
+ghost use Rattle.hub_workers.specs.Lanes.{new_lane, EachAt, of_lane, HandsOut, TakesBack, EachLane};
+
+use crate::ends::SessionStart;
+use crate::queues::JobQueue;
+use crate::worker::Worker;
+use hub_shared::{Seat, split_seat};
+use inbox::{Left, Pass};
+use session_lines::WINDOW;
+use std::alloc::Global;
+use std::marker::Model;
+use std::sync::Wait;
+use std::sync::ledger::Ledger;
+use taf_codes::Memory;
+
+// How many jobs a lane holds at most.
+const MAX_JOBS: usize = 1024;
+
+// A lane: its queue, the pass that the shift keeps, and the passes that came back.
+#[derive(Drop)]
+pub(crate) struct Lane {
+    jobs: JobQueue,
+    pass: Pass,
+    back: Vec<Pass>,
+}
+
+impl Model for Lane {
+    ghost use Rattle.std.specs.Prelude.{◌≡◌};
+    ghost use Rattle.hub_workers.specs.Lanes.{LaneState};
+
+    ghost Value = { LaneState };
+
+    ghost view = { λ l. record { id = l.jobs.id; pass = l.pass; back = l.back.items } };
+
+    ghost invariant = { λ l. l.pass.inbox ≡ l.jobs.id };
+}
+
+impl Lane {
+    pub(crate) fn new(rt: &impl Wait, alloc: Global, capacity: usize) -> Result<Lane, Memory>
+        requires { (1 ≤ capacity) × (capacity ≤ 1024) }
+        ensures { IfOk result (λ l. l ≡ new_lane l.id) }
+    {
+        let (jobs, pass) = JobQueue::new(rt, alloc, capacity)?;
+        Ok(Lane {
+            jobs,
+            pass,
+            back: Vec::new(alloc),
+        })
+    }
+
+    pub(crate) fn jobs(&self) -> &JobQueue
+        ensures { result.now.id ≡ self.now.id }
+    {
+        &self.jobs
+    }
+
+    // A pass of its own for a session or a worker.
+    pub(crate) fn hand_out(&mut self, rt: &impl Wait) -> Pass
+        requires { 2 ≤ self.old.pass.parts }
+        ensures pass { result ≡ new_pass self.old.id 1 }
+        ensures after { HandsOut self.old self.new 1 }
+    {
+        self.jobs.split_pass(rt, &mut self.pass)
+    }
+
+    // Keeps a pass that came back.
+    pub(crate) fn take_back(&mut self, pass: Pass) -> Result<(), Memory>
+        ensures { OnOk result (TakesBack self.old self.new (pass ∷ [])) }
+    {
+        self.back.push(pass).map_err(|_| Memory)
+    }
+
+    // What the lane still held.
+    pub(crate) fn close(self, rt: &impl Wait) -> Result<Left, Memory>
+        requires own { All (λ p. p.inbox ≡ self.id) self.back }
+        requires parts { sum_by (λ p. p.parts) self.back + self.pass.parts ≡ ALL_PARTS }
+        ensures { IfOk result (λ left. IsKeptBy (self.back ++ self.pass ∷ []) left) }
+    {
+        let Lane { jobs, pass, back } = self;
+        let mut passes = back;
+        if passes.push(pass).is_err() {
+            return Err(Memory);
+        }
+        Ok(jobs.close(rt, passes))
+    }
+}
+
+// A lane for each worker, with a place for each job that its sessions may have out.
+pub(crate) fn make_lanes(
+    rt: &impl Wait,
+    alloc: Global,
+    workers: usize,
+    sessions: usize,
+) -> Result<Vec<Lane>, Memory>
+    requires workers { (1 ≤ workers) × (workers ≤ 8) }
+    requires sessions { sessions ≤ 64 }
+    ensures { IfOk result (λ v. (vec_len v ≡ workers) × EachAt (λ k l. l ≡ new_lane l.id) v.items) }
+{
+    let mut lanes = Vec::new(alloc);
+    for lane in 0..workers {
+        let own = sessions / workers + usize::from(lane < sessions % workers);
+        let capacity = (WINDOW * own).clamp(1, MAX_JOBS);
+        let lane = Lane::new(rt, alloc, capacity)?;
+        lanes.push(lane).map_err(|_| Memory)?;
+    }
+    Ok(lanes)
+}
+
+// Gives each session its number, and a pass of its lane.
+pub(crate) fn seat_sessions<S: Drop, K: Drop>(
+    rt: &impl Wait,
+    alloc: Global,
+    lanes: &mut [Lane],
+    sessions: Vec<(S, K)>,
+) -> Result<Vec<SessionStart<S, K>>, Memory>
+    requires lanes { (1 ≤ length lanes.old) × EachAt (λ k l. 1000 ≤ l.pass.parts) lanes.old }
+    requires sessions { vec_len sessions ≤ 64 }
+    ensures count { IfOk result (λ v. vec_len v ≡ vec_len sessions) }
+    ensures starts { IfOk result (λ v. EachAt (λ i s. (s.session ≡ i) × ((d : _)
+        → s.pass ≡ new_pass (slice_index_or lanes.old (i % length lanes.old) d).id 1)) v.items) }
+    ensures lanes { IfOk result (λ v. EachLane (λ k before after.
+        HandsOut before after (length (of_lane k (length lanes.old) 0 v.items))) lanes.old lanes.new) }
+{
+    let mut starts = Vec::new(alloc);
+    for (reader, writer) in sessions {
+        let session = starts.len();
+        let lane = session % lanes.len();
+        let pass = lanes[lane].hand_out(rt);
+        let start = SessionStart {
+            session: session as u32,
+            reader,
+            writer,
+            pass,
+        };
+        starts.push(start).map_err(|_| Memory)?;
+    }
+    Ok(starts)
+}
+
+// Gives each worker a pass of its lane and a seat.
+pub(crate) fn seat_workers<L: Ledger>(
+    rt: &impl Wait,
+    alloc: Global,
+    lanes: &mut [Lane],
+    seat: &mut Seat<L>,
+) -> Result<Vec<Worker<L>>, Memory>
+    requires lanes { EachAt (λ k l. 1000 ≤ l.pass.parts) lanes.old }
+    requires seat { seat.old ≡ new_seat (length lanes.old + 1) }
+    ensures count { IfOk result (λ v. vec_len v ≡ length lanes.old) }
+    ensures workers { IfOk result (λ v. EachAt (λ k w. (w.seat ≡ new_seat 1) × ((d : _)
+        → w.pass ≡ new_pass (slice_index_or lanes.old k d).id 1)) v.items) }
+    ensures lanes { IfOk result (λ v. EachLane (λ k before after. HandsOut before after 1)
+        lanes.old lanes.new) }
+    ensures seat { IfOk result (λ v. seat.new ≡ new_seat 1) }
+{
+    let mut workers = Vec::new(alloc);
+    for lane in lanes.iter_mut() {
+        let pass = lane.hand_out(rt);
+        let seat = split_seat(seat);
+        workers.push(Worker { pass, seat }).map_err(|_| Memory)?;
+    }
+    Ok(workers)
+}

@@ -1,0 +1,53 @@
+//! What the threads of a shift begin with: everything is handed out before the first one starts.
+ghost use Rattle.std.specs.Prelude.{◌≡◌, ◌+◌, ◌%◌, ◌≤◌, length, vec_len, slice_index_or, IfOk};
+ghost use Rattle.inbox.specs.States.{new_pass};
+ghost use Rattle.hub_shared.specs.Seats.{new_seat};
+ghost use Rattle.hub_workers.specs.Lanes.{new_lane, EachAt, of_lane, HandsOut};
+
+use crate::ends::SessionStart;
+use crate::lane::{Lane, make_lanes, seat_sessions, seat_workers};
+use crate::worker::Worker;
+use hub_shared::Seat;
+use std::alloc::Global;
+use std::sync::Wait;
+use std::sync::ledger::Ledger;
+use taf_codes::Memory;
+
+// The lanes of a shift, and what the threads of its sessions and of its workers begin with.
+#[derive(Drop)]
+pub(crate) struct Places<L: Ledger, S, K> {
+    pub lanes: Vec<Lane>,
+    pub sessions: Vec<SessionStart<S, K>>,
+    pub workers: Vec<Worker<L>>,
+}
+
+// Makes the lanes, and hands out their passes and the parts of the seat, of which one is kept.
+pub(crate) fn make_places<L: Ledger, S: Drop, K: Drop>(
+    rt: &impl Wait,
+    alloc: Global,
+    sessions: Vec<(S, K)>,
+    workers: usize,
+    seat: &mut Seat<L>,
+) -> Result<Places<L, S, K>, Memory>
+    requires sessions { vec_len sessions ≤ 64 }
+    requires workers { (1 ≤ workers) × (workers ≤ 8) }
+    requires seat { seat.old ≡ new_seat (workers + 1) }
+    ensures counts { IfOk result (λ p. (vec_len p.lanes ≡ workers) × (vec_len p.workers ≡ workers)
+        × (vec_len p.sessions ≡ vec_len sessions)) }
+    ensures lanes { IfOk result (λ p. EachAt (λ k l. HandsOut (new_lane l.id) l
+        (1 + length (of_lane k workers 0 p.sessions.items))) p.lanes.items) }
+    ensures sessions { IfOk result (λ p. EachAt (λ i s. (s.session ≡ i) × ((d : _)
+        → s.pass ≡ new_pass (slice_index_or p.lanes.items (i % workers) d).id 1)) p.sessions.items) }
+    ensures workers { IfOk result (λ p. EachAt (λ k w. (w.seat ≡ new_seat 1) × ((d : _)
+        → w.pass ≡ new_pass (slice_index_or p.lanes.items k d).id 1)) p.workers.items) }
+    ensures seat { IfOk result (λ p. seat.new ≡ new_seat 1) }
+{
+    let mut lanes = make_lanes(rt, alloc, workers, sessions.len())?;
+    let workers = seat_workers(rt, alloc, lanes.as_mut_slice(), seat)?;
+    let sessions = seat_sessions(rt, alloc, lanes.as_mut_slice(), sessions)?;
+    Ok(Places {
+        lanes,
+        sessions,
+        workers,
+    })
+}
