@@ -1,5 +1,5 @@
 -- Which items fall to a lane, and what a lane keeps count of.
-use Rattle.std.proofs.Common.{Result, Ok, Err, IfOk, ◌≡◌, ◌≢◌, ℕ, ◌+◌, ◌%◌, ◌<◌, ◌≤◌, eqb, eq-eqb, ne_eqb, cond, Bool, true, false, List, [], ◌∷◌, ◌++◌, length, map, get_or, set, refl, sym, ap, ◌∙◌, subst, arith, length-append, append_assoc, append-nil}
+use Rattle.std.proofs.Common.{◌≡◌, ◌≢◌, ℕ, ◌+◌, ◌%◌, ◌<◌, ◌≤◌, eqb, eq-eqb, ne_eqb, cond, Bool, true, false, List, [], ◌∷◌, ◌++◌, length, map, get_or, set, refl, sym, ap, ◌∙◌, subst, arith, length-append, append_assoc, append-nil}
 use Rattle.std.proofs.lemmas.List.{get_or_append_left, get_or_push, get_or-set_same, get_or-set_other, length_push}
 use mathlib.Core.Logic.{dite}
 use native.Mathlib.Decide.{ℕ_discrete}
@@ -124,25 +124,3 @@ EachPair-push P xs ys x y each last =
           let within : k < length ys = omega (arith, alike, inside) in
           rw (get_or_append_left xs (x ∷ []) d k inside, get_or_append_left ys (y ∷ []) e k within) (each.1 k d e inside)),
     )
-
--- from what the threads began with, by their handles, to what they gave back
-pub through : {X H R : Type 0} (A : ℕ → X → Type 0) (P : ℕ → X → H → Type 0) (Q : ℕ → H → R → Type 0) (S : ℕ → X → R → Type 0)
-    → ((k : ℕ) (x : X) (h : H) (r : R) → A k x → P k x h → Q k h r → S k x r)
-    → (xs : List X) (hs : List H) (rs : List R) → EachAt A xs → EachPair P xs hs → EachPair Q hs rs → EachPair S xs rs
-through A P Q S f xs [] rs a p q = (
-  q.0 ∙ p.0,
-  λ k d e low. let none = p.0 in absurd (omega (arith, none, low)),
-)
-through A P Q S f xs (h ∷ hs) rs a p q = (
-  q.0 ∙ p.0,
-  λ k d e low. let alike = p.0 in f k (get_or xs k d) (get_or (h ∷ hs) k h) (get_or rs k e) (a k d low) (p.1 k d h low) (q.1 k h e (omega (arith, alike, low))),
-)
-
-pub map_same : {X : Type 0} (xs : List X) → map (λ x. x) xs ≡ xs
-map_same [] = refl
-map_same (x ∷ xs) = ap (λ l. x ∷ l) (map_same xs)
-
--- of three facts of an Ok a fourth
-pub if_ok_three : {T E : Type 0} (A B C D : T → Type 0) → ((b : T) → A b → B b → C b → D b) → (r : Result T E) → IfOk r A → IfOk r B → IfOk r C → IfOk r D
-if_ok_three A B C D f (Ok b) x y z = f b x y z
-if_ok_three A B C D f (Err e) x y z = tt

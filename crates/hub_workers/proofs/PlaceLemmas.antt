@@ -1,9 +1,15 @@
--- What the lanes have once the threads have their passes, and what comes back of them.
-use Rattle.std.proofs.Common.{◌≡◌, ℕ, ◌+◌, ◌%◌, ◌<◌, ◌≤◌, List, [], ◌∷◌, ◌++◌, length, get_or, take, drop, refl, sym, ap, ◌∙◌, subst, arith}
+-- What the lanes have once the threads have their passes.
+use Rattle.std.proofs.Common.{◌≡◌, ℕ, ◌+◌, ◌%◌, ◌<◌, ◌≤◌, List, [], ◌∷◌, ◌++◌, length, get_or, take, drop, refl, sym, ap, ◌∙◌, subst, arith, append-nil}
 use Rattle.inbox.specs.Rules.{ALL_PARTS}
 use Rattle.inbox.specs.States.{PassState}
-use Rattle.hub_workers.specs.Lanes.{LaneState, new_lane, EachAt, EachPair, of_lane, HandsOut, EachLane}
-use Rattle.hub_workers.proofs.LaneLemmas.{some_item, whole_slice}
+use Rattle.hub_workers.specs.Lanes.{LaneState, new_lane, EachAt, of_lane, HandsOut, EachLane}
+use Rattle.std.proofs.lemmas.List.{drop_all, take_all}
+
+-- a slice that was lent whole
+pub whole_slice : {X : Type 0} (n : ℕ) (new old : List X) → length new ≡ length old → n ≡ length old → take n (new ++ drop (length new) old) ≡ new
+whole_slice n new old same is =
+    let none : drop (length new) old ≡ [] = drop_all (length new) old (omega (arith, same)) in
+    ap (λ l. take n (new ++ l)) none ∙ (ap (λ l. take n l) (append-nil new) ∙ take_all n new (omega (arith, same, is)))
 
 -- the lanes when they were made, once the workers had their passes, and once the sessions had theirs
 pub record AreHandedOut {A : Type 0} (made first last : List LaneState) (sessions : List A) : Type 0 where
@@ -71,14 +77,3 @@ handed_out n made first last sessions h is k d low =
       taken = others.taken ∙ (workers.taken ∙ ap (λ (l : LaneState). l.pass.taken) new);
       parts = omega (arith, lanes, p, q, whole);
     }
-
--- what the threads gave back, by the passes that they began with
-pub each_given : {A B C : Type 0} (S : ℕ → PassState → B → Type 0) (pass_of : A → PassState) (began : ℕ → C → PassState) (starts : List A) (back : List B)
-    → EachAt (λ i s. (d : C) → pass_of s ≡ began i d) starts
-    → EachPair (λ i s r. S i (pass_of s) r) starts back
-    → EachAt (λ i r. (d : C) → S i (began i d) r) back
-each_given S pass_of began starts back given pairs i r low d =
-    let alike = pairs.0 in
-    let inside : i < length starts = omega (arith, alike, low) in
-    let start = some_item starts (omega (arith, inside)) in
-    subst (λ t. S i t (get_or back i r)) (given i start inside d) (pairs.1 i start r inside)

@@ -1,23 +1,16 @@
--- What a session left that was served, and what its tally tells.
+-- What a session left that was served.
 use Rattle.std.proofs.Common.{◌≡◌, ℕ, ◌+◌, Bool, true, false, List, [], ◌++◌, length, Result, Ok, Err, is_ok, refl, sym, ap, ◌∙◌, subst, rules, tests, arith, append-nil}
 use Rattle.inbox.specs.declared.rule.Job.{Job}
 use Rattle.hub_shared.specs.declared.tally.Told.{Told}
 use Rattle.session_lines.specs.declared.session.Slot.{Slot}
-use Rattle.session_lines.specs.declared.session.Done.{Done}
-use Rattle.session_lines.specs.States.{State, new_state, jobs_out}
-use Rattle.session_lines.specs.Runs.{Run, Event, new_run, run}
-use Rattle.session_lines.specs.Tallies.{own_dones, IsOwnTally}
-use Rattle.session_lines.proofs.TallyLemmas.{IsOwnTally-run, all_answered}
+use Rattle.session_lines.specs.States.{State, new_state}
 use Rattle.session_serving.specs.declared.fault.SessionFault.{SessionFault}
 use Rattle.session_serving.specs.declared.fault.SessionFault.TheVariants.{Port}
 use Rattle.session_serving.specs.Serving.{Traffic, IsServed, Sends}
 use Rattle.session_serving.specs.Advances.{Advances}
 use Rattle.session_serving.specs.Faults.{Failures, Explains, sends_all}
-use Rattle.hub_workers.specs.declared.ends.SessionEnd.{SessionEnd}
-use Rattle.hub_workers.specs.declared.ends.SessionEnd.TheVariants.{Complete, Stranger, Fault}
+use Rattle.hub_workers.specs.declared.ends.SessionEnd.TheVariants.{Fault}
 use Rattle.hub_workers.specs.Ends.{end_of, HasEnded}
-use Rattle.hub_workers.specs.Shifts.{SessionState, IsOfSession}
-use Rattle.hub_workers.specs.Laws.{TellsOwnJobs}
 
 none_taken : (served : Result (Unit {0}) SessionFault) (before after : Failures) (slots : List Slot) → Explains served before after slots → is_ok served ≡ true → slots ≡ []
 none_taken (Ok done) before after slots e ok = e.3
@@ -55,42 +48,3 @@ never_began id = record {
   sends = record { lost = []; parts = refl; few = omega arith; none = λ yes. refl };
   none_taken = λ yes. absurd (search (tests, yes));
 }
-
-record WasWhole (served : Result (Unit {0}) SessionFault) (has_failed : Bool) : Type 0 where
-  ok : is_ok served ≡ true
-  sound : has_failed ≡ false
-  sent : sends_all served ≡ true
-
--- which end is Complete
-was_whole : (served : Result (Unit {0}) SessionFault) (has_failed : Bool) → end_of served has_failed ≡ Complete → WasWhole served has_failed
-was_whole (Ok done) false e = record { ok = refl; sound = refl; sent = refl }
-was_whole (Ok done) true e = absurd (search (tests, rules, e))
-was_whole (Err fault) has_failed e = absurd (search (tests, rules, e))
-
--- what the tally of a session of a shift tells
-pub tells_own : (number : ℕ) (s : SessionState) → IsOfSession number s → TellsOwnJobs number s
-tells_own number s is =
-    let h = is.ended in
-    let events = h.advances.events in
-    let dones : List Done = own_dones (new_run (new_state number)) events in
-    let r : Run = run (new_run (new_state number)) events in
-    let jobs : r.jobs ≡ h.jobs = h.advances.jobs_is in
-    let state : r.state ≡ h.state = h.advances.state_is in
-    let tally : r.state.tally ≡ s.tally.entries = ap (λ (x : State). x.tally) state ∙ h.told_is in
-    record {
-      jobs = h.jobs;
-      dones = dones;
-      own = subst (λ t. IsOwnTally number h.jobs dones t) tally (subst (λ j. IsOwnTally number j dones r.state.tally) jobs (IsOwnTally-run number events));
-      complete = λ e.
-          let w = was_whole h.served h.state.has_failed (sym h.end_is ∙ e) in
-          let sound : r.state.has_failed ≡ false = ap (λ (x : State). x.has_failed) state ∙ w.sound in
-          let slots : r.state.slots ≡ [] = ap (λ (x : State). x.slots) state ∙ h.none_taken w.ok in
-          let parts : s.put ++ h.sends.lost ≡ h.jobs = h.sends.parts in
-          let none : h.sends.lost ≡ [] = h.sends.none w.sent in (
-            sym (sym (append-nil s.put) ∙ (ap (λ l. s.put ++ l) (sym none) ∙ parts)),
-            (let all = all_answered number events sound in
-                let out = ap jobs_out slots in
-                let long = ap (λ (l : List Job). length l) jobs in
-                omega (arith, all, out, long)),
-          );
-    }

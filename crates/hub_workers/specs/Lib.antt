@@ -1,4 +1,2 @@
 pub mod Ends
 pub mod Lanes
-pub mod Laws
-pub mod Shifts

@@ -1,4 +1,4 @@
-//! The end of a shift.
+//! What the threads gave back, and the end of the lanes.
 ghost use Rattle.std.specs.Prelude.{◌≡◌, ◌+◌, ◌<◌, ◌≤◌, [], ◌∷◌, ◌++◌, length, map, vec_len, slice_index_or, sum_by, IfOk};
 ghost use Rattle.std.specs.List.{All};
 ghost use Rattle.inbox.specs.Rules.{ALL_PARTS};
@@ -15,15 +15,16 @@ use std::sync::Wait;
 use std::sync::ledger::Ledger;
 use taf_codes::Memory;
 
-// What the sessions of a shift left.
+/// How each session ended, and its tally, in their order.
 #[derive(Drop)]
-pub(crate) struct Outcomes {
+pub struct Outcomes {
     pub ends: Vec<SessionEnd>,
     pub tallies: Vec<Tally>,
 }
 
-// Takes the sessions' passes back into their lanes, and gives how they ended and their tallies.
-pub(crate) fn take_sessions(
+/// Takes the sessions' passes back into their lanes, and gives how they ended and their tallies. Want of memory is the only
+/// error.
+pub fn take_sessions(
     alloc: Global,
     lanes: &mut [Lane],
     served: Vec<Served>,
@@ -45,8 +46,8 @@ pub(crate) fn take_sessions(
     Ok(Outcomes { ends, tallies })
 }
 
-// Takes the workers' passes back into their lanes, and gives their seats.
-pub(crate) fn take_workers<L: Ledger>(
+/// Takes the workers' passes back into their lanes, and gives their seats. Want of memory is the only error.
+pub fn take_workers<L: Ledger>(
     alloc: Global,
     lanes: &mut [Lane],
     workers: Vec<Worker<L>>,
@@ -68,12 +69,8 @@ pub(crate) fn take_workers<L: Ledger>(
     Ok(seats)
 }
 
-// Closes each lane.
-pub(crate) fn close_lanes(
-    rt: &impl Wait,
-    alloc: Global,
-    lanes: Vec<Lane>,
-) -> Result<Vec<Left>, Memory>
+/// Closes each lane, once all passes came back, and gives what each still held. Want of memory is the only error.
+pub fn close_lanes(rt: &impl Wait, alloc: Global, lanes: Vec<Lane>) -> Result<Vec<Left>, Memory>
     requires own { EachAt (λ k l. All (λ p. p.inbox ≡ l.id) l.back) lanes.items }
     requires parts { EachAt (λ k l. sum_by (λ p. p.parts) l.back + l.pass.parts ≡ ALL_PARTS)
         lanes.items }
@@ -88,8 +85,8 @@ pub(crate) fn close_lanes(
     Ok(all)
 }
 
-// The faults of all seats.
-pub(crate) fn add_refused<L: Ledger>(seats: &[Seat<L>]) -> u64
+/// The faults of up to 9 seats together.
+pub fn add_refused<L: Ledger>(seats: &[Seat<L>]) -> u64
     requires { length seats.now ≤ 9 }
     ensures { result ≡ sum_by (λ s. s.refused) seats.now }
 {

@@ -1,14 +1,10 @@
-//! What the threads of a shift begin with, and what they give back.
+//! What the thread of a session begins with, and what it gives back.
 ghost use Rattle.std.specs.Prelude.{◌≡◌};
-ghost use Rattle.hub_workers.specs.Ends.{end_of, IsServed, IsWorked};
+ghost use Rattle.hub_workers.specs.Ends.{end_of};
 
-use crate::worker::Worker;
 use hub_shared::Tally;
 use inbox::Pass;
 use session_serving::SessionFault;
-use std::snapshot::Snapshot;
-use std::sync::ledger::Ledger;
-use std::thread::Promise;
 
 /// How a session ended.
 #[derive(Clone, Copy, Debug, PartialEq, Eq)]
@@ -21,7 +17,7 @@ pub enum SessionEnd {
     Fault(SessionFault),
 }
 
-/// How a session ended, by what serving answered and by whether the session has failed.
+// How a session ended, by what serving answered and by whether the session has failed.
 pub(crate) fn session_end(served: Result<(), SessionFault>, has_failed: bool) -> SessionEnd
     ensures { result ≡ end_of served has_failed }
 {
@@ -32,40 +28,19 @@ pub(crate) fn session_end(served: Result<(), SessionFault>, has_failed: bool) ->
     }
 }
 
-// What a session's thread begins with.
+/// What the thread of a session begins with: the session's number, its reader and writer, and its pass of the lane.
 #[derive(Drop)]
-pub(crate) struct SessionStart<S, K> {
+pub struct SessionStart<S, K> {
     pub session: u32,
     pub reader: S,
     pub writer: K,
     pub pass: Pass,
 }
 
-// What a session's thread gives back.
+/// What the thread of a session gives back: how the session ended, its tally, and its pass.
 #[derive(Drop)]
-pub(crate) struct Served {
+pub struct Served {
     pub end: SessionEnd,
     pub tally: Tally,
     pub pass: Pass,
-}
-
-// The session of a thread, and the pass that it began with.
-#[derive(Drop)]
-pub(crate) struct ServedBy {
-    pub session: u32,
-    pub began: Snapshot<Pass>,
-}
-
-impl Promise<Served> for ServedBy {
-    ghost kept_by = { λ p r. IsServed p.session p.began.value r.end r.tally.entries r.pass };
-}
-
-// The pass that a worker's thread began with.
-#[derive(Drop)]
-pub(crate) struct WorkedBy {
-    pub began: Snapshot<Pass>,
-}
-
-impl<L: Ledger> Promise<Worker<L>> for WorkedBy {
-    ghost kept_by = { λ p r. IsWorked p.began.value r.pass r.seat };
 }

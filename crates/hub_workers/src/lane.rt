@@ -21,9 +21,11 @@ use taf_codes::Memory;
 // How many jobs a lane holds at most.
 const MAX_JOBS: usize = 1024;
 
-// A lane: its queue, the pass that the shift keeps, and the passes that came back.
+/// A lane: its queue, the pass that the shift keeps, and the passes that came back.
+///
+/// Contracts see it as its inbox and these passes.
 #[derive(Drop)]
-pub(crate) struct Lane {
+pub struct Lane {
     jobs: JobQueue,
     pass: Pass,
     back: Vec<Pass>,
@@ -53,7 +55,8 @@ impl Lane {
         })
     }
 
-    pub(crate) fn jobs(&self) -> &JobQueue
+    /// Its queue.
+    pub fn jobs(&self) -> &JobQueue
         ensures { result.now.id ≡ self.now.id }
     {
         &self.jobs

@@ -1,49 +1,47 @@
-//! Shifts: many sessions are served by a few workers, around one hub.
+//! Sessions and workers: what the threads of each do, and the lanes between them.
 //!
-//! [`run_shift`] gives each session a thread of its own, which serves its lines, and each worker a thread of its own,
-//! which makes the sessions' calls on the shared hub. A worker has a lane, an inbox with one taking pass. Session `i`
-//! puts its jobs into the lane of worker `i mod workers`, by a pass of its own; so its calls are made in the order of its
-//! lines. Their answers come back by a queue of its own. When the last session has ended, the workers make the calls that
-//! are left in their lanes and end too.
+//! A worker has a lane, an inbox with one taking pass. [`serve`] is what the thread of a session does: it puts the session's
+//! jobs into a lane, by a pass of its own, and takes their answers from a queue of its own. [`work`] is what the thread of a
+//! worker does: it takes the jobs of its lane, makes their calls on the shared hub, and answers their sessions. A session puts
+//! into one lane alone, so its calls are made in the order of its lines.
+//!
+//! [`make_places`] hands out to all threads what they begin with, and [`take_sessions`], [`take_workers`] and [`close_lanes`]
+//! take it back.
 //!
 //! # What is promised
 //!
-//! `specs/Shifts.antt` says what a shift leaves. Its hub is one that a single thread could have made, and its sum is the
-//! length of that hub's history. It has a tally for each session, in their order, which is the session's own; how each
-//! session ended; and what each lane still held. [`shift_in_order`] says what follows once the tallies settle against the
-//! history, and [`lanes_in_order`] what was taken of a session's jobs and what was left.
+//! `specs/Ends.antt` says what a thread gives back: how a session ended, by the lines that it read, the jobs that it gave out
+//! and what was put of them, with its tally; what a worker took, and that it counted a call or a fault for each.
+//! `specs/Lanes.antt` says which sessions fall to a lane, and what it handed out and took back.
 //!
-//! No contract says that a call returns, that two workers run at once, or that a thread that waits is woken. No thread
-//! spins: a worker whose lane is empty and a session that waits for an answer sleep until they are woken.
+//! No contract says that a thread that waits is woken, nor what an [`AnswerQueue`] or an [`Opening`] holds. No thread spins: a
+//! worker whose lane is empty and a session that waits for an answer sleep until they are woken.
 //!
 //! | part | what it has |
 //! |---|---|
 //! | `gate` | what a job passes before it takes the lock |
 //! | `queues` | the queues between sessions and workers, and the signal to begin |
-//! | `lane`, `closing` | lanes: how passes are handed out and taken back, and how lanes are closed |
-//! | `ends`, `places` | what the threads give back, and what they begin with |
 //! | `port` | a session's way to its worker |
+//! | `ends` | what the thread of a session begins with and gives back |
 //! | `session`, `worker` | what a thread of each does |
-//! | `threads`, `shift` | the threads of a shift, and the shift |
-//! | `law` | what follows of a shift |
+//! | `lane`, `places`, `closing` | lanes: how passes are handed out and taken back, and how lanes are closed |
 #![tactic(auto)]
 
 mod closing;
 mod ends;
 mod gate;
 mod lane;
-mod law;
 mod places;
 mod port;
 mod queues;
 mod session;
-mod shift;
-mod threads;
 mod worker;
 
-pub use ends::SessionEnd;
+pub use closing::{Outcomes, add_refused, close_lanes, take_sessions, take_workers};
+pub use ends::{Served, SessionEnd, SessionStart};
 pub use gate::{Gate, OpenGate};
-pub use law::{lanes_in_order, shift_in_order};
-pub use queues::{AnswerQueue, JobQueue};
-pub use shift::{Shift, ShiftFault, run_shift};
+pub use lane::Lane;
+pub use places::{Places, make_places};
+pub use queues::{AnswerQueue, JobQueue, Opening};
+pub use session::serve;
 pub use worker::{Worker, work};

@@ -1,4 +1,4 @@
-//! What the threads of a shift begin with: everything is handed out before the first one starts.
+//! What the threads of sessions and workers begin with: everything is handed out before the first one starts.
 ghost use Rattle.std.specs.Prelude.{◌≡◌, ◌+◌, ◌%◌, ◌≤◌, length, vec_len, slice_index_or, IfOk};
 ghost use Rattle.inbox.specs.States.{new_pass};
 ghost use Rattle.hub_shared.specs.Seats.{new_seat};
@@ -13,16 +13,20 @@ use std::sync::Wait;
 use std::sync::ledger::Ledger;
 use taf_codes::Memory;
 
-// The lanes of a shift, and what the threads of its sessions and of its workers begin with.
+/// The lanes, and what the threads of the sessions and of the workers begin with.
 #[derive(Drop)]
-pub(crate) struct Places<L: Ledger, S, K> {
+pub struct Places<L: Ledger, S, K> {
     pub lanes: Vec<Lane>,
     pub sessions: Vec<SessionStart<S, K>>,
     pub workers: Vec<Worker<L>>,
 }
 
-// Makes the lanes, and hands out their passes and the parts of the seat, of which one is kept.
-pub(crate) fn make_places<L: Ledger, S: Drop, K: Drop>(
+/// Makes 1 to 8 lanes, and hands out their passes to up to 64 sessions and to the workers, and the parts of the seat, of which
+/// one is kept.
+///
+/// Session `i` has a pass of lane `i mod workers`, worker `k` one of lane `k`, each of one part. A lane has a place for each
+/// job that its sessions may have out. Want of memory is the only error.
+pub fn make_places<L: Ledger, S: Drop, K: Drop>(
     rt: &impl Wait,
     alloc: Global,
     sessions: Vec<(S, K)>,

@@ -166,16 +166,17 @@ impl AnswerQueue {
     }
 }
 
-// The signal for which the sessions of a shift wait: they begin once all threads are there, or never.
+/// The signal for which the sessions wait: they begin once all threads are there, or never.
 #[derive(Drop)]
-pub(crate) struct Opening {
+pub struct Opening {
     decided: AtomicBool,
     begins: AtomicBool,
     changed: EventCount,
 }
 
 impl Opening {
-    pub(crate) fn new() -> Opening {
+    /// Nothing is decided yet.
+    pub fn new() -> Opening {
         Opening {
             decided: AtomicBool::new(false),
             begins: AtomicBool::new(false),
@@ -183,15 +184,15 @@ impl Opening {
         }
     }
 
-    // Tells the sessions whether they begin.
-    pub(crate) fn decide(&self, begins: bool) {
+    /// Tells the sessions whether they begin.
+    pub fn decide(&self, begins: bool) {
         self.begins.store(begins, Ordering::SeqCst);
         self.decided.store(true, Ordering::SeqCst);
         self.changed.notify_all();
     }
 
-    // Whether the sessions begin. It sleeps until that is decided.
-    pub(crate) fn wait<R: Wait>(&self, rt: &R) -> bool {
+    /// Whether the sessions begin. It sleeps until that is decided.
+    pub fn wait<R: Wait>(&self, rt: &R) -> bool {
         for _ in rt.forever() {
             let waiting = self.changed.prepare_wait();
             if self.decided.load(Ordering::SeqCst) {

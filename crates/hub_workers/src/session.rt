@@ -13,8 +13,11 @@ use std::marker::Brand;
 use std::sync::Wait;
 use taf_codes::{Sink, Source};
 
-// Serves a session once the shift begins. Where it never does, not a line is read.
-pub(crate) fn serve<'x, S: Source + Drop, K: Sink + Drop, R: Wait>(
+/// Serves a session once the threads begin. Where they never do, not a line is read, and the session ends with
+/// [`SessionFault::Port`].
+///
+/// It puts its own jobs into the lane, in order, and takes their answers from its queue.
+pub fn serve<'x, S: Source + Drop, K: Sink + Drop, R: Wait>(
     rt: &'x R,
     alloc: Global,
     opening: &Opening,

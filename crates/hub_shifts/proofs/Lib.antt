@@ -1,0 +1,4 @@
+pub mod KeptLemmas
+pub mod OrderLemmas
+pub mod TellingLemmas
+pub mod ThreadLemmas

@@ -1,0 +1,38 @@
+-- What the threads give back, by what they began with.
+use Rattle.std.proofs.Common.{Result, Ok, Err, IfOk, ◌≡◌, ℕ, ◌<◌, List, [], ◌∷◌, length, map, get_or, refl, ap, ◌∙◌, subst, arith}
+use Rattle.inbox.specs.States.{PassState}
+use Rattle.hub_workers.specs.Lanes.{EachAt, EachPair}
+use Rattle.hub_shifts.proofs.KeptLemmas.{some_item}
+
+-- from what the threads began with, by their handles, to what they gave back
+pub through : {X H R : Type 0} (A : ℕ → X → Type 0) (P : ℕ → X → H → Type 0) (Q : ℕ → H → R → Type 0) (S : ℕ → X → R → Type 0)
+    → ((k : ℕ) (x : X) (h : H) (r : R) → A k x → P k x h → Q k h r → S k x r)
+    → (xs : List X) (hs : List H) (rs : List R) → EachAt A xs → EachPair P xs hs → EachPair Q hs rs → EachPair S xs rs
+through A P Q S f xs [] rs a p q = (
+  q.0 ∙ p.0,
+  λ k d e low. let none = p.0 in absurd (omega (arith, none, low)),
+)
+through A P Q S f xs (h ∷ hs) rs a p q = (
+  q.0 ∙ p.0,
+  λ k d e low. let alike = p.0 in f k (get_or xs k d) (get_or (h ∷ hs) k h) (get_or rs k e) (a k d low) (p.1 k d h low) (q.1 k h e (omega (arith, alike, low))),
+)
+
+pub map_same : {X : Type 0} (xs : List X) → map (λ x. x) xs ≡ xs
+map_same [] = refl
+map_same (x ∷ xs) = ap (λ l. x ∷ l) (map_same xs)
+
+-- of three facts of an Ok a fourth
+pub if_ok_three : {T E : Type 0} (A B C D : T → Type 0) → ((b : T) → A b → B b → C b → D b) → (r : Result T E) → IfOk r A → IfOk r B → IfOk r C → IfOk r D
+if_ok_three A B C D f (Ok b) x y z = f b x y z
+if_ok_three A B C D f (Err e) x y z = tt
+
+-- what the threads gave back, by the passes that they began with
+pub each_given : {A B C : Type 0} (S : ℕ → PassState → B → Type 0) (pass_of : A → PassState) (began : ℕ → C → PassState) (starts : List A) (back : List B)
+    → EachAt (λ i s. (d : C) → pass_of s ≡ began i d) starts
+    → EachPair (λ i s r. S i (pass_of s) r) starts back
+    → EachAt (λ i r. (d : C) → S i (began i d) r) back
+each_given S pass_of began starts back given pairs i r low d =
+    let alike = pairs.0 in
+    let inside : i < length starts = omega (arith, alike, low) in
+    let start = some_item starts (omega (arith, inside)) in
+    subst (λ t. S i t (get_or back i r)) (given i start inside d) (pairs.1 i start r inside)

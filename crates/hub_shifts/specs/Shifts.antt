@@ -1,0 +1,61 @@
+-- What a shift leaves.
+use Rattle.std.specs.Prelude.{◌≡◌, ℕ, ◌+◌, ◌^◌, ◌<◌, List, [], ◌∷◌, ◌++◌, map, length, sum_by, slice_index_or}
+use Rattle.std.specs.List.{All}
+use Rattle.inbox.specs.declared.rule.Job.{Job}
+use Rattle.inbox.specs.Interleavings.{IsKept}
+use Rattle.hub_shared.specs.Seats.{SeatState, IsRun}
+use Rattle.hub_shared.specs.Tallies.{TallyState}
+use Rattle.hub_workers.specs.declared.ends.SessionEnd.{SessionEnd}
+use Rattle.hub_shifts.specs.declared.shift.Shift.{Shift}
+use Rattle.hub_workers.specs.Lanes.{EachAt, of_lane}
+use Rattle.hub_workers.specs.Ends.{HasEnded}
+
+-- how a session ended, its tally, and the jobs that it put into its lane
+pub record SessionState : Type 0 where
+  pub end : SessionEnd
+  pub tally : TallyState
+  pub put : List Job
+
+-- what is said of the session with this number
+pub record IsOfSession (number : ℕ) (s : SessionState) : Type 0 where
+  pub ended : HasEnded number s.end s.tally.entries s.put
+  pub own_jobs : All (λ (j : Job). j.session ≡ number) s.put
+
+-- what the worker of a lane took, and its seat
+pub record WorkerState : Type 0 where
+  pub taken : List Job
+  pub seat : SeatState
+
+-- it counted a call or a fault for each job that it took, while it counts faults
+abbrev pub MakesCalls : WorkerState → Type 0
+MakesCalls w = w.seat.refused < 2 ^ 60 → length w.taken ≡ w.seat.count + w.seat.refused
+
+abbrev pub put_lists : List SessionState → List (List Job)
+put_lists sessions = map (λ (s : SessionState). s.put) sessions
+
+-- Lane k is kept, by what the sessions that fall to it put, what its worker took, and what it still held. A session takes
+-- nothing, a worker puts nothing, and the shift's own pass, the last, does neither.
+abbrev pub LaneIsKept : ℕ → ℕ → List (List Job) → List Job → List Job → Type 0
+LaneIsKept k workers puts taken left =
+    IsKept (of_lane k workers 0 puts ++ [] ∷ [] ∷ [])
+    (map (λ (p : List Job). []) (of_lane k workers 0 puts) ++ taken ∷ [] ∷ []) left
+
+-- The hub is one that a single thread could have made. The sum is the length of its history. There are a tally and an end
+-- for each session, in their order, which are that session's. Each lane is kept. Each worker's seat counted its calls, and
+-- these numbers add up.
+pub record IsShift (sessions workers : ℕ) (s : Shift) : Type 0 where
+  pub served : List SessionState
+  pub worked : List WorkerState
+  pub run : IsRun s.hub
+  pub sum_is : s.sum ≡ length s.hub
+  pub served_count : length served ≡ sessions
+  pub worked_count : length worked ≡ workers
+  pub left_count : length s.left.items ≡ workers
+  pub ends_are : s.ends.items ≡ map (λ (x : SessionState). x.end) served
+  pub tallies_are : s.tallies.items ≡ map (λ (x : SessionState). x.tally) served
+  pub of_sessions : EachAt IsOfSession served
+  pub makes_calls : EachAt (λ k (w : WorkerState). MakesCalls w) worked
+  pub calls : sum_by (λ (w : WorkerState). w.seat.count) worked ≡ s.sum
+  pub faults : sum_by (λ (w : WorkerState). w.seat.refused) worked ≡ s.refused
+  pub kept : EachAt (λ k (w : WorkerState).
+      LaneIsKept k workers (put_lists served) w.taken (slice_index_or s.left.items k [])) worked

@@ -1,0 +1,15 @@
+//! The laws of shifts.
+ghost use Rattle.hub_shifts.specs.Laws.{ShiftInOrder, LanesInOrder};
+
+/// In a shift whose tallies settle against its history, each entry of the history is of exactly one session, and those of
+/// a session stand there in the order of its lines, each once: they are its own jobs that were answered Ok. Where a session
+/// ended well, each of the jobs that it put has its answer. It does nothing.
+pub fn shift_in_order()
+    ensures { ShiftInOrder }
+{}
+
+/// After a shift, what a worker took of a session's jobs, and then what its lane still held of them, is what the session
+/// put, in order. It does nothing.
+pub fn lanes_in_order()
+    ensures { LanesInOrder }
+{}

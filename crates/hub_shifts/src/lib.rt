@@ -1,0 +1,29 @@
+//! Shifts: many sessions are served by a few workers, around one hub.
+//!
+//! [`run_shift`] gives each session a thread of its own, which serves its lines, and each worker a thread of its own,
+//! which makes the sessions' calls on the shared hub. Session `i` puts its jobs into the lane of worker `i mod workers`. When
+//! the last session has ended, the workers make the calls that are left in their lanes and end too.
+//!
+//! # What is promised
+//!
+//! `specs/Shifts.antt` says what a shift leaves. Its hub is one that a single thread could have made, and its sum is the
+//! length of that hub's history. It has a tally for each session, in their order, which is the session's own; how each
+//! session ended; and what each lane still held. [`shift_in_order`] says what follows once the tallies settle against the
+//! history, and [`lanes_in_order`] what was taken of a session's jobs and what was left.
+//!
+//! No contract says that a call returns, or that two workers run at once.
+//!
+//! | part | what it has |
+//! |---|---|
+//! | `promises` | what the threads promise |
+//! | `threads`, `shift` | the threads of a shift, and the shift |
+//! | `law` | what follows of a shift |
+#![tactic(auto)]
+
+mod law;
+mod promises;
+mod shift;
+mod threads;
+
+pub use law::{lanes_in_order, shift_in_order};
+pub use shift::{Shift, ShiftFault, run_shift};

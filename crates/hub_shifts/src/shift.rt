@@ -1,0 +1,179 @@
+//! A whole shift.
+ghost use Rattle.std.specs.Prelude.{◌≡◌, ◌+◌, ◌%◌, ◌≤◌, length, vec_len, slice_index_or, IfOk};
+ghost use Rattle.inbox.specs.States.{new_pass};
+ghost use Rattle.hub_shared.specs.Seats.{new_seat};
+ghost use Rattle.hub_workers.specs.Lanes.{new_lane, EachAt, of_lane, HandsOut};
+ghost use Rattle.hub_workers.specs.Ends.{IsServed, IsWorked};
+ghost use Rattle.hub_shifts.specs.Shifts.{IsShift};
+
+use crate::threads::{Back, run_threads};
+use hub_core::Hub;
+use hub_shared::{Seat, SharedHub, Tally};
+use hub_workers::{
+    AnswerQueue, Gate, Lane, Opening, Outcomes, Places, SessionEnd, add_refused, close_lanes,
+    make_places, take_sessions, take_workers,
+};
+use inbox::Left;
+use std::alloc::Global;
+use std::marker::Brand;
+use std::sync::Wait;
+use std::sync::ledger::{Blank, Ledger};
+use std::thread::Threads;
+use taf_codes::{Memory, Sink, Source};
+use thiserror::Error;
+
+/// What a shift leaves.
+#[derive(Drop)]
+pub struct Shift {
+    pub hub: Hub,
+    /// How many calls its workers made that were answered: the length of the hub's history.
+    pub sum: u64,
+    /// How many calls met a fault of the hub.
+    pub refused: u64,
+    /// How each session ended, in their order.
+    pub ends: Vec<SessionEnd>,
+    /// What each session was told, in their order.
+    pub tallies: Vec<Tally>,
+    /// What each lane still held.
+    pub left: Vec<Left>,
+}
+
+/// Why a shift has no hub.
+#[derive(Clone, Copy, Debug, PartialEq, Eq, Error)]
+pub enum ShiftFault {
+    #[error("a thread could not be started")]
+    Thread,
+    #[error("memory was refused")]
+    Memory,
+}
+
+impl From<Memory> for ShiftFault {
+    fn from(_: Memory) -> ShiftFault {
+        ShiftFault::Memory
+    }
+}
+
+/// Serves 1 to 64 sessions, each by its reader and writer in a thread of its own, with 1 to 8 workers in threads of their
+/// own.
+///
+/// Session `i` is served by worker `i mod workers`. It returns once each session has come to its end and the workers have
+/// made all calls that were left, so it waits for the readers. No session begins before all threads are there: where one
+/// can't be started the others end at once, and the answer is [`ShiftFault::Thread`]. After either fault no thread is left,
+/// there is no hub, and after [`ShiftFault::Memory`] lines may have been answered. A session that ends by a fault gives its
+/// tally all the same.
+pub fn run_shift<S, K, G, R>(
+    rt: &R,
+    alloc: Global,
+    gate: &G,
+    sessions: Vec<(S, K)>,
+    workers: usize,
+) -> Result<Shift, ShiftFault>
+where
+    S: Source + Send + Drop,
+    K: Sink + Send + Drop,
+    G: Gate + Sync,
+    R: Threads + Wait + Sync,
+    requires sessions { (1 ≤ vec_len sessions) × (vec_len sessions ≤ 64) }
+    requires workers { (1 ≤ workers) × (workers ≤ 8) }
+    ensures { IfOk result (λ s. IsShift (vec_len sessions) workers s) }
+{
+    let blank = Blank::new(workers as u64 + 1);
+    run_named::<Brand, S, K, G, R>(rt, alloc, gate, sessions, workers, blank)
+}
+
+// A shift whose seats are shares of this ledger.
+fn run_named<L, S, K, G, R>(
+    rt: &R,
+    alloc: Global,
+    gate: &G,
+    sessions: Vec<(S, K)>,
+    workers: usize,
+    blank: Blank,
+) -> Result<Shift, ShiftFault>
+where
+    L: Ledger + Send + Sync,
+    S: Source + Send + Drop,
+    K: Sink + Send + Drop,
+    G: Gate + Sync,
+    R: Threads + Wait + Sync,
+    requires sessions { (1 ≤ vec_len sessions) × (vec_len sessions ≤ 64) }
+    requires workers { (1 ≤ workers) × (workers ≤ 8) }
+    requires blank { (blank.name ≡ L.name) × (blank.parts ≡ L.parts) × (blank.parts ≡ workers + 1) }
+    ensures { IfOk result (λ s. IsShift (vec_len sessions) workers s) }
+{
+    let (hub, mut seat) = SharedHub::<L>::new(alloc, blank);
+    let Places {
+        lanes,
+        sessions,
+        workers,
+    } = make_places(rt, alloc, sessions, workers, &mut seat)?;
+    let answers = make_answers(alloc, sessions.len())?;
+    let opening = Opening::new();
+    let back = run_threads::<L, S, K, G, R>(
+        rt,
+        alloc,
+        gate,
+        lanes.as_slice(),
+        &hub,
+        answers.as_slice(),
+        &opening,
+        sessions,
+        workers,
+    )?;
+    let shift = end_shift(rt, alloc, lanes, hub, seat, back)?;
+    Ok(shift)
+}
+
+// Closes the hub and the lanes, once all threads have ended.
+fn end_shift<L: Ledger>(
+    rt: &impl Wait,
+    alloc: Global,
+    lanes: Vec<Lane>,
+    hub: SharedHub<L>,
+    seat: Seat<L>,
+    back: Back<L>,
+) -> Result<Shift, Memory>
+    requires some { (1 ≤ length lanes.items) × (length lanes.items ≤ 8) }
+    requires lanes { EachAt (λ k l. HandsOut (new_lane l.id) l
+        (1 + length (of_lane k (length lanes.items) 0 back.served.items))) lanes.items }
+    requires served { EachAt (λ i r. (d : _)
+        → IsServed i (new_pass (slice_index_or lanes.items (i % length lanes.items) d).id 1)
+        r.end r.tally.entries r.pass) back.served.items }
+    requires worked { (length back.worked.items ≡ length lanes.items) × EachAt (λ k r. (d : _)
+        → IsWorked (new_pass (slice_index_or lanes.items k d).id 1) r.pass r.seat) back.worked.items }
+    requires seat { (seat ≡ new_seat 1) × (L.parts ≡ length lanes.items + 1) }
+    ensures { IfOk result (λ s. IsShift (length back.served.items) (length lanes.items) s) }
+{
+    let Back { served, worked } = back;
+    let mut lanes = lanes;
+    let Outcomes { ends, tallies } = take_sessions(alloc, lanes.as_mut_slice(), served)?;
+    let mut seats = take_workers(alloc, lanes.as_mut_slice(), worked)?;
+    if seats.push(seat).is_err() {
+        return Err(Memory);
+    }
+    let refused = add_refused(seats.as_slice());
+    let (hub, sum) = hub.close(seats);
+    let left = close_lanes(rt, alloc, lanes)?;
+    Ok(Shift {
+        hub,
+        sum,
+        refused,
+        ends,
+        tallies,
+        left,
+    })
+}
+
+// A queue of answers for each session.
+fn make_answers(alloc: Global, count: usize) -> Result<Vec<AnswerQueue>, Memory>
+    ensures { IfOk result (λ v. vec_len v ≡ count) }
+{
+    let mut queues = Vec::new(alloc);
+    for _made in 0..count {
+        let queue = AnswerQueue::new(alloc)?;
+        if queues.push(queue).is_err() {
+            return Err(Memory);
+        }
+    }
+    Ok(queues)
+}

@@ -1,5 +1,0 @@
-use Rattle.hub_workers.proofs.OrderLemmas.{lanes_in_order}
-use Rattle.hub_workers.proofs.law.lanes_in_order.Goals as goal
-
-pub returns : goal.returns
-returns c = lanes_in_order

@@ -1,9 +1,0 @@
-use Rattle.hub_shared.proofs.OrderLemmas.{told_in_order}
-use Rattle.hub_workers.proofs.SessionLemmas.{tells_own}
-use Rattle.hub_workers.proofs.law.shift_in_order.Goals as goal
-
-pub returns : goal.returns
-returns c = λ sessions workers s shift. (
-  λ k d low. tells_own k _ (shift.of_sessions k d low),
-  told_in_order s.hub s.tallies.items,
-)
