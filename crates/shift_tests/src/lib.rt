@@ -1,0 +1,19 @@
+//! Tests of `hub_shifts` and `hub_workers`: whole shifts over memory. There is nothing else here.
+//!
+//! Two sessions meet at the hub while their jobs are held until both are there; the lines of a session stay in their order,
+//! and no job of it overtakes another; a writer that fails ends its own session alone; many sessions with many calls
+//! settle; each growth is refused in turn. What the sessions are answered comes from the rules of the exchange.
+#![tactic(auto)]
+
+#[cfg(test)]
+mod gates;
+#[cfg(test)]
+mod lines;
+#[cfg(test)]
+mod many;
+#[cfg(test)]
+mod scarcity;
+#[cfg(test)]
+mod shifts;
+#[cfg(test)]
+mod streams;

@@ -1,0 +1,72 @@
+//! Each growth of a shift before its first thread refused in turn, and then the threads themselves.
+
+use crate::lines::{FIRST, said_lines, sent_lines};
+use crate::shifts::boxed;
+use crate::streams::{Script, Writer, Written};
+use ballast::Ballast;
+use hub_shifts::{ShiftFault, run_shift};
+use hub_workers::{OpenGate, SessionEnd};
+use std::alloc::Global;
+use std::sync::Wait;
+use std::test::*;
+use std::thread::Threads;
+
+// How many bytes more each budget has.
+const STEP: usize = 64;
+
+// Why a shift of one session is refused with so much memory left. None where it is not.
+fn refusal<R: Threads + Wait + Sync>(
+    rt: &R,
+    alloc: Global,
+    ballast: &mut Ballast,
+    left: usize,
+    lines: &[u8],
+    written: &Written,
+) -> Result<Option<ShiftFault>, Fail> {
+    let reader = Script::new(lines, false);
+    let writer = Writer::new(rt, written, usize::MAX);
+    let sessions = Vec::from_array(alloc, [(reader, writer)])?;
+    ballast.leave(left)?;
+    let fault = run_shift(rt, alloc, &OpenGate, sessions, 1).err();
+    ballast.ease();
+    Ok(fault)
+}
+
+// How many budgets are refused memory, before one is enough for all but the threads. No line is said.
+fn count_refused<R: Threads + Wait + Sync>(rt: &R, alloc: Global) -> Result<u32, Fail> {
+    let lines = sent_lines(alloc, FIRST)?;
+    let written = Written::new(alloc);
+    let mut ballast = Ballast::new(alloc)?;
+    let mut refused = 0u32;
+    for step in 0..10_000usize {
+        let left = step * STEP;
+        match refusal(rt, alloc, &mut ballast, left, lines.as_slice(), &written)? {
+            Some(ShiftFault::Memory) if written.lines() == 0 => refused = refused.saturating_add(1),
+            Some(ShiftFault::Thread) if written.lines() == 0 => return Ok(refused),
+            _ => return Err(Fail::new("a line was said")),
+        }
+    }
+    Err(Fail::new("always refused"))
+}
+
+// Runs the session with ample memory. Fails unless it comes to its end and is said its lines.
+fn run_amply<R: Threads + Wait + Sync>(rt: &R, alloc: Global) -> Result<(), Fail> {
+    let lines = sent_lines(alloc, FIRST)?;
+    let written = Written::new(alloc);
+    let reader = Script::new(lines.as_slice(), false);
+    let writer = Writer::new(rt, &written, usize::MAX);
+    let sessions = Vec::from_array(alloc, [(reader, writer)])?;
+    let shift = boxed(alloc, run_shift(rt, alloc, &OpenGate, sessions, 1))?;
+    let is_complete = shift.ends.as_slice() == [SessionEnd::Complete].as_slice();
+    if is_complete && written.is(rt, said_lines(alloc, FIRST)?.as_slice()) {
+        Ok(())
+    } else {
+        Err(Fail::new("another end"))
+    }
+}
+
+#[test]
+fn each_growth_before_the_threads_is_refused_in_turn(rt: HostRuntime) -> Result<(), Fail> {
+    assert!(rt; count_refused(&rt, rt.alloc())? > 4);
+    run_amply(&rt, rt.alloc())
+}
