@@ -46,7 +46,7 @@ const BAD_CHECK_DIGIT: &str = "fault 2: bad check digit\n";
 const NOT_TWELVE_DIGITS: &str = "fault 1: not twelve digits\n";
 
 // The words, the input, the status, the output, and the errors.
-const COMMANDS: [(&str, &str, u8, &str, &str); 10] = [
+static COMMANDS: [(&str, &str, u8, &str, &str); 10] = [
     ("taf_hub|number|218124712173", "", 0, MARKED, ""),
     ("taf_hub|number|21 81 2471 217-3", "", 0, MARKED, ""),
     ("taf_hub|number|218124712174", "", 1, "", BAD_CHECK_DIGIT),
@@ -77,19 +77,26 @@ const COMMANDS: [(&str, &str, u8, &str, &str); 10] = [
     ),
 ];
 
+// Whether the words end so.
+fn ends_as(ended: &Ended, status: u8, output: &str, errors: &str) -> bool {
+    ended.status == status
+        && ended.output.as_slice() == output.as_bytes()
+        && ended.errors.as_slice() == errors.as_bytes()
+}
+
 #[test]
 fn commands_end_with_their_status(rt: HostRuntime) -> Result<(), Fail> {
-    for (line, input, status, output, errors) in COMMANDS {
+    for (line, input, status, output, errors) in &COMMANDS {
         let ended = end_of(&rt, line, input)?;
-        assert_eq!(rt; ended.status, status, "{line}");
-        assert_eq!(rt; ended.output.as_slice(), output.as_bytes(), "{line}");
-        assert_eq!(rt; ended.errors.as_slice(), errors.as_bytes(), "{line}");
+        if !ends_as(&ended, *status, output, errors) {
+            return Err(Fail::new(*line));
+        }
     }
     Ok(())
 }
 
 // Words that are explained, on the output for the status 0 and else among the errors.
-const EXPLAINED: [(&str, u8); 6] = [
+static EXPLAINED: [(&str, u8); 6] = [
     ("taf_hub|--help", 0),
     ("taf_hub|number|--help", 0),
     ("taf_hub", 2),
@@ -100,26 +107,26 @@ const EXPLAINED: [(&str, u8); 6] = [
 
 #[test]
 fn other_words_are_explained(rt: HostRuntime) -> Result<(), Fail> {
-    for (line, status) in EXPLAINED {
+    for (line, status) in &EXPLAINED {
         let ended = end_of(&rt, line, "")?;
-        assert_eq!(rt; ended.status, status, "{line}");
-        assert_eq!(rt; ended.output.is_empty(), status == 2, "{line}");
-        assert_eq!(rt; ended.errors.is_empty(), status == 0, "{line}");
+        let is_output = !ended.output.is_empty();
+        let is_error = !ended.errors.is_empty();
+        if ended.status != *status || is_output != (*status == 0) || is_error != (*status == 2) {
+            return Err(Fail::new(*line));
+        }
     }
     Ok(())
 }
 
+// Whether a fault of the words of this kind is told by this status and line.
+fn is_told(alloc: Global, kind: ErrorKind, status: u8, line: &str) -> bool {
+    let mut errors = Vec::new(alloc);
+    let fault = Fault::of_words(io::Error::from(kind));
+    tell(fault, &mut errors) == status && errors.as_slice() == line.as_bytes()
+}
+
 #[test]
-fn words_that_are_not_read_are_a_fault(rt: HostRuntime) -> Result<(), Fail> {
-    let cases = [
-        (ErrorKind::OutOfMemory, 4, "fault: memory\n"),
-        (ErrorKind::InvalidData, 2, "fault: words\n"),
-    ];
-    for (kind, status, line) in cases {
-        let mut errors = Vec::new(rt.alloc());
-        let fault = Fault::of_words(io::Error::from(kind));
-        assert_eq!(rt; tell(fault, &mut errors), status);
-        assert_eq!(rt; errors.as_slice(), line.as_bytes());
-    }
-    Ok(())
+fn words_that_are_not_read_are_a_fault(rt: HostRuntime) {
+    assert!(rt; is_told(rt.alloc(), ErrorKind::OutOfMemory, 4, "fault: memory\n"));
+    assert!(rt; is_told(rt.alloc(), ErrorKind::InvalidData, 2, "fault: words\n"));
 }

@@ -34,6 +34,8 @@ const BLANK: &str = r#"{"kind":"ask","from":"R100","wagon":"318066552148"}
 {"kind":"deviation","from":"R100","consignment":"C-9"}
 > {"reply":"refused","why":"unknown_consignment"}"#;
 
+static SCRIPTS: [&str; 3] = [FAULTS, CALLS, BLANK];
+
 // What a session is given next.
 #[derive(Clone, Copy)]
 enum Turn {
@@ -47,7 +49,7 @@ enum Turn {
 const ORDERS: u32 = 256;
 
 // Each job is answered before the next line.
-const LOCK_STEP: [Turn; 8] = [
+static LOCK_STEP: [Turn; 8] = [
     Turn::Line,
     Turn::Answer,
     Turn::Line,
@@ -59,7 +61,7 @@ const LOCK_STEP: [Turn; 8] = [
 ];
 
 // What follows the first eight turns, so that all lines are read and all jobs are answered.
-const REST: [Turn; 8] = [
+static REST: [Turn; 8] = [
     Turn::Line,
     Turn::Line,
     Turn::Line,
@@ -138,9 +140,11 @@ fn means_lock_step(player: &mut Player, alloc: Global, lines: &str) -> Result<bo
 
 #[test]
 fn every_order_means_lock_step(rt: HostRuntime) -> Result<(), Fail> {
-    let mut player = Player::new(rt.alloc());
-    for lines in [FAULTS, CALLS, BLANK] {
-        assert!(rt; means_lock_step(&mut player, rt.alloc(), lines)?, "{lines}");
+    let mut player = Player::new(rt.alloc())?;
+    for lines in &SCRIPTS {
+        if !means_lock_step(&mut player, rt.alloc(), lines)? {
+            return Err(Fail::new(*lines));
+        }
     }
     Ok(())
 }

@@ -22,12 +22,13 @@ const OTHER: u32 = 8;
 // So many jobs as no test gives out.
 const MANY: u64 = 1_000_000;
 
-/// A session, the hub that takes its jobs, and what came of its commands.
+/// A session, the hub that takes its jobs, and what came of its commands. Session and hub lie on the heap, since what owns one
+/// itself takes the prover long.
 #[derive(Drop)]
 pub(crate) struct Player {
     alloc: Global,
-    session: Session,
-    hub: Hub,
+    session: Box<Session>,
+    hub: Box<Hub>,
     /// How many of the session's own answers it has taken.
     taken: usize,
     /// How many lines of a script it was given.
@@ -147,16 +148,16 @@ fn named_answer(hub: &Hub, command: &str) -> Option<Done> {
 
 impl Player {
     /// A session that has read no line, and a hub that has taken no call.
-    pub(crate) fn new(alloc: Global) -> Player {
-        Player {
+    pub(crate) fn new(alloc: Global) -> Result<Player, Fail> {
+        Ok(Player {
             alloc,
-            session: Session::new(alloc, ID),
-            hub: Hub::new(alloc),
+            session: Box::new(alloc, Session::new(alloc, ID))?,
+            hub: Box::new(alloc, Hub::new(alloc))?,
             taken: 0,
             read: 0,
             log: Vec::new(alloc),
             said: Vec::new(alloc),
-        }
+        })
     }
 
     // Notes what the session said.
@@ -274,8 +275,8 @@ impl Player {
 
     /// Takes what came of it, and begins anew with a new session and a new hub.
     pub(crate) fn end(&mut self) -> Result<Played, Fail> {
-        let session = replace(&mut self.session, Session::new(self.alloc, ID));
-        self.hub = Hub::new(self.alloc);
+        let session = replace(&mut *self.session, Session::new(self.alloc, ID));
+        *self.hub = Hub::new(self.alloc);
         self.taken = 0;
         self.read = 0;
         let tally = replies_of(self.alloc, &session.on_end())?;

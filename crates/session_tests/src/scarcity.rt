@@ -11,7 +11,7 @@ use std::mem::replace;
 use std::test::Fail;
 
 // A hello, and lines that are calls or faults.
-const LINES: &str = r#"{"kind":"hello","from":"R100"}
+static LINES: &str = r#"{"kind":"hello","from":"R100"}
 {"kind":"plan","from":"R100","no":1,"consignment":"C-1","load":"loaded","commit":"2025-03-01T15:30Z","wagons":["218124712173"],"legs":[{"ru":"R101","origin":"DE00001","target":"AT00002","minutes":300},{"ru":"R102","origin":"AT00002","target":"IT00003","minutes":240}]}
 {"from":"R100","kind":"ask","wagon":"218124712173"}
 
@@ -24,13 +24,13 @@ const LINES: &str = r#"{"kind":"hello","from":"R100"}
 // How many of the lines are calls of the session's railway: a plan, an ask, a release and a fetch.
 const JOBS: usize = 4;
 
-const ASK: &str = r#"{"kind":"ask","from":"R100","wagon":"318066552148"}"#;
+static ASK: &str = r#"{"kind":"ask","from":"R100","wagon":"318066552148"}"#;
 
 // A call that is not read without memory.
-const OFFER: &str =
+static OFFER: &str =
     r#"{"at":"2025-03-01T10:50Z","from":"R100","kind":"offer","no":4,"place":"AT00002","to":"R102","train":"T-77","wagons":["218124712173"]}"#;
 
-const NO_MEMORY: &[u8] = b"{\"fault\":\"no_memory\"}";
+static NO_MEMORY: &[u8] = b"{\"fault\":\"no_memory\"}";
 
 // So many bytes as no step needs.
 const AMPLE: usize = 1 << 20;
@@ -39,8 +39,8 @@ const AMPLE: usize = 1 << 20;
 #[derive(Drop)]
 struct Scarce {
     alloc: Global,
-    session: Session,
-    hub: Hub,
+    session: Box<Session>,
+    hub: Box<Hub>,
     ballast: Ballast,
     left: usize,
     /// What it said to lines.
@@ -78,11 +78,13 @@ fn line_of(alloc: Global, done: &Done) -> Result<Vec<u8>, Fail> {
 
 impl Scarce {
     fn new(alloc: Global) -> Result<Scarce, Fail> {
+        let session = Box::new(alloc, Session::new(alloc, ID))?;
+        let hub = Box::new(alloc, Hub::new(alloc))?;
         let ballast = Ballast::new(alloc)?;
         Ok(Scarce {
             alloc,
-            session: Session::new(alloc, ID),
-            hub: Hub::new(alloc),
+            session,
+            hub,
             ballast,
             left: 0,
             said: Vec::new(alloc),
@@ -165,8 +167,8 @@ impl Scarce {
 
     // Begins anew with a new session and a new hub, and gives the session.
     fn restart(&mut self) -> Session {
-        self.hub = Hub::new(self.alloc);
-        replace(&mut self.session, Session::new(self.alloc, ID))
+        *self.hub = Hub::new(self.alloc);
+        replace(&mut *self.session, Session::new(self.alloc, ID))
     }
 
     // What comes of the lines, where so many bytes are left for each step.

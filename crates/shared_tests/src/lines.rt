@@ -8,7 +8,7 @@ use std::test::Fail;
 use taf_messages::{Call, RecordFault};
 
 /// What a railway sends of its wagon.
-pub(crate) const FIRST: &str =
+pub(crate) static FIRST: &str =
     r#"{"kind":"plan","from":"R100","no":1,"consignment":"C-1","load":"loaded","commit":"2025-03-01T15:30Z","wagons":["218124712173"],"legs":[{"ru":"R101","origin":"DE00001","target":"AT00002","minutes":300},{"ru":"R102","origin":"AT00002","target":"IT00003","minutes":240}]}
 > {"no":1,"reply":"accepted"}
 {"from":"R100","kind":"ask","wagon":"218124712173"}
@@ -21,7 +21,7 @@ pub(crate) const FIRST: &str =
 > {"items":[],"reply":"items"}"#;
 
 /// What another sends of its own.
-pub(crate) const SECOND: &str =
+pub(crate) static SECOND: &str =
     r#"{"kind":"plan","from":"R200","no":1,"consignment":"C-2","load":"loaded","commit":"2025-03-01T15:30Z","wagons":["338478961232"],"legs":[{"ru":"R201","origin":"DE00001","target":"AT00002","minutes":300}]}
 > {"no":1,"reply":"accepted"}
 {"from":"R200","kind":"ask","wagon":"338478961232"}
@@ -34,7 +34,7 @@ pub(crate) const SECOND: &str =
 > {"items":[],"reply":"items"}"#;
 
 /// An interchange: of two wagons that are offered one is received. Then the records and the outboxes.
-pub(crate) const INTERCHANGE: &str =
+pub(crate) static INTERCHANGE: &str =
     r#"{"kind":"plan","from":"R100","no":1,"consignment":"C-1","load":"loaded","commit":"2025-03-01T15:30Z","wagons":["218124712173","338478961232"],"legs":[{"ru":"R101","origin":"DE00001","target":"AT00002","minutes":300},{"ru":"R102","origin":"AT00002","target":"IT00003","minutes":240}]}
 {"at":"2025-03-01T05:30Z","from":"R100","kind":"release","no":2,"wagon":"218124712173"}
 {"at":"2025-03-01T06:00Z","from":"R101","kind":"depart","no":1,"wagon":"218124712173"}

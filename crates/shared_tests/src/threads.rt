@@ -15,10 +15,11 @@ use std::thread;
 use std::thread::Threads;
 use taf_codes::Memory;
 
-// What two sessions leave: the hub, how many calls it answered, and what each session was told.
+// What two sessions leave: the hub, which lies on the heap since what owns a hub itself takes the prover long, how many calls
+// it answered, and what each session was told.
 #[derive(Drop)]
 struct Closed {
-    hub: Hub,
+    hub: Box<Hub>,
     sum: u64,
     first: Tally,
     second: Tally,
@@ -49,7 +50,7 @@ fn run_two<L: Ledger + Send + Sync, R: Threads + Wait + Sync>(
     let seats = Vec::from_array(alloc, [first.seat, second.seat]).map_err(|_| Memory)?;
     let (hub, sum) = shared.close(seats);
     Ok(Closed {
-        hub,
+        hub: Box::new(alloc, hub)?,
         sum,
         first: first.tally,
         second: second.tally,
@@ -100,7 +101,7 @@ const EXCHANGED: SettleFault = SettleFault::OutOfOrder {
 };
 
 // What settling two tallies of these entries comes to, by their letters.
-const CASES: [(&str, &str, Result<Settled, SettleFault>); 5] = [
+static CASES: [(&str, &str, Result<Settled, SettleFault>); 5] = [
     ("abcde", "fghij", Ok(Settled { calls: 10 })),
     ("abCde", "fghij", Err(FOREIGN)),
     ("abcde", "fghi", Err(LEFT_OUT)),
@@ -122,9 +123,9 @@ fn settled(
 
 // Fails unless each case comes to what it is to.
 fn check_cases(alloc: Global, hub: &Hub, entries: &[&Told]) -> Result<(), Fail> {
-    for (first, second, wanted) in CASES {
-        if settled(alloc, hub, entries, (first, second))? != wanted {
-            return Err(Fail::new(first));
+    for (first, second, wanted) in &CASES {
+        if settled(alloc, hub, entries, (*first, *second))? != *wanted {
+            return Err(Fail::new(*first));
         }
     }
     Ok(())
