@@ -2,7 +2,7 @@
 use Rattle.std.specs.Prelude.{ℕ, List, [], ◌∷◌, Option, codes, find}
 use Rattle.std.specs.Str.{bytes_eq}
 use Rattle.benchmarks.specs.declared.bench.Bench.{Bench}
-use Rattle.benchmarks.specs.declared.bench.Bench.TheVariants.{Parse, Read, Replies, Record, Items, Copies, Journey, Hub, Report, Lane}
+use Rattle.benchmarks.specs.declared.bench.Bench.TheVariants.{Parse, Read, Replies, Record, Items, Copies, Journey, Hub, Report, Lane, Shift}
 
 abbrev pub bench_name : Bench → List ℕ
 bench_name Parse = codes "parse"
@@ -15,10 +15,11 @@ bench_name Journey = codes "journey"
 bench_name Hub = codes "hub"
 bench_name Report = codes "report"
 bench_name Lane = codes "lane"
+bench_name Shift = codes "shift"
 
 -- all benchmarks there are
 abbrev pub benches : List Bench
-benches = Parse ∷ Read ∷ Replies ∷ Record ∷ Items ∷ Copies ∷ Journey ∷ Hub ∷ Report ∷ Lane ∷ []
+benches = Parse ∷ Read ∷ Replies ∷ Record ∷ Items ∷ Copies ∷ Journey ∷ Hub ∷ Report ∷ Lane ∷ Shift ∷ []
 
 -- the benchmark of that name
 unfoldable pub bench_named : List ℕ → Option Bench

@@ -15,9 +15,10 @@ pub enum Bench {
     Hub,
     Report,
     Lane,
+    Shift,
 }
 
-pub const ALL: [Bench; 10] = [
+pub const ALL: [Bench; 11] = [
     Bench::Parse,
     Bench::Read,
     Bench::Replies,
@@ -28,6 +29,7 @@ pub const ALL: [Bench; 10] = [
     Bench::Hub,
     Bench::Report,
     Bench::Lane,
+    Bench::Shift,
 ];
 
 impl Bench {
@@ -45,6 +47,7 @@ impl Bench {
             Bench::Hub => "hub",
             Bench::Report => "report",
             Bench::Lane => "lane",
+            Bench::Shift => "shift",
         }
     }
 
@@ -69,13 +72,14 @@ impl Bench {
             Bench::Hub => "calls of whole trips, to hubs of several lengths",
             Bench::Report => "lines of the report, by one thread and by all",
             Bench::Lane => "jobs from one thread to another, by an inbox and by a plain queue",
+            Bench::Shift => "calls of eight sessions to one hub, made by two workers",
         }
     }
 
     /// How many things are measured where no count is given.
     pub fn usual_count(self) -> u64 {
         match self {
-            Bench::Parse | Bench::Read => 200_000,
+            Bench::Parse | Bench::Read | Bench::Shift => 200_000,
             Bench::Replies | Bench::Lane => 1_000_000,
             Bench::Record | Bench::Items => 10_000,
             Bench::Copies | Bench::Journey | Bench::Report => 100_000,

@@ -15,6 +15,7 @@
 //! | `hub` | a call of a trip, given to hubs that take an eighteenth of the calls, a quarter, and all | 900,000 |
 //! | `report` | a line of the report, made by one thread (`report plain`) and by all (`report`) | 100,000 |
 //! | `lane` | a job from one thread to another, through an inbox and through a plain queue (`lane of a plain queue`) | 1,000,000 |
+//! | `shift` | a call of one of eight sessions with sixteen on the way, made by one of two workers on one hub | 200,000 |
 //!
 //! What is made is made before the clock starts. Promised: which name is which benchmark ([`Bench::named`]), and what
 //! a duration comes to ([`Measured::per_second`]). No clause says how long anything takes.
@@ -29,6 +30,7 @@ mod measured;
 mod measurements;
 mod report;
 mod samples;
+mod shifts;
 mod trips;
 mod words;
 

@@ -1,6 +1,6 @@
 use crate::bench::{ALL, Bench};
 use crate::words::Asked;
-use crate::{codec, copies, journeys, lanes, report, trips};
+use crate::{codec, copies, journeys, lanes, report, shifts, trips};
 use anyhow::Result;
 use std::alloc::Global;
 use std::io::Write;
@@ -47,6 +47,7 @@ fn measure<W: Write>(
         Bench::Hub => return measure_hubs(rt, alloc, output, count),
         Bench::Report => return measure_report(rt, alloc, output, count),
         Bench::Lane => return measure_lanes(rt, alloc, output, count),
+        Bench::Shift => shifts::calls(rt, alloc, count)?,
     };
     output.write_fmt(format_args!("{}: {measured}\n", bench.name()))?;
     Ok(())
