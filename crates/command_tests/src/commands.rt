@@ -2,6 +2,8 @@ use hub_commands::{Fault, perform, tell};
 use std::alloc::Global;
 use std::io;
 use std::io::ErrorKind;
+use std::net::Net;
+use std::sync::Wait;
 use std::test::Fail;
 use std::thread::Threads;
 
@@ -16,18 +18,18 @@ fn words(alloc: Global, line: &str) -> Result<Vec<String>, Fail> {
 
 // What a command wrote, and the status that it ended with.
 #[derive(Drop)]
-struct Ended {
-    status: u8,
-    output: Vec<u8>,
-    errors: Vec<u8>,
+pub(crate) struct Ended {
+    pub status: u8,
+    pub output: Vec<u8>,
+    pub errors: Vec<u8>,
 }
 
 // Does what the line of words names.
-fn end_of(
-    rt: &(impl Threads + Sync + AllocGlobal),
-    line: &str,
-    input: &str,
-) -> Result<Ended, Fail> {
+pub(crate) fn end_of<H>(rt: &H, line: &str, input: &str) -> Result<Ended, Fail>
+where
+    H: Net + Threads + Wait + Sync + AllocGlobal,
+    H::Stream: Send,
+{
     let words = words(rt.alloc(), line)?;
     let mut output = Vec::new(rt.alloc());
     let mut errors = Vec::new(rt.alloc());
@@ -96,13 +98,24 @@ fn commands_end_with_their_status(rt: HostRuntime) -> Result<(), Fail> {
 }
 
 // Words that are explained, on the output for the status 0 and else among the errors.
-static EXPLAINED: [(&str, u8); 6] = [
+static EXPLAINED: [(&str, u8); 17] = [
     ("taf_hub|--help", 0),
     ("taf_hub|number|--help", 0),
     ("taf_hub", 2),
     ("taf_hub|reply", 2),
     ("taf_hub|number", 2),
     ("taf_hub|replay|again", 2),
+    ("taf_hub|serve|--help", 0),
+    ("taf_hub|serve", 2),
+    ("taf_hub|serve|--port|7000", 2),
+    ("taf_hub|serve|--sessions|3", 2),
+    ("taf_hub|serve|--port|0|--sessions|3", 2),
+    ("taf_hub|serve|--port|65536|--sessions|3", 2),
+    ("taf_hub|serve|--port|x|--sessions|3", 2),
+    ("taf_hub|serve|--port|7000|--sessions|0", 2),
+    ("taf_hub|serve|--port|7000|--sessions|65", 2),
+    ("taf_hub|serve|--port|7000|--sessions|3|--workers|0", 2),
+    ("taf_hub|serve|--port|7000|--sessions|3|--workers|9", 2),
 ];
 
 #[test]

@@ -3,6 +3,7 @@
 //! | part | tests |
 //! |---|---|
 //! | `commands` | the commands of `taf_hub`: their texts, their faults and their statuses |
+//! | `serving` | a shift of two railways over loopback, and a port that is taken |
 //! | `measurements` | the words of `bench`, and how many lines each benchmark prints |
 //!
 //! The tests stand apart from the crates that they test, since a crate with tests is proved twice.
@@ -12,3 +13,5 @@
 mod commands;
 #[cfg(test)]
 mod measurements;
+#[cfg(test)]
+mod serving;

@@ -2,27 +2,47 @@ ghost use Rattle.std.specs.Prelude.{◌≡◌};
 ghost use Rattle.hub_faults.specs.Statuses.{status_of};
 
 use crate::task::{Task, task_of};
-use crate::{number, replay};
+use crate::{number, replay, serve};
 use clap::Error;
 use clap::error::ErrorKind;
 use hub_faults::Fault;
+use hub_server::ShiftSize;
 use std::io::{Read, Write};
+use std::net::{Net, OpenListener, OpenStream};
+use std::sync::Wait;
 use std::thread::Threads;
 
 /// Does what the words name, the program's name first, and gives the status.
-pub fn perform<R: Read + Drop, W: Write + Drop, E: Write>(
-    rt: &(impl Threads + Sync + AllocGlobal),
-    words: &[String],
-    input: R,
-    output: W,
-    errors: &mut E,
-) -> u8 {
+pub fn perform<H, R, W, E>(rt: &H, words: &[String], input: R, output: W, errors: &mut E) -> u8
+where
+    H: Net + Threads + Wait + Sync + AllocGlobal,
+    H::Stream: Send,
+    R: Read + Drop,
+    W: Write + Drop,
+    E: Write,
+{
     let done = match task_of(rt.alloc(), words) {
         Ok(Task::Replay) => replay::perform(rt, rt.alloc(), input, output),
         Ok(Task::Number(text)) => number::perform(output, text),
+        Ok(Task::Serve { port, size }) => serve::perform(rt, port, size, output, errors),
         Err(error) => explain(&error, output, errors),
     };
     match done {
+        Ok(status) => status,
+        Err(fault) => tell(fault, errors),
+    }
+}
+
+/// Serves one shift over the connections of a listener, as the command `serve` does on its port, and gives the status.
+pub fn serve_on<L, H, W, E>(rt: &H, listener: &L, size: ShiftSize, output: W, errors: &mut E) -> u8
+where
+    L: OpenListener,
+    L::Stream: Read + Write + OpenStream + Send + Drop,
+    H: Threads + Wait + Sync + AllocGlobal,
+    W: Write + Drop,
+    E: Write,
+{
+    match serve::serve(rt, rt.alloc(), listener, size, output) {
         Ok(status) => status,
         Err(fault) => tell(fault, errors),
     }

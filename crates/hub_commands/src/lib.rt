@@ -3,9 +3,10 @@
 //! | command | does | status |
 //! |---|---|---|
 //! | `taf_hub replay` | answers the lines of the input on the output, on a new hub, and prints the report of all wagons | 0; 3 reading or writing failed, or no end came; 4 memory was refused |
+//! | `taf_hub serve --port P --sessions N [--workers K]` | serves N railways on connections of their own by K workers, and prints how many calls settled and the report of all wagons | 0; 4 memory was refused; 5 a socket or a thread could not be had; 6 the shift did not settle |
 //! | `taf_hub number TEXT` | prints the vehicle number that TEXT shows in the marked form | 0; 1 TEXT shows none |
 //!
-//! [`words`] reads the command line, and [`perform`] does what it names. `--help` prints clap's help, with status 0. Words
+//! [`words`] reads the command line, and [`perform`] does what it names. [`serve_on`] is `serve` on a listener. `--help` prints clap's help, with status 0. Words
 //! that name no command end with status 2 and clap's text among the errors. A [`Fault`] is one line there, by [`tell`],
 //! which gives its status. Where the words cannot be read, the status is 4 if memory was refused and else 2.
 #![tactic(auto)]
@@ -13,9 +14,12 @@
 mod command_line;
 mod commands;
 mod number;
+mod print;
 mod replay;
+mod serve;
 mod task;
 
 pub use command_line::words;
-pub use commands::{perform, tell};
+pub use commands::{perform, serve_on, tell};
 pub use hub_faults::Fault;
+pub use task::{Task, task_of};

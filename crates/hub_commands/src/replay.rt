@@ -1,3 +1,4 @@
+use crate::print::print;
 use hub_core::Hub;
 use hub_faults::Fault;
 use hub_replay::run;
@@ -53,20 +54,4 @@ fn report_of(
     run(rt, alloc, reader, writer, hub)?;
     let view = hub.view()?;
     Ok(lines(rt, alloc, &view)?)
-}
-
-// Prints lines, and sends them on.
-fn print<W: Write>(output: &mut W, lines: &[String]) -> Result<(), Fault> {
-    for line in lines {
-        let Ok(()) = output.write_all(line.as_bytes()) else {
-            return Err(Fault::Write);
-        };
-        let Ok(()) = output.write_all(b"\n") else {
-            return Err(Fault::Write);
-        };
-    }
-    match output.flush() {
-        Ok(()) => Ok(()),
-        Err(_failed) => Err(Fault::Write),
-    }
 }

@@ -1,5 +1,9 @@
+ghost use Rattle.std.specs.Prelude.{IfOk, IfSome};
+ghost use Rattle.hub_commands.specs.Tasks.{IsWithinLimits};
+
 use clap::error::ErrorKind;
-use clap::{Arg, ArgAction, ArgMatches, Command, Error};
+use clap::{Arg, ArgAction, ArgMatches, Command, Error, value_parser};
+use hub_server::ShiftSize;
 use std::alloc::{AllocError, Global};
 
 /// What the program is to do.
@@ -7,6 +11,8 @@ use std::alloc::{AllocError, Global};
 pub enum Task<'a> {
     Replay,
     Number(&'a str),
+    /// The port is not 0.
+    Serve { port: u16, size: ShiftSize },
 }
 
 fn replay<'a>(alloc: Global) -> Command<'a> {
@@ -25,22 +31,62 @@ fn number<'a>(alloc: Global) -> Result<Command<'a>, AllocError> {
         .arg(text)
 }
 
+fn number_of<'a>(alloc: Global, name: &'a str, value: &'a str, help: &'a str) -> Arg<'a> {
+    Arg::new(alloc, name)
+        .long(name)
+        .value_name(value)
+        .action(ArgAction::Set)
+        .help(help)
+}
+
+fn serve<'a>(alloc: Global) -> Result<Command<'a>, AllocError> {
+    let port = number_of(alloc, "port", "P", "The port of 127.0.0.1 to listen on")
+        .required(true)
+        .value_parser(value_parser!(u16).range(1..));
+    let sessions = number_of(
+        alloc,
+        "sessions",
+        "N",
+        "How many connections to serve, 1 to 64",
+    )
+    .required(true)
+    .value_parser(value_parser!(u8).range(1..65));
+    let workers = number_of(
+        alloc,
+        "workers",
+        "K",
+        "How many workers make their calls, 1 to 8",
+    )
+    .default_value("2")
+    .value_parser(value_parser!(u8).range(1..9));
+    Command::new(alloc, "serve")
+        .about("Serves railways on connections of their own, on a new hub, until each has ended")
+        .arg(port)?
+        .arg(sessions)?
+        .arg(workers)
+}
+
 fn command<'a>(alloc: Global) -> Result<Command<'a>, AllocError> {
     Command::new(alloc, "taf_hub")
         .about("The hub for wagon movement, interchange and estimated times in rail freight")
         .subcommand_required(true)
         .subcommand(replay(alloc))?
-        .subcommand(number(alloc)?)
+        .subcommand(number(alloc)?)?
+        .subcommand(serve(alloc)?)
 }
 
-/// The task that the words name, the program's name first.
-pub fn task_of<'a>(alloc: Global, words: &'a [String]) -> Result<Task<'a>, Error> {
+/// The task that the words name, the program's name first. Numbers out of their limits are an error of clap's.
+pub fn task_of<'a>(alloc: Global, words: &'a [String]) -> Result<Task<'a>, Error>
+    ensures limits { IfOk result IsWithinLimits }
+{
     let mut command = command(alloc)?;
     named_by(&mut command, words)
 }
 
 // The task that the words name to the command.
-fn named_by<'a>(command: &mut Command<'a>, words: &'a [String]) -> Result<Task<'a>, Error> {
+fn named_by<'a>(command: &mut Command<'a>, words: &'a [String]) -> Result<Task<'a>, Error>
+    ensures limits { IfOk result IsWithinLimits }
+{
     let matches = command.try_get_matches_from_mut(words)?;
     match task_in(&matches) {
         Some(task) => Ok(task),
@@ -56,10 +102,27 @@ fn no_task(command: &mut Command<'_>) -> Error {
     }
 }
 
-fn task_in<'a>(matches: &ArgMatches<'a>) -> Option<Task<'a>> {
+fn task_in<'a>(matches: &ArgMatches<'a>) -> Option<Task<'a>>
+    ensures limits { IfSome result IsWithinLimits }
+{
     let (name, found) = matches.subcommand()?;
     match name {
         "replay" => Some(Task::Replay),
+        "serve" => shift_in(found),
         _ => Some(Task::Number(found.get_str("TEXT")?)),
     }
+}
+
+// The shift that is named. Its numbers passed clap's parsers, so they are within their limits.
+fn shift_in<'a>(matches: &ArgMatches<'a>) -> Option<Task<'a>>
+    ensures limits { IfSome result IsWithinLimits }
+{
+    let port = matches.get_one::<u16>("port")?;
+    let sessions = matches.get_one::<u8>("sessions")?;
+    let workers = matches.get_one::<u8>("workers")?;
+    let size = ShiftSize::new(usize::from(sessions), usize::from(workers))?;
+    if port == 0 {
+        return None;
+    }
+    Some(Task::Serve { port, size })
 }

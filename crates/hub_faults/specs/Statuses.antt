@@ -6,10 +6,13 @@ use Rattle.wagon_number.specs.declared.fault.NumberFault.{NumberFault}
 use Rattle.wagon_number.specs.declared.fault.NumberFault.TheVariants as of_number
 use Rattle.hub_replay.specs.declared.fault.RunFault.{RunFault}
 use Rattle.hub_replay.specs.declared.fault.RunFault.TheVariants as of_run
+use Rattle.hub_server.specs.declared.fault.ServerFault.{ServerFault}
+use Rattle.hub_server.specs.declared.fault.ServerFault.TheVariants as of_server
 use Rattle.hub_faults.specs.declared.fault.Fault.{Fault}
-use Rattle.hub_faults.specs.declared.fault.Fault.TheVariants.{Words, NotTwelveDigits, BadCheckDigit, Read, Write, NoEnd, Memory}
+use Rattle.hub_faults.specs.declared.fault.Fault.TheVariants.{Words, NotTwelveDigits, BadCheckDigit, Read, Write, NoEnd, Memory, Socket, Thread, NotSettled}
 
--- 1: the text is refused; 2: no words; 3: a stream failed or has no end; 4: memory was refused
+-- 1: the text is refused; 2: no words; 3: a stream failed or has no end; 4: memory was refused; 5: no socket or no thread; 6: a
+-- shift did not settle
 abbrev pub status_of : Fault → ℕ
 status_of Words = 2
 status_of NotTwelveDigits = 1
@@ -18,6 +21,9 @@ status_of Read = 3
 status_of Write = 3
 status_of NoEnd = 3
 status_of Memory = 4
+status_of Socket = 5
+status_of Thread = 5
+status_of NotSettled = 6
 
 -- why the words of the command line were not read
 abbrev pub fault_of_words : ErrorKind → Fault
@@ -33,3 +39,9 @@ fault_of_run of_run.Read = Read
 fault_of_run of_run.Write = Write
 fault_of_run of_run.NoEnd = NoEnd
 fault_of_run of_run.Memory = Memory
+
+abbrev pub fault_of_server : ServerFault → Fault
+fault_of_server of_server.Socket = Socket
+fault_of_server of_server.Thread = Thread
+fault_of_server of_server.Memory = Memory
+fault_of_server of_server.NotSettled = NotSettled

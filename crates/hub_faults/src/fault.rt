@@ -1,9 +1,10 @@
 ghost use Rattle.std.specs.Prelude.{◌≡◌};
 ghost use Rattle.std.specs.IoError.{error_kind};
-ghost use Rattle.hub_faults.specs.Statuses.{status_of, fault_of_words, fault_of_number, fault_of_run};
+ghost use Rattle.hub_faults.specs.Statuses.{status_of, fault_of_words, fault_of_number, fault_of_run, fault_of_server};
 ghost use Rattle.hub_faults.specs.declared.fault.Fault.TheVariants as faults;
 
 use hub_replay::RunFault;
+use hub_server::ServerFault;
 use std::alloc::AllocError;
 use std::io;
 use std::io::ErrorKind;
@@ -28,6 +29,12 @@ pub enum Fault {
     NoEnd,
     #[error("fault: memory")]
     Memory,
+    #[error("fault: socket")]
+    Socket,
+    #[error("fault: thread")]
+    Thread,
+    #[error("fault: not settled")]
+    NotSettled,
 }
 
 impl Fault {
@@ -41,8 +48,9 @@ impl Fault {
         }
     }
 
-    /// The status that the program ends with: 1 for a text that is no number, 2 where the words
-    /// could not be read, 3 where reading or writing failed, 4 where memory was refused.
+    /// The status that the program ends with: 1 for a text that is no number, 2 where the words could not be read, 3 where
+    /// reading or writing failed, 4 where memory was refused, 5 where a socket or a thread could not be had, 6 where a shift
+    /// did not settle.
     pub fn status(self) -> u8
         ensures { result ≡ status_of self }
     {
@@ -51,6 +59,8 @@ impl Fault {
             Fault::Words => 2,
             Fault::Read | Fault::Write | Fault::NoEnd => 3,
             Fault::Memory => 4,
+            Fault::Socket | Fault::Thread => 5,
+            Fault::NotSettled => 6,
         }
     }
 }
@@ -91,6 +101,19 @@ impl From<RunFault> for Fault {
             RunFault::Write => Fault::Write,
             RunFault::NoEnd => Fault::NoEnd,
             RunFault::Memory => Fault::Memory,
+        }
+    }
+}
+
+impl From<ServerFault> for Fault {
+    ghost from_gives = { λ server fault. fault ≡ fault_of_server server };
+
+    fn from(fault: ServerFault) -> Fault {
+        match fault {
+            ServerFault::Socket => Fault::Socket,
+            ServerFault::Thread => Fault::Thread,
+            ServerFault::Memory => Fault::Memory,
+            ServerFault::NotSettled => Fault::NotSettled,
         }
     }
 }

@@ -1,0 +1,120 @@
+//! A shift of two railways over loopback.
+
+use crate::commands::end_of;
+use hub_commands::serve_on;
+use hub_server::ShiftSize;
+use std::alloc::Global;
+use std::io::{Read, Write};
+use std::net::{Ipv4Addr, Net, OpenStream, Shutdown, SocketAddr, TcpListener, TcpStream};
+use std::test::*;
+use std::thread::Threads;
+use std::{io, thread};
+
+static FIRST: &str = r#"{"kind":"hello","from":"R100"}
+{"kind":"plan","from":"R100","no":1,"consignment":"C-1","load":"loaded","commit":"2025-03-01T15:30Z","wagons":["218124712173"],"legs":[{"ru":"R101","origin":"DE00001","target":"AT00002","minutes":300},{"ru":"R102","origin":"AT00002","target":"IT00003","minutes":240}]}
+{"from":"R100","kind":"ask","wagon":"218124712173"}
+{"at":"2025-03-01T05:30Z","from":"R100","kind":"release","no":2,"wagon":"218124712173"}
+{"from":"R100","kind":"ask","wagon":"218124712173"}
+{"from":"R100","kind":"fetch","limit":10}
+"#;
+
+static SECOND: &str = r#"{"kind":"hello","from":"R200"}
+{"kind":"plan","from":"R200","no":1,"consignment":"C-2","load":"loaded","commit":"2025-03-01T15:30Z","wagons":["338478961232"],"legs":[{"ru":"R201","origin":"DE00001","target":"AT00002","minutes":300}]}
+{"from":"R200","kind":"ask","wagon":"338478961232"}
+{"at":"2025-03-01T05:30Z","from":"R200","kind":"release","no":2,"wagon":"338478961232"}
+{"from":"R200","kind":"ask","wagon":"338478961232"}
+{"from":"R200","kind":"fetch","limit":10}
+"#;
+
+// What is printed, in either order of the wagons: the plan that came first has its wagon first.
+static PRINTED: [&str; 2] = [
+    "settled 10
+wagons 2
+218124712173 R100 ---- 0 released  DE00001 2025-03-01T14:30Z         0 loading
+338478961232 R200 ---- 0 released  DE00001 2025-03-01T10:30Z         0 loading
+",
+    "settled 10
+wagons 2
+338478961232 R200 ---- 0 released  DE00001 2025-03-01T10:30Z         0 loading
+218124712173 R100 ---- 0 released  DE00001 2025-03-01T14:30Z         0 loading
+",
+];
+
+// How many lines a railway is said that sends these lines.
+fn count_said<R: Net>(
+    rt: &R,
+    alloc: Global,
+    address: SocketAddr,
+    lines: &str,
+) -> io::Result<usize> {
+    let mut stream = TcpStream::connect(rt, address)?;
+    stream.write_all(lines.as_bytes())?;
+    stream.shutdown(Shutdown::Write)?;
+    let mut said = Vec::new(alloc);
+    stream.read_to_end(&mut said)?;
+    Ok(said.iter().filter(|byte| **byte == b'\n').count())
+}
+
+#[test]
+fn two_railways_are_served(rt: HostRuntime) -> Result<(), Fail> {
+    let alloc = rt.alloc();
+    let listener = TcpListener::bind(&rt, (Ipv4Addr::LOCALHOST, 0))?;
+    let address = listener.local_addr()?;
+    let Some(size) = ShiftSize::new(2, 2) else {
+        return Err(Fail::new("no size"));
+    };
+    let mut output = Vec::new(alloc);
+    let mut errors = Vec::new(alloc);
+    let (said, status) = thread::join(
+        &rt,
+        || {
+            thread::join(
+                &rt,
+                || count_said(&rt, alloc, address, FIRST).ok(),
+                || count_said(&rt, alloc, address, SECOND).ok(),
+            )
+        },
+        || serve_on(&rt, &listener, size, &mut output, &mut errors),
+    );
+    assert!(rt; said == (Some(6), Some(6)));
+    assert!(rt; status == 0 && errors.is_empty());
+    assert!(rt;
+        PRINTED
+            .iter()
+            .any(|printed| output.as_slice() == printed.as_bytes())
+    );
+    Ok(())
+}
+
+// A port that is listened on is not had a second time.
+#[test]
+fn a_taken_port_is_a_fault(rt: HostRuntime) -> Result<(), Fail> {
+    let listener = TcpListener::bind(&rt, (Ipv4Addr::LOCALHOST, 0))?;
+    let port = listener.local_addr()?.port();
+    let words = format!(in rt.alloc(); "taf_hub|serve|--port|{port}|--sessions|1")?;
+    let ended = end_of(&rt, &words, "")?;
+    assert!(rt; ended.status == 5 && ended.output.is_empty());
+    assert!(rt; ended.errors.as_slice() == "fault: socket\n".as_bytes());
+    Ok(())
+}
+
+// Where the output takes no more, the railway is served all the same.
+#[test]
+fn an_output_that_fails_is_a_fault(rt: HostRuntime) -> Result<(), Fail> {
+    let alloc = rt.alloc();
+    let listener = TcpListener::bind(&rt, (Ipv4Addr::LOCALHOST, 0))?;
+    let address = listener.local_addr()?;
+    let Some(size) = ShiftSize::new(1, 1) else {
+        return Err(Fail::new("no size"));
+    };
+    let mut room = [0u8; 4];
+    let mut errors = Vec::new(alloc);
+    let (said, status) = thread::join(
+        &rt,
+        || count_said(&rt, alloc, address, FIRST).ok(),
+        || serve_on(&rt, &listener, size, room.as_mut_slice(), &mut errors),
+    );
+    assert!(rt; said == Some(6) && status == 3);
+    assert!(rt; errors.as_slice() == "fault: write\n".as_bytes());
+    Ok(())
+}

@@ -1,0 +1,54 @@
+//! Why there is no settled shift.
+ghost use Rattle.std.specs.Prelude.{◌≡◌};
+ghost use Rattle.hub_server.specs.Faults.{fault_of_shift, fault_of_settling};
+ghost use Rattle.hub_server.specs.declared.fault.ServerFault.TheVariants as faults;
+
+use hub_shared::SettleFault;
+use hub_shifts::ShiftFault;
+use taf_codes::Memory;
+use thiserror::Error;
+
+/// Why the connections of a listener came to no settled shift.
+#[derive(Clone, Copy, Debug, PartialEq, Eq, Error)]
+pub enum ServerFault {
+    /// A connection could not be accepted, or not be had twice, to read and to write.
+    #[error("a connection could not be accepted")]
+    Socket,
+    #[error("a thread could not be started")]
+    Thread,
+    #[error("memory was refused")]
+    Memory,
+    /// The history is not told by the sessions' tallies.
+    #[error("the shift did not settle")]
+    NotSettled,
+}
+
+impl From<Memory> for ServerFault {
+    ghost from_gives = { λ _ fault. fault ≡ faults.Memory };
+
+    fn from(_refused: Memory) -> ServerFault {
+        ServerFault::Memory
+    }
+}
+
+impl From<ShiftFault> for ServerFault {
+    ghost from_gives = { λ shift fault. fault ≡ fault_of_shift shift };
+
+    fn from(fault: ShiftFault) -> ServerFault {
+        match fault {
+            ShiftFault::Thread => ServerFault::Thread,
+            ShiftFault::Memory => ServerFault::Memory,
+        }
+    }
+}
+
+impl From<SettleFault> for ServerFault {
+    ghost from_gives = { λ settling fault. fault ≡ fault_of_settling settling };
+
+    fn from(fault: SettleFault) -> ServerFault {
+        match fault {
+            SettleFault::Memory => ServerFault::Memory,
+            _ => ServerFault::NotSettled,
+        }
+    }
+}

@@ -1,0 +1,28 @@
+//! The server: a shift over connections.
+//!
+//! [`serve_connections`] accepts as many connections as the shift has sessions, one after another. Each is a session: its lines
+//! come by the connection, and their answers go out by it. All of them are served by one shift, with as many workers as its size
+//! says; then the tallies of the sessions are settled against the hub's history.
+//!
+//! # What is promised
+//!
+//! Where it gives a shift, that is a shift of so many sessions and workers, and its history is told by the sessions' tallies:
+//! what `hub_shifts` says of settled shifts holds of it. Each fault has its kind ([`ServerFault`]). Nothing is promised of what
+//! a connection carries, nor that a client reads or sends.
+//!
+//! | part | what it has |
+//! |---|---|
+//! | `size` | how many sessions and workers |
+//! | `fault` | why there is no settled shift |
+//! | `connections` | connections accepted, and their two ends |
+//! | `server` | the shift over them, settled |
+#![tactic(auto)]
+
+mod connections;
+mod fault;
+mod server;
+mod size;
+
+pub use fault::ServerFault;
+pub use server::{SettledShift, serve_connections};
+pub use size::ShiftSize;
