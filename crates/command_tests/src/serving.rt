@@ -1,11 +1,13 @@
 //! A shift of two railways over loopback.
 
 use crate::commands::end_of;
+use ballast::Ballast;
 use hub_commands::serve_on;
 use hub_server::ShiftSize;
 use std::alloc::Global;
 use std::io::{Read, Write};
 use std::net::{Ipv4Addr, Net, OpenStream, Shutdown, SocketAddr, TcpListener, TcpStream};
+use std::sync::Wait;
 use std::test::*;
 use std::thread::Threads;
 use std::{io, thread};
@@ -116,5 +118,44 @@ fn an_output_that_fails_is_a_fault(rt: HostRuntime) -> Result<(), Fail> {
     );
     assert!(rt; said == Some(6) && status == 3);
     assert!(rt; errors.as_slice() == "fault: write\n".as_bytes());
+    Ok(())
+}
+
+// The status of a shift of one railway that says nothing, where so many bytes are left.
+fn status_within<H>(
+    rt: &H,
+    listener: &TcpListener,
+    ballast: &mut Ballast,
+    left: usize,
+) -> Result<u8, Fail>
+where
+    H: Net + Threads + Wait + Sync + AllocGlobal,
+{
+    let Some(size) = ShiftSize::new(1, 1) else {
+        return Err(Fail::new("no size"));
+    };
+    let client = TcpStream::connect(rt, listener.local_addr()?)?;
+    ballast.leave(left)?;
+    let (output, mut errors) = (Vec::new(rt.alloc()), Vec::new(rt.alloc()));
+    let status = serve_on(rt, listener, size, output, &mut errors);
+    ballast.ease();
+    drop(client);
+    Ok(status)
+}
+
+// Memory is refused, until there is enough for all but the threads.
+#[test]
+fn refused_memory_and_then_no_thread(rt: HostRuntime) -> Result<(), Fail> {
+    let listener = TcpListener::bind(&rt, (Ipv4Addr::LOCALHOST, 0))?;
+    let mut ballast = Ballast::new(rt.alloc())?;
+    let mut refused = 0u32;
+    for step in 0..10_000usize {
+        match status_within(&rt, &listener, &mut ballast, step * 64)? {
+            4 => refused = refused.saturating_add(1),
+            5 => break,
+            _ => return Err(Fail::new("another status")),
+        }
+    }
+    assert!(rt; refused > 4 && refused < 10_000);
     Ok(())
 }
