@@ -5,6 +5,7 @@ ghost use Rattle.hub_shared.specs.Seats.{new_seat};
 ghost use Rattle.hub_workers.specs.Lanes.{new_lane, EachAt, of_lane, HandsOut};
 ghost use Rattle.hub_workers.specs.Ends.{IsServed, IsWorked};
 ghost use Rattle.hub_shifts.specs.Shifts.{IsShift};
+ghost use Rattle.hub_shifts.specs.declared.shift.ShiftFault.TheVariants as faults;
 
 use crate::threads::{Back, run_threads};
 use hub_core::Hub;
@@ -48,6 +49,8 @@ pub enum ShiftFault {
 }
 
 impl From<Memory> for ShiftFault {
+    ghost from_gives = { λ _ fault. fault ≡ faults.Memory };
+
     fn from(_: Memory) -> ShiftFault {
         ShiftFault::Memory
     }
