@@ -1,12 +1,14 @@
 use crate::bench::{ALL, Bench};
+use crate::measured::Measured;
 use crate::words::Asked;
 use crate::{codec, copies, journeys, lanes, report, shifts, trips};
 use anyhow::Result;
+use schedules::play_seeds;
 use std::alloc::Global;
 use std::io::Write;
 use std::sync::Wait;
 use std::thread::Threads;
-use std::time::Clock;
+use std::time::{Clock, Instant};
 
 /// Does what the words ask for.
 pub fn perform<W: Write>(
@@ -18,6 +20,7 @@ pub fn perform<W: Write>(
     match asked {
         Asked::Names => print_names(output),
         Asked::Run { bench, count } => measure(rt, alloc, output, bench, count),
+        Asked::Schedules { count, first } => play_schedules(rt, alloc, output, count, first),
     }
 }
 
@@ -50,6 +53,20 @@ fn measure<W: Write>(
         Bench::Shift => shifts::calls(rt, alloc, count)?,
     };
     output.write_fmt(format_args!("{}: {measured}\n", bench.name()))?;
+    Ok(())
+}
+
+fn play_schedules<W: Write>(
+    clock: &impl Clock,
+    alloc: Global,
+    output: &mut W,
+    count: u64,
+    first: u64,
+) -> Result<()> {
+    let start = Instant::now(clock)?;
+    let counts = play_seeds(alloc, first, count)?;
+    let measured = Measured::since(clock, start, count)?;
+    output.write_fmt(format_args!("schedules: {measured}; {counts}\n"))?;
     Ok(())
 }
 

@@ -1,4 +1,4 @@
-//! Each growth refused in turn: of a call, of a noted entry and of the settling.
+//! Each growth refused in turn: of a call, of a noted entry, of room in a tally and of the settling.
 ghost use Rattle.std.specs.Prelude.{◌≡◌};
 
 use crate::altered::with_reply;
@@ -209,5 +209,35 @@ fn each_growth_is_refused_in_turn(rt: HostRuntime) -> Result<(), Fail> {
     assert!(rt; scarcity.budgets(&rt, alloc, &wanted)? > 20);
     assert!(rt; scarcity.notes > 0);
     assert!(rt; scarcity.settlings > 0);
+    Ok(())
+}
+
+// Whether so many bytes are enough for room for sixteen entries. Fails unless the tally is as it was where they aren't, and has
+// room then with ample memory.
+fn is_enough_room(alloc: Global, ballast: &mut Ballast, left: usize) -> Result<bool, Fail> {
+    let mut tally = Tally::new(alloc);
+    ballast.leave(left)?;
+    let is_made = tally.reserve(16).is_ok();
+    ballast.ease();
+    if !tally.entries().is_empty() || tally.reserve(16).is_err() {
+        return Err(Fail::new("another tally"));
+    }
+    Ok(is_made)
+}
+
+// How many budgets are not enough for it, each of sixteen bytes more than the one before.
+fn count_rooms(alloc: Global, ballast: &mut Ballast) -> Result<usize, Fail> {
+    for step in 0..100_000usize {
+        if is_enough_room(alloc, ballast, step * 16)? {
+            return Ok(step);
+        }
+    }
+    Err(Fail::new("always refused"))
+}
+
+#[test]
+fn room_in_a_tally_is_refused_in_turn(rt: HostRuntime) -> Result<(), Fail> {
+    let mut ballast = Ballast::new(rt.alloc())?;
+    assert!(rt; count_rooms(rt.alloc(), &mut ballast)? > 16);
     Ok(())
 }

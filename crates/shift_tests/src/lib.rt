@@ -2,9 +2,11 @@
 //!
 //! Two sessions meet at the hub while their jobs are held until both are there; the lines of a session stay in their order,
 //! and no job of it overtakes another; a writer that fails ends its own session alone; many sessions with many calls
-//! settle; each growth is refused in turn. What the sessions are answered comes from the rules of the exchange.
+//! settle; each growth is refused in turn; sessions and workers take turns in orders that are drawn. What the sessions are answered comes from the rules of the exchange.
 #![tactic(auto)]
 
+#[cfg(test)]
+mod drawn;
 #[cfg(test)]
 mod gates;
 #[cfg(test)]

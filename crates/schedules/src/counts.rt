@@ -1,0 +1,61 @@
+//! How much was tried.
+
+use crate::player::Player;
+use std::fmt::{self, Display, Formatter, Write};
+
+/// How much of each came in schedules.
+#[derive(Clone, Copy, Debug, Default, PartialEq, Eq)]
+pub struct Counts {
+    pub sessions: u64,
+    /// Lines that were read.
+    pub lines: u64,
+    /// Calls that were answered.
+    pub calls: u64,
+    /// How often a job found no place in its lane.
+    pub full_lanes: u64,
+    /// How often memory was refused, to a session or to the hub.
+    pub refusals: u64,
+    /// Answers of strangers.
+    pub strangers: u64,
+    /// Sessions that took no answer any more.
+    pub broken: u64,
+}
+
+impl Counts {
+    /// Counts a session and its lines.
+    pub(crate) fn add_session(&mut self, player: &Player) {
+        self.sessions = self.sessions.saturating_add(1);
+        self.lines = self.lines.saturating_add(player.readings.len() as u64);
+    }
+
+    /// Adds those of another schedule.
+    pub(crate) fn add(&mut self, other: Counts) {
+        self.sessions = self.sessions.saturating_add(other.sessions);
+        self.lines = self.lines.saturating_add(other.lines);
+        self.calls = self.calls.saturating_add(other.calls);
+        self.full_lanes = self.full_lanes.saturating_add(other.full_lanes);
+        self.refusals = self.refusals.saturating_add(other.refusals);
+        self.strangers = self.strangers.saturating_add(other.strangers);
+        self.broken = self.broken.saturating_add(other.broken);
+    }
+}
+
+impl Display for Counts {
+    fn fmt<W: Write>(&self, f: &mut Formatter<W>) -> fmt::Result {
+        let Counts {
+            sessions,
+            lines,
+            calls,
+            full_lanes,
+            refusals,
+            strangers,
+            broken,
+        } = self;
+        write!(f, "{sessions} sessions, {lines} lines, {calls} calls; ")?;
+        write!(
+            f,
+            "{full_lanes} full lanes, {refusals} refusals of memory, "
+        )?;
+        write!(f, "{strangers} strangers, {broken} broken off")
+    }
+}

@@ -1,0 +1,38 @@
+//! What is found wrong.
+
+use taf_codes::Memory;
+use thiserror::Error;
+
+/// What is wrong in a schedule.
+#[derive(Clone, Copy, Debug, PartialEq, Eq, Error)]
+pub enum ScheduleFault {
+    /// Memory was refused where it was not scarce. Nothing is known of the schedule.
+    #[error("memory was refused")]
+    Memory,
+    /// The session said another line than in lock step.
+    #[error("session {0} says another line than in lock step")]
+    Line(u32),
+    /// The session has another tally than in lock step.
+    #[error("session {0} has another tally than in lock step")]
+    Tally(u32),
+    /// Lines or jobs are left, and nothing goes on.
+    #[error("nothing goes on")]
+    Stuck,
+    /// Each answer was told, and the tallies don't settle; or some were not told, and another fault is found than that.
+    #[error("the tallies do not settle as they are to")]
+    Settling,
+}
+
+/// The seed of a schedule in which something is wrong.
+#[derive(Clone, Copy, Debug, PartialEq, Eq, Error)]
+#[error("seed {seed}: {fault}")]
+pub struct SeedFault {
+    pub seed: u64,
+    pub fault: ScheduleFault,
+}
+
+impl From<Memory> for ScheduleFault {
+    fn from(_: Memory) -> ScheduleFault {
+        ScheduleFault::Memory
+    }
+}

@@ -1,0 +1,266 @@
+//! One schedule.
+
+use crate::counts::Counts;
+use crate::draws::Draws;
+use crate::fault::ScheduleFault;
+use crate::lane::Lane;
+use crate::lines::draw_lines;
+use crate::lock_step::lock_step;
+use crate::player::Player;
+use crate::scarcity::Scarcity;
+use hub_core::Hub;
+use hub_shared::{SettleFault, Tally, settle};
+use inbox::Job;
+use session_lines::Done;
+use std::alloc::Global;
+use taf_codes::Memory;
+
+// How many sessions and workers there are at most.
+const MOST_SESSIONS: usize = 64;
+
+const MOST_WORKERS: usize = 8;
+
+// How many rounds are enough for all that is left.
+const MOST_ROUNDS: usize = 1_000_000;
+
+/// Sessions and workers that take turns. The hub lies on the heap, since what owns one itself takes the prover long.
+#[derive(Drop)]
+pub(crate) struct Schedule<'b> {
+    alloc: Global,
+    draws: Draws,
+    scarcity: Scarcity<'b>,
+    hub: Box<Hub>,
+    players: Vec<Player>,
+    lanes: Vec<Lane>,
+    /// So many turns of four are those of workers.
+    worker_turns: usize,
+    /// One turn of a session in so many ends it before its lines do. None does where this is 0.
+    ending_odds: usize,
+    counts: Counts,
+}
+
+impl<'b> Schedule<'b> {
+    /// Draws sessions with their lines, and lanes with their places.
+    pub(crate) fn new(
+        alloc: Global,
+        draws: Draws,
+        scarcity: Scarcity<'b>,
+    ) -> Result<Schedule<'b>, Memory> {
+        let mut draws = draws;
+        let mut players = Vec::new(alloc);
+        for id in 0..draws.below(MOST_SESSIONS) + 1 {
+            let lines = draw_lines(alloc, &mut draws)?;
+            players.push(Player::new(alloc, id as u32, lines)?)?;
+        }
+        let mut lanes = Vec::new(alloc);
+        for _ in 0..draws.below(MOST_WORKERS) + 1 {
+            lanes.push(Lane::new(alloc, 1 + draws.below(MOST_SESSIONS)))?;
+        }
+        Ok(Schedule {
+            alloc,
+            scarcity,
+            hub: Box::new(alloc, Hub::new(alloc))?,
+            players,
+            lanes,
+            worker_turns: 1 + draws.below(3),
+            ending_odds: 100 * draws.below(4),
+            draws,
+            counts: Counts::default(),
+        })
+    }
+
+    // The lane of a session puts its job, if one waits and there is a place. None where no job waits.
+    fn put(&mut self, session: usize) -> Result<Option<bool>, Memory> {
+        let lane = match self.lanes.len() {
+            0 => 0,
+            lanes => session % lanes,
+        };
+        let (Some(player), Some(lane)) = (self.players.get_mut(session), self.lanes.get_mut(lane))
+        else {
+            return Ok(None);
+        };
+        if !player.is_waiting() {
+            return Ok(None);
+        }
+        let is_put = player.put(lane)?;
+        self.counts.full_lanes += u64::from(!is_put);
+        Ok(Some(is_put))
+    }
+
+    // A session ends before its lines do: it reads no more, it breaks off, or a stranger's answer comes.
+    fn end_early(&mut self, session: usize) -> Result<bool, Memory> {
+        let Some(player) = self.players.get_mut(session) else {
+            return Ok(false);
+        };
+        match self.draws.below(4) {
+            0 => {
+                player.stop_reading();
+                Ok(true)
+            }
+            1 => {
+                let is_broken = player.break_off();
+                self.counts.broken += u64::from(is_broken);
+                Ok(is_broken)
+            }
+            other => {
+                let is_stranger = player.take_stranger(other == 2)?;
+                self.counts.strangers += u64::from(is_stranger);
+                Ok(is_stranger)
+            }
+        }
+    }
+
+    // A turn of a session. Whether it did anything.
+    fn take_turn(&mut self, session: usize) -> Result<bool, Memory> {
+        if let Some(is_put) = self.put(session)? {
+            return Ok(is_put);
+        }
+        if self.ending_odds > 0 && self.draws.once_in(self.ending_odds) {
+            return self.end_early(session);
+        }
+        let Some(player) = self.players.get_mut(session) else {
+            return Ok(false);
+        };
+        match self.draws.below(4) {
+            0 | 1 => player.read(&mut self.draws, &mut self.scarcity),
+            2 => player.take(&mut self.draws, &mut self.scarcity),
+            _ => player.say_held(),
+        }
+    }
+
+    // A session goes on in whatever way it can. Whether it can.
+    fn go_on(&mut self, session: usize) -> Result<bool, Memory> {
+        if let Some(is_put) = self.put(session)? {
+            return Ok(is_put);
+        }
+        let Some(player) = self.players.get_mut(session) else {
+            return Ok(false);
+        };
+        Ok(
+            player.say_held()?
+                || player.take(&mut self.draws, &mut self.scarcity)?
+                || player.read(&mut self.draws, &mut self.scarcity)?,
+        )
+    }
+
+    // The hub answers a job.
+    fn answer(&mut self, job: Job) -> Done {
+        let Job {
+            session,
+            index,
+            call,
+        } = job;
+        self.scarcity.begin(&mut self.draws);
+        let answer = self.hub.apply(call);
+        self.scarcity.end();
+        self.counts.refusals += u64::from(answer.is_err());
+        Done {
+            session,
+            index,
+            answer,
+        }
+    }
+
+    // A turn of a worker. Whether it had a job.
+    fn work(&mut self, worker: usize) -> Result<bool, Memory> {
+        let Some(job) = self.lanes.get_mut(worker).and_then(Lane::take) else {
+            return Ok(false);
+        };
+        let done = self.answer(job);
+        if let Some(player) = self.players.get_mut(done.session as usize) {
+            player.arrive(done)?;
+        }
+        Ok(true)
+    }
+
+    // Sessions and workers take turns that are drawn.
+    fn take_turns(&mut self) -> Result<(), Memory> {
+        let (sessions, workers) = (self.players.len(), self.lanes.len());
+        if sessions == 0 || workers == 0 {
+            return Ok(());
+        }
+        for _ in 0..self.draws.below(100) * sessions {
+            if self.draws.below(4) < self.worker_turns {
+                let worker = self.draws.below(workers);
+                self.work(worker)?;
+            } else {
+                let session = self.draws.below(sessions);
+                self.take_turn(session)?;
+            }
+        }
+        Ok(())
+    }
+
+    // All sessions go on as they can, and all workers. Whether any did anything.
+    fn play_round(&mut self) -> Result<bool, Memory> {
+        let mut has_done = false;
+        for session in 0..self.players.len() {
+            has_done |= self.go_on(session)?;
+        }
+        for worker in 0..self.lanes.len() {
+            has_done |= self.work(worker)?;
+        }
+        Ok(has_done)
+    }
+
+    /// Plays it: turns that are drawn, and then rounds until nothing is left to be done.
+    pub(crate) fn play(&mut self) -> Result<(), ScheduleFault> {
+        self.take_turns()?;
+        for _ in 0..MOST_ROUNDS {
+            if !self.play_round()? {
+                break;
+            }
+        }
+        if self.players.iter().all(Player::has_ended) {
+            Ok(())
+        } else {
+            Err(ScheduleFault::Stuck)
+        }
+    }
+
+    /// Fails unless each session said what it says in lock step and the tallies settle.
+    pub(crate) fn check(self) -> Result<Counts, ScheduleFault> {
+        let Schedule {
+            alloc,
+            hub,
+            players,
+            mut counts,
+            ..
+        } = self;
+        let mut tallies = Vec::new(alloc);
+        let mut is_told = true;
+        for player in players {
+            counts.add_session(&player);
+            let beside = lock_step(alloc, &player)?;
+            counts.refusals += beside.refusals as u64;
+            let (id, replied) = (player.id, player.replied);
+            let tally = player.end();
+            if tally.entries() != beside.tally.entries() {
+                return Err(ScheduleFault::Tally(id));
+            }
+            is_told &= tally.entries().len() == replied;
+            if tallies.push(tally).is_err() {
+                return Err(ScheduleFault::Memory);
+            }
+        }
+        counts.calls = hub.len() as u64;
+        check_settling(alloc, &hub, tallies.as_slice(), is_told)?;
+        Ok(counts)
+    }
+}
+
+// Fails unless the tallies settle where each answer was told, and else have too few entries.
+fn check_settling(
+    alloc: Global,
+    hub: &Hub,
+    tallies: &[Tally],
+    is_told: bool,
+) -> Result<(), ScheduleFault> {
+    match settle(alloc, hub, tallies) {
+        Ok(settled) if is_told && settled.calls == hub.len() as u64 => Ok(()),
+        Err(SettleFault::CountDiffers { history, told })
+            if !is_told && history == hub.len() as u64 && told < u128::from(history) => { Ok(()) }
+        Err(SettleFault::Memory) => Err(ScheduleFault::Memory),
+        _ => Err(ScheduleFault::Settling),
+    }
+}

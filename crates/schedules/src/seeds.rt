@@ -1,0 +1,48 @@
+//! Schedules of many seeds.
+
+use crate::counts::Counts;
+use crate::draws::Draws;
+use crate::fault::{ScheduleFault, SeedFault};
+use crate::scarcity::Scarcity;
+use crate::schedule::Schedule;
+use ballast::Ballast;
+use std::alloc::Global;
+
+// Plays the schedule of a seed.
+fn play(alloc: Global, draws: Draws, scarcity: Scarcity<'_>) -> Result<Counts, ScheduleFault> {
+    let mut schedule = Schedule::new(alloc, draws, scarcity)?;
+    schedule.play()?;
+    schedule.check()
+}
+
+// Plays the schedule of a seed. Memory is scarce now and then in two schedules of three.
+fn play_seed(alloc: Global, ballast: &mut Ballast, seed: u64) -> Result<Counts, ScheduleFault> {
+    let mut draws = Draws::new(seed);
+    let scarcity = match draws.below(3) {
+        0 => Scarcity::Never,
+        times => Scarcity::OnceIn(10 * times, ballast),
+    };
+    play(alloc, draws, scarcity)
+}
+
+/// Plays the schedules of so many seeds, from the first one on, and gives how much was tried. Ends at the first seed in whose
+/// schedule something is wrong. The first one is played twice, at first with ample memory: then the stack has its depth, which
+/// can't grow where no address space is left.
+pub fn play_seeds(alloc: Global, first: u64, count: u64) -> Result<Counts, SeedFault> {
+    let found = |seed: u64, fault: ScheduleFault| SeedFault { seed, fault };
+    if let Err(fault) = play(alloc, Draws::new(first), Scarcity::Never) {
+        return Err(found(first, fault));
+    }
+    let Ok(mut ballast) = Ballast::new(alloc) else {
+        return Err(found(first, ScheduleFault::Memory));
+    };
+    let mut counts = Counts::default();
+    for place in 0..count {
+        let seed = first.wrapping_add(place);
+        match play_seed(alloc, &mut ballast, seed) {
+            Ok(more) => counts.add(more),
+            Err(fault) => return Err(found(seed, fault)),
+        }
+    }
+    Ok(counts)
+}

@@ -1,0 +1,19 @@
+//! Sessions and workers that take turns in an order that is drawn.
+
+use schedules::{Counts, play_seeds};
+use std::test::Fail;
+
+// The seeds are those from 1 to this.
+const SEEDS: u64 = 200;
+
+// Whether all that goes wrong in schedules did.
+fn has_all(counts: Counts) -> bool {
+    counts.full_lanes > 0 && counts.refusals > 0 && counts.strangers > 0 && counts.broken > 0
+}
+
+#[test]
+fn drawn_orders_mean_lock_step(rt: HostRuntime) -> Result<(), Fail> {
+    let counts = play_seeds(rt.alloc(), 1, SEEDS)?;
+    assert!(rt; has_all(counts), "{counts}");
+    Ok(())
+}
