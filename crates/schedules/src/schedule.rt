@@ -23,6 +23,11 @@ const MOST_WORKERS: usize = 8;
 // How many rounds are enough for all that is left.
 const MOST_ROUNDS: usize = 1_000_000;
 
+// Counts one more, if there is.
+fn raise(count: &mut u64, is_more: bool) {
+    *count = count.saturating_add(u64::from(is_more));
+}
+
 /// Sessions and workers that take turns. The hub lies on the heap, since what owns one itself takes the prover long.
 #[derive(Drop)]
 pub(crate) struct Schedule<'b> {
@@ -83,7 +88,7 @@ impl<'b> Schedule<'b> {
             return Ok(None);
         }
         let is_put = player.put(lane)?;
-        self.counts.full_lanes += u64::from(!is_put);
+        raise(&mut self.counts.full_lanes, !is_put);
         Ok(Some(is_put))
     }
 
@@ -99,12 +104,12 @@ impl<'b> Schedule<'b> {
             }
             1 => {
                 let is_broken = player.break_off();
-                self.counts.broken += u64::from(is_broken);
+                raise(&mut self.counts.broken, is_broken);
                 Ok(is_broken)
             }
             other => {
                 let is_stranger = player.take_stranger(other == 2)?;
-                self.counts.strangers += u64::from(is_stranger);
+                raise(&mut self.counts.strangers, is_stranger);
                 Ok(is_stranger)
             }
         }
@@ -153,7 +158,7 @@ impl<'b> Schedule<'b> {
         self.scarcity.begin(&mut self.draws);
         let answer = self.hub.apply(call);
         self.scarcity.end();
-        self.counts.refusals += u64::from(answer.is_err());
+        raise(&mut self.counts.refusals, answer.is_err());
         Done {
             session,
             index,
@@ -179,7 +184,7 @@ impl<'b> Schedule<'b> {
         if sessions == 0 || workers == 0 {
             return Ok(());
         }
-        for _ in 0..self.draws.below(100) * sessions {
+        for _ in 0..self.draws.below(100).saturating_mul(sessions) {
             if self.draws.below(4) < self.worker_turns {
                 let worker = self.draws.below(workers);
                 self.work(worker)?;
@@ -232,7 +237,7 @@ impl<'b> Schedule<'b> {
         for player in players {
             counts.add_session(&player);
             let beside = lock_step(alloc, &player)?;
-            counts.refusals += beside.refusals as u64;
+            counts.refusals = counts.refusals.saturating_add(beside.refusals as u64);
             let (id, replied) = (player.id, player.replied);
             let tally = player.end();
             if tally.entries() != beside.tally.entries() {
