@@ -100,29 +100,32 @@ fn a_taken_port_is_a_fault(rt: HostRuntime) -> Result<(), Fail> {
     Ok(())
 }
 
-// The status of a shift of three railways of which so many connect, on a listener that waits for no other.
-fn status_of_some<H>(rt: &H, connected: usize) -> Result<u8, Fail>
+// The status of a shift of three railways of which so many connect, on a listener that then waits for no other.
+fn status_of_some<H>(rt: &H, listener: &TcpListener, connected: usize) -> Result<u8, Fail>
 where
     H: Net + Threads + Wait + Sync + AllocGlobal,
 {
-    let listener = TcpListener::bind(rt, (Ipv4Addr::LOCALHOST, 0))?;
+    let Some(size) = ShiftSize::new(3, 2) else {
+        return Err(Fail::new("no size"));
+    };
     let mut clients = Vec::new(rt.alloc());
     for _ in 0..connected {
         clients.push(TcpStream::connect(rt, listener.local_addr()?)?)?;
     }
     listener.set_nonblocking(true)?;
-    let Some(size) = ShiftSize::new(3, 2) else {
-        return Err(Fail::new("no size"));
-    };
     let (output, mut errors) = (Vec::new(rt.alloc()), Vec::new(rt.alloc()));
-    Ok(serve_on(rt, &listener, size, output, &mut errors))
+    Ok(serve_on(rt, listener, size, output, &mut errors))
 }
 
 // Each accept fails in turn.
 #[test]
 fn an_accept_that_fails_is_a_fault(rt: HostRuntime) -> Result<(), Fail> {
     for connected in 0..3usize {
-        assert!(rt; status_of_some(&rt, connected)? == 5, "at {connected}");
+        let listener = TcpListener::bind(&rt, (Ipv4Addr::LOCALHOST, 0))?;
+        assert!(rt;
+            status_of_some(&rt, &listener, connected)? == 5,
+            "at {connected}"
+        );
     }
     Ok(())
 }
