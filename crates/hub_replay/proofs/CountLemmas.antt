@@ -8,22 +8,22 @@ use Rattle.hub_replay.specs.declared.counts.Counts.{Counts}
 use Rattle.call_lines.specs.declared.parsed.ParsedLine.{ParsedLine}
 use Rattle.call_lines.specs.declared.parsed.ParsedLine.TheVariants.{Blank, TooLong, Fault, Called}
 use Rattle.call_lines.specs.Lines.{fault_text}
-use Rattle.hub_replay.specs.Lines.{heard_in}
-use Rattle.hub_replay.specs.Outcomes.{Outcome, outcome, faulted, replied, entry_of, is_told, Answers, start_of}
+use Rattle.hub_replay.specs.Lines.{parsed_lines}
+use Rattle.hub_replay.specs.Outcomes.{Outcome, outcome, faulted, replied, entry_of, is_answered, Answers, start_of}
 
 -- lines that lead from one outcome to another
 record IsCounted (o p : Outcome) (hs : List ParsedLine) : Type 0 where
-  lines : p.counts.lines ≡ o.counts.lines + count_by is_told hs
+  lines : p.counts.lines ≡ o.counts.lines + count_by is_answered hs
   calls : length p.entries + o.counts.calls ≡ length o.entries + p.counts.calls
   sum : p.counts.lines + (o.counts.calls + o.counts.faults) ≡ o.counts.lines + (p.counts.calls + p.counts.faults)
 
-told_more : (h : ParsedLine) (hs : List ParsedLine) → is_told h ≡ true → count_by is_told (h ∷ hs) ≡ 1 + count_by is_told hs
-told_more h hs e = sum_by-cons (λ x. cond (is_told x) 1 0) h hs ∙ ap (λ t. cond t 1 0 + count_by is_told hs) e
+answered_more : (h : ParsedLine) (hs : List ParsedLine) → is_answered h ≡ true → count_by is_answered (h ∷ hs) ≡ 1 + count_by is_answered hs
+answered_more h hs e = sum_by-cons (λ x. cond (is_answered x) 1 0) h hs ∙ ap (λ t. cond t 1 0 + count_by is_answered hs) e
 
-fault_more : (o p : Outcome) (text : List ℕ) (h : ParsedLine) (hs : List ParsedLine) → is_told h ≡ true → IsCounted (faulted o text) p hs → IsCounted o p (h ∷ hs)
+fault_more : (o p : Outcome) (text : List ℕ) (h : ParsedLine) (hs : List ParsedLine) → is_answered h ≡ true → IsCounted (faulted o text) p hs → IsCounted o p (h ∷ hs)
 unfolding faulted
 fault_more o p text h hs e c = record {
-  lines = omega (arith, c.lines, told_more h hs e);
+  lines = omega (arith, c.lines, answered_more h hs e);
   calls = c.calls;
   sum = omega (arith, c.sum);
 }
@@ -33,7 +33,7 @@ unfolding replied
 call_more o p call hs c =
     let grown : length (o.entries ++ entry_of o.entries call ∷ []) ≡ length o.entries + 1 = length-append o.entries (entry_of o.entries call ∷ []) in
     record {
-      lines = omega (arith, c.lines, told_more (Called call) hs refl);
+      lines = omega (arith, c.lines, answered_more (Called call) hs refl);
       calls = omega (arith, c.calls, grown);
       sum = omega (arith, c.sum);
     }
@@ -49,11 +49,11 @@ counted o (Called call ∷ hs) =
       | false ↦ fault_more o _ _ (Called call) hs refl (counted (faulted o (codes "{\"fault\":\"hub_full\"}")) hs)
     ]
 
-whole : (old : List Entry) (read : List ℕ) (new : List Entry) (written : List ℕ) (counts : Counts) → Answers old read new written counts → IsCounted (start_of old) (record { entries = new; output = written; counts = counts }) (heard_in read)
-whole old read new written counts a = subst (λ p. IsCounted (start_of old) p (heard_in read)) a (counted (start_of old) (heard_in read))
+whole : (old : List Entry) (read : List ℕ) (new : List Entry) (written : List ℕ) (counts : Counts) → Answers old read new written counts → IsCounted (start_of old) (record { entries = new; output = written; counts = counts }) (parsed_lines read)
+whole old read new written counts a = subst (λ p. IsCounted (start_of old) p (parsed_lines read)) a (counted (start_of old) (parsed_lines read))
 
 -- the counts of a whole run
-pub counts_lines : (old : List Entry) (read : List ℕ) (new : List Entry) (written : List ℕ) (counts : Counts) → Answers old read new written counts → counts.lines ≡ count_by is_told (heard_in read)
+pub counts_lines : (old : List Entry) (read : List ℕ) (new : List Entry) (written : List ℕ) (counts : Counts) → Answers old read new written counts → counts.lines ≡ count_by is_answered (parsed_lines read)
 counts_lines old read new written counts a = let c = whole old read new written counts a in omega (arith, c.lines)
 
 pub counts_calls : (old : List Entry) (read : List ℕ) (new : List Entry) (written : List ℕ) (counts : Counts) → Answers old read new written counts → length new ≡ length old + counts.calls

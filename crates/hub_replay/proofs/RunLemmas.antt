@@ -7,15 +7,15 @@ use Rattle.std.specs.Io.KnownBytes.{Appends, Keeps}
 use Rattle.taf_messages.specs.declared.call.Call.{Call}
 use Rattle.hub_model.specs.declared.entry.Entry.{Entry}
 use Rattle.hub_replay.specs.declared.counts.Counts.{Counts}
-use Rattle.hub_replay.specs.declared.desk.Desk.{Desk}
+use Rattle.hub_replay.specs.declared.output.Output.{Output}
 use Rattle.call_lines.specs.declared.parsed.ParsedLine.{ParsedLine}
 use Rattle.call_lines.specs.declared.parsed.ParsedLine.TheVariants.{Blank, TooLong, Fault, Called}
 use Rattle.hub_replay.specs.declared.fault.RunFault.{RunFault}
 use Rattle.hub_replay.specs.declared.fault.RunFault.TheVariants.{Read, Write, NoEnd, Memory}
 use Rattle.call_lines.specs.Lines.{reply_text}
-use Rattle.hub_replay.specs.Lines.{heard_in}
+use Rattle.hub_replay.specs.Lines.{parsed_lines}
 use Rattle.hub_replay.specs.Outcomes.{Outcome, outcome, after, faulted, replied, entry_of, one_fault_more, one_call_more, IsStopped, start_of, Answers}
-use Rattle.hub_replay.specs.Running.{IsUnderway, Goes, Stops, ComesLate, ComesOf}
+use Rattle.hub_replay.specs.Running.{IsUnderway, Advances, StopsWithin, IsLateFault, ExplainsFault}
 use Rattle.hub_replay.proofs.StreamLemmas.{Appends-none, Appends-kept, Appends-append}
 
 pub outcome-append : (o : Outcome) (xs ys : List ParsedLine) → outcome o (xs ++ ys) ≡ outcome (outcome o xs) ys
@@ -41,10 +41,10 @@ grows o (h ∷ hs) =
 -- a stop stays one when more lines follow
 pub IsStopped-more : (start : Outcome) (hs more : List ParsedLine) (written : List ℕ) (entries : List Entry) → IsStopped start hs written entries → IsStopped start (hs ++ more) written entries
 IsStopped-more start hs more written entries s = record {
-  told = s.told;
+  complete = s.complete;
   last = s.last;
   rest = s.rest ++ more;
-  split = ap (λ l. l ++ more) s.split ∙ append_assoc s.told (s.last ++ s.rest) more ∙ ap (λ l. s.told ++ l) (append_assoc s.last s.rest more);
+  split = ap (λ l. l ++ more) s.split ∙ append_assoc s.complete (s.last ++ s.rest) more ∙ ap (λ l. s.complete ++ l) (append_assoc s.last s.rest more);
   cut = s.cut;
   begins = s.begins;
   lacks = s.lacks;
@@ -56,10 +56,10 @@ IsStopped-more start hs more written entries s = record {
 -- Where a run is underway it may stop, with any front of what is pending written.
 pub IsStopped-underway : (start : Outcome) (hs : List ParsedLine) (written : List ℕ) (entries : List Entry) (front back : List ℕ) (counts : Counts) → IsUnderway start hs written entries (front ++ back) counts → IsStopped start hs (written ++ front) entries
 IsStopped-underway start hs written entries front back counts u = record {
-  told = u.told;
+  complete = u.complete;
   last = u.rest;
   rest = [];
-  split = u.split ∙ ap (λ l. u.told ++ l) (sym (append-nil u.rest));
+  split = u.split ∙ ap (λ l. u.complete ++ l) (sym (append-nil u.rest));
   cut = front;
   begins = ap (λ l. l ++ front) (sym u.flushed);
   lacks = back;
@@ -72,7 +72,7 @@ IsStopped-underway start hs written entries front back counts u = record {
 pub IsUnderway-flushed : (start : Outcome) (hs : List ParsedLine) (written : List ℕ) (entries : List Entry) (pending : List ℕ) (counts : Counts) → IsUnderway start hs written entries pending counts → IsUnderway start hs (written ++ pending) entries [] counts
 IsUnderway-flushed start hs written entries pending counts u = record {
   sum = u.sum ∙ ap (λ l. record { entries = entries; output = l; counts = counts }) (sym (append-nil (written ++ pending)));
-  told = hs;
+  complete = hs;
   rest = [];
   split = sym (append-nil hs);
   flushed = ap (λ (o : Outcome). o.output) u.sum;
@@ -83,39 +83,39 @@ IsUnderway-flushed start hs written entries pending counts u = record {
 pub IsUnderway-said : (start : Outcome) (hs : List ParsedLine) (h : ParsedLine) (written : List ℕ) (entries : List Entry) (pending pending' : List ℕ) (counts counts' : Counts) → IsUnderway start hs written entries pending counts → after (record { entries = entries; output = written ++ pending; counts = counts }) h ≡ record { entries = entries; output = written ++ pending'; counts = counts' } → IsUnderway start (hs ++ h ∷ []) written entries pending' counts'
 IsUnderway-said start hs h written entries pending pending' counts counts' u e = record {
   sum = outcome-append start hs (h ∷ []) ∙ ap (λ o. after o h) u.sum ∙ e;
-  told = u.told;
+  complete = u.complete;
   rest = u.rest ++ h ∷ [];
-  split = ap (λ l. l ++ h ∷ []) u.split ∙ append_assoc u.told u.rest (h ∷ []);
+  split = ap (λ l. l ++ h ∷ []) u.split ∙ append_assoc u.complete u.rest (h ∷ []);
   flushed = u.flushed;
   answered = u.answered;
 }
 
 -- one after the other
-pub Goes-none : (c : Option (List ℕ)) (e : List Entry) (d : Desk) → Goes c c e d e d []
-Goes-none c e d = record { goes = λ start before written u. ([], Appends-none c, rw (append-nil before, append-nil written) u) }
+pub Advances-none : (c : Option (List ℕ)) (e : List Entry) (d : Output) → Advances c c e d e d []
+Advances-none c e d = record { advances = λ start before written u. ([], Appends-none c, rw (append-nil before, append-nil written) u) }
 
 -- nothing is written, and the writer keeps what it has
-pub Goes-kept : (c₀ c₁ : Option (List ℕ)) (e : List Entry) (d : Desk) → Keeps c₀ c₁ → Goes c₀ c₁ e d e d []
-Goes-kept c₀ c₁ e d k = record { goes = λ start before written u. ([], Appends-kept c₀ c₁ k, rw (append-nil before, append-nil written) u) }
+pub Advances-kept : (c₀ c₁ : Option (List ℕ)) (e : List Entry) (d : Output) → Keeps c₀ c₁ → Advances c₀ c₁ e d e d []
+Advances-kept c₀ c₁ e d k = record { advances = λ start before written u. ([], Appends-kept c₀ c₁ k, rw (append-nil before, append-nil written) u) }
 
-pub Goes-append : {c₀ c₁ c₂ : Option (List ℕ)} {e₀ e₁ e₂ : List Entry} {d₀ d₁ d₂ : Desk} {xs ys : List ParsedLine} → Goes c₀ c₁ e₀ d₀ e₁ d₁ xs → Goes c₁ c₂ e₁ d₁ e₂ d₂ ys → Goes c₀ c₂ e₀ d₀ e₂ d₂ (xs ++ ys)
-Goes-append {c₀} {c₁} {c₂} {e₀} {e₁} {e₂} {d₀} {d₁} {d₂} {xs} {ys} a b = record {
-  goes = λ start before written u.
-      let p = a.goes start before written u in
-      let q = b.goes start (before ++ xs) (written ++ p.0) p.2 in
+pub Advances-append : {c₀ c₁ c₂ : Option (List ℕ)} {e₀ e₁ e₂ : List Entry} {d₀ d₁ d₂ : Output} {xs ys : List ParsedLine} → Advances c₀ c₁ e₀ d₀ e₁ d₁ xs → Advances c₁ c₂ e₁ d₁ e₂ d₂ ys → Advances c₀ c₂ e₀ d₀ e₂ d₂ (xs ++ ys)
+Advances-append {c₀} {c₁} {c₂} {e₀} {e₁} {e₂} {d₀} {d₁} {d₂} {xs} {ys} a b = record {
+  advances = λ start before written u.
+      let p = a.advances start before written u in
+      let q = b.advances start (before ++ xs) (written ++ p.0) p.2 in
       (p.0 ++ q.0, Appends-append c₀ c₁ c₂ p.0 q.0 p.1 q.1, rw (← append_assoc before xs ys, ← append_assoc written p.0 q.0) q.2);
 }
 
-pub Stops-after : {c₀ c₁ c₂ : Option (List ℕ)} {e₀ e₁ e₂ : List Entry} {d₀ d₁ : Desk} {xs ys : List ParsedLine} → Goes c₀ c₁ e₀ d₀ e₁ d₁ xs → Stops c₁ c₂ e₁ d₁ e₂ ys → Stops c₀ c₂ e₀ d₀ e₂ (xs ++ ys)
-Stops-after {c₀} {c₁} {c₂} {e₀} {e₁} {e₂} {d₀} {d₁} {xs} {ys} a b = record {
+pub StopsWithin-after : {c₀ c₁ c₂ : Option (List ℕ)} {e₀ e₁ e₂ : List Entry} {d₀ d₁ : Output} {xs ys : List ParsedLine} → Advances c₀ c₁ e₀ d₀ e₁ d₁ xs → StopsWithin c₁ c₂ e₁ d₁ e₂ ys → StopsWithin c₀ c₂ e₀ d₀ e₂ (xs ++ ys)
+StopsWithin-after {c₀} {c₁} {c₂} {e₀} {e₁} {e₂} {d₀} {d₁} {xs} {ys} a b = record {
   stops = λ start before written u.
-      let p = a.goes start before written u in
+      let p = a.advances start before written u in
       let q = b.stops start (before ++ xs) (written ++ p.0) p.2 in
       (p.0 ++ q.0, Appends-append c₀ c₁ c₂ p.0 q.0 p.1 q.1, rw (← append_assoc before xs ys, ← append_assoc written p.0 q.0) q.2);
 }
 
-pub Stops-more : {c₀ c₁ : Option (List ℕ)} {e₀ e₁ : List Entry} {d₀ : Desk} {xs : List ParsedLine} (ys : List ParsedLine) → Stops c₀ c₁ e₀ d₀ e₁ xs → Stops c₀ c₁ e₀ d₀ e₁ (xs ++ ys)
-Stops-more {c₀} {c₁} {e₀} {e₁} {d₀} {xs} ys a = record {
+pub StopsWithin-more : {c₀ c₁ : Option (List ℕ)} {e₀ e₁ : List Entry} {d₀ : Output} {xs : List ParsedLine} (ys : List ParsedLine) → StopsWithin c₀ c₁ e₀ d₀ e₁ xs → StopsWithin c₀ c₁ e₀ d₀ e₁ (xs ++ ys)
+StopsWithin-more {c₀} {c₁} {e₀} {e₁} {d₀} {xs} ys a = record {
   stops = λ start before written u.
       let p = a.stops start before written u in
       (p.0, p.1, rw (← append_assoc before xs ys) (IsStopped-more start (before ++ xs) ys (written ++ p.0) e₁ p.2));
@@ -124,15 +124,15 @@ Stops-more {c₀} {c₁} {e₀} {e₁} {d₀} {xs} ys a = record {
 -- a call whose reply's line is written too
 pub IsUnderway-replied : (start : Outcome) (hs : List ParsedLine) (call : Call) (written : List ℕ) (entries entries' : List Entry) (pending pending' : List ℕ) (counts counts' : Counts) → IsUnderway start hs written entries pending counts → length entries < 1000000 → entries' ≡ entries ++ entry_of entries call ∷ [] → pending' ≡ pending ++ (reply_text (entry_of entries call).reply ++ 10 ∷ []) → counts' ≡ one_call_more counts → outcome start (hs ++ Called call ∷ []) ≡ record { entries = entries'; output = written ++ pending'; counts = counts' }
 unfolding replied
-IsUnderway-replied start hs call written entries entries' pending pending' counts counts' u room e p k =
-    let fits : nat_lt (length entries) 1000000 ≡ true = lt-ltb (length entries) 1000000 room in
+IsUnderway-replied start hs call written entries entries' pending pending' counts counts' u buffer e p k =
+    let fits : nat_lt (length entries) 1000000 ≡ true = lt-ltb (length entries) 1000000 buffer in
     outcome-append start hs (Called call ∷ []) ∙ ap (λ o. after o (Called call)) u.sum ∙ rw (fits, e, p, k) (ap (λ l. record { entries = entries ++ entry_of entries call ∷ []; output = l; counts = one_call_more counts }) (append_assoc written pending (reply_text (entry_of entries call).reply ++ 10 ∷ [])))
 
 -- a state in which all is written
-pub IsUnderway-told : (start : Outcome) (hs : List ParsedLine) (written : List ℕ) (entries : List Entry) (counts : Counts) → outcome start hs ≡ record { entries = entries; output = written; counts = counts } → IsUnderway start hs written entries [] counts
-IsUnderway-told start hs written entries counts e = record {
+pub IsUnderway-complete : (start : Outcome) (hs : List ParsedLine) (written : List ℕ) (entries : List Entry) (counts : Counts) → outcome start hs ≡ record { entries = entries; output = written; counts = counts } → IsUnderway start hs written entries [] counts
+IsUnderway-complete start hs written entries counts e = record {
   sum = e ∙ ap (λ l. record { entries = entries; output = l; counts = counts }) (sym (append-nil written));
-  told = hs;
+  complete = hs;
   rest = [];
   split = sym (append-nil hs);
   flushed = ap (λ (o : Outcome). o.output) e;
@@ -142,12 +142,12 @@ IsUnderway-told start hs written entries counts e = record {
 -- a call that is in the history, and of whose reply and what was pending any front is written
 pub IsStopped-replied : (start : Outcome) (hs : List ParsedLine) (call : Call) (written : List ℕ) (entries entries' : List Entry) (pending front back : List ℕ) (counts counts' : Counts) → IsUnderway start hs written entries pending counts → outcome start (hs ++ Called call ∷ []) ≡ record { entries = entries'; output = written ++ (front ++ back); counts = counts' } → length entries' ≤ length entries + 1 → IsStopped start (hs ++ Called call ∷ []) (written ++ front) entries'
 IsStopped-replied start hs call written entries entries' pending front back counts counts' u e few =
-    let split : hs ++ Called call ∷ [] ≡ u.told ++ (u.rest ++ Called call ∷ []) = ap (λ l. l ++ Called call ∷ []) u.split ∙ append_assoc u.told u.rest (Called call ∷ []) in
+    let split : hs ++ Called call ∷ [] ≡ u.complete ++ (u.rest ++ Called call ∷ []) = ap (λ l. l ++ Called call ∷ []) u.split ∙ append_assoc u.complete u.rest (Called call ∷ []) in
     record {
-      told = u.told;
+      complete = u.complete;
       last = u.rest ++ Called call ∷ [];
       rest = [];
-      split = split ∙ ap (λ l. u.told ++ l) (sym (append-nil (u.rest ++ Called call ∷ [])));
+      split = split ∙ ap (λ l. u.complete ++ l) (sym (append-nil (u.rest ++ Called call ∷ [])));
       cut = front;
       begins = ap (λ l. l ++ front) (sym u.flushed);
       lacks = back;
@@ -162,51 +162,51 @@ said_as entries written pending pending' text counts counts' p k =
     rw (p, k) (ap (λ l. record { entries = entries; output = l; counts = one_fault_more counts }) (append_assoc written pending (text ++ 10 ∷ [])))
 
 -- a line that is answered by a fault
-pub Goes-said : (c : Option (List ℕ)) (e : List Entry) (d₀ d₁ : Desk) (h : ParsedLine) (text : List ℕ) → ((o : Outcome) → o.entries ≡ e → after o h ≡ faulted o text) → d₁.out.items ≡ d₀.out.items ++ (text ++ 10 ∷ []) → d₁.counts ≡ one_fault_more d₀.counts → Goes c c e d₀ e d₁ (h ∷ [])
-Goes-said c e d₀ d₁ h text same p k = record {
-  goes = λ start before written u.
-      let o : Outcome = record { entries = e; output = written ++ d₀.out.items; counts = d₀.counts } in
-      ([], Appends-none c, rw (append-nil written) (IsUnderway-said start before h written e d₀.out.items d₁.out.items d₀.counts d₁.counts u (same o refl ∙ said_as e written d₀.out.items d₁.out.items text d₀.counts d₁.counts p k)));
+pub Advances-said : (c : Option (List ℕ)) (e : List Entry) (d₀ d₁ : Output) (h : ParsedLine) (text : List ℕ) → ((o : Outcome) → o.entries ≡ e → after o h ≡ faulted o text) → d₁.pending.items ≡ d₀.pending.items ++ (text ++ 10 ∷ []) → d₁.counts ≡ one_fault_more d₀.counts → Advances c c e d₀ e d₁ (h ∷ [])
+Advances-said c e d₀ d₁ h text same p k = record {
+  advances = λ start before written u.
+      let o : Outcome = record { entries = e; output = written ++ d₀.pending.items; counts = d₀.counts } in
+      ([], Appends-none c, rw (append-nil written) (IsUnderway-said start before h written e d₀.pending.items d₁.pending.items d₀.counts d₁.counts u (same o refl ∙ said_as e written d₀.pending.items d₁.pending.items text d₀.counts d₁.counts p k)));
 }
 
 pub full_fault : (call : Call) (o : Outcome) (e : List Entry) → length e ≡ 1000000 → o.entries ≡ e → after o (Called call) ≡ faulted o (codes "{\"fault\":\"hub_full\"}")
 full_fault call o e full q = let t : nat_lt (length o.entries) 1000000 ≡ false = ap (λ n. nat_lt n 1000000) (ap length q ∙ full) in rw t refl
 
-pub Goes-blank : (c : Option (List ℕ)) (e : List Entry) (d : Desk) → Goes c c e d e d (Blank ∷ [])
-Goes-blank c e d = record {
-  goes = λ start before written u. ([], Appends-none c, rw (append-nil written) (IsUnderway-said start before Blank written e d.out.items d.out.items d.counts d.counts u refl));
+pub Advances-blank : (c : Option (List ℕ)) (e : List Entry) (d : Output) → Advances c c e d e d (Blank ∷ [])
+Advances-blank c e d = record {
+  advances = λ start before written u. ([], Appends-none c, rw (append-nil written) (IsUnderway-said start before Blank written e d.pending.items d.pending.items d.counts d.counts u refl));
 }
 
 -- nothing is done, and the run stops
-pub Stops-here : (c : Option (List ℕ)) (e : List Entry) (d : Desk) (hs : List ParsedLine) → Stops c c e d e hs
-Stops-here c e d hs = record {
-  stops = λ start before written u. ([], Appends-none c, IsStopped-more start before hs (written ++ []) e (IsStopped-underway start before written e [] d.out.items d.counts u));
+pub StopsWithin-here : (c : Option (List ℕ)) (e : List Entry) (d : Output) (hs : List ParsedLine) → StopsWithin c c e d e hs
+StopsWithin-here c e d hs = record {
+  stops = λ start before written u. ([], Appends-none c, IsStopped-more start before hs (written ++ []) e (IsStopped-underway start before written e [] d.pending.items d.counts u));
 }
 
-pub Stops-kept : (c₀ c₁ : Option (List ℕ)) (e : List Entry) (d : Desk) → Keeps c₀ c₁ → Stops c₀ c₁ e d e []
-Stops-kept c₀ c₁ e d k = record {
-  stops = λ start before written u. ([], Appends-kept c₀ c₁ k, IsStopped-more start before [] (written ++ []) e (IsStopped-underway start before written e [] d.out.items d.counts u));
+pub StopsWithin-kept : (c₀ c₁ : Option (List ℕ)) (e : List Entry) (d : Output) → Keeps c₀ c₁ → StopsWithin c₀ c₁ e d e []
+StopsWithin-kept c₀ c₁ e d k = record {
+  stops = λ start before written u. ([], Appends-kept c₀ c₁ k, IsStopped-more start before [] (written ++ []) e (IsStopped-underway start before written e [] d.pending.items d.counts u));
 }
 
 -- a front of what is pending is written, and the run stops
-pub Stops-flush : (c₀ c₁ : Option (List ℕ)) (e : List Entry) (d : Desk) (bytes front rest : List ℕ) → bytes ≡ d.out.items → bytes ≡ front ++ rest → Appends c₀ c₁ front → Stops c₀ c₁ e d e []
-Stops-flush c₀ c₁ e d bytes front rest same cut app = record {
+pub StopsWithin-flush : (c₀ c₁ : Option (List ℕ)) (e : List Entry) (d : Output) (bytes front rest : List ℕ) → bytes ≡ d.pending.items → bytes ≡ front ++ rest → Appends c₀ c₁ front → StopsWithin c₀ c₁ e d e []
+StopsWithin-flush c₀ c₁ e d bytes front rest same cut app = record {
   stops = λ start before written u. (front, app, rw (append-nil before) (IsStopped-underway start before written e front rest d.counts (rw (sym cut ∙ same) u)));
 }
 
 -- a call whose reply is said and written with what was pending
-pub Goes-replied : (c₀ c₁ : Option (List ℕ)) (e e' : List Entry) (d₀ d₁ : Desk) (call : Call) (bytes : List ℕ) → length e < 1000000 → e' ≡ e ++ entry_of e call ∷ [] → bytes ≡ d₀.out.items ++ (reply_text (entry_of e call).reply ++ 10 ∷ []) → d₁.counts ≡ one_call_more d₀.counts → d₁.out.items ≡ [] → Appends c₀ c₁ bytes → Goes c₀ c₁ e d₀ e' d₁ (Called call ∷ [])
-Goes-replied c₀ c₁ e e' d₀ d₁ call bytes room grown p k out app = record {
-  goes = λ start before written u.
-      (bytes, app, rw out (IsUnderway-told start (before ++ Called call ∷ []) (written ++ bytes) e' d₁.counts (IsUnderway-replied start before call written e e' d₀.out.items bytes d₀.counts d₁.counts u room grown p k)));
+pub Advances-replied : (c₀ c₁ : Option (List ℕ)) (e e' : List Entry) (d₀ d₁ : Output) (call : Call) (bytes : List ℕ) → length e < 1000000 → e' ≡ e ++ entry_of e call ∷ [] → bytes ≡ d₀.pending.items ++ (reply_text (entry_of e call).reply ++ 10 ∷ []) → d₁.counts ≡ one_call_more d₀.counts → d₁.pending.items ≡ [] → Appends c₀ c₁ bytes → Advances c₀ c₁ e d₀ e' d₁ (Called call ∷ [])
+Advances-replied c₀ c₁ e e' d₀ d₁ call bytes buffer grown p k pending app = record {
+  advances = λ start before written u.
+      (bytes, app, rw pending (IsUnderway-complete start (before ++ Called call ∷ []) (written ++ bytes) e' d₁.counts (IsUnderway-replied start before call written e e' d₀.pending.items bytes d₀.counts d₁.counts u buffer grown p k)));
 }
 
 -- the same, where only a front of that is written
-pub Stops-replied : (c₀ c₁ : Option (List ℕ)) (e e' : List Entry) (d₀ : Desk) (call : Call) (front back : List ℕ) → length e < 1000000 → e' ≡ e ++ entry_of e call ∷ [] → front ++ back ≡ d₀.out.items ++ (reply_text (entry_of e call).reply ++ 10 ∷ []) → Appends c₀ c₁ front → Stops c₀ c₁ e d₀ e' (Called call ∷ [])
-Stops-replied c₀ c₁ e e' d₀ call front back room grown p app = record {
+pub StopsWithin-replied : (c₀ c₁ : Option (List ℕ)) (e e' : List Entry) (d₀ : Output) (call : Call) (front back : List ℕ) → length e < 1000000 → e' ≡ e ++ entry_of e call ∷ [] → front ++ back ≡ d₀.pending.items ++ (reply_text (entry_of e call).reply ++ 10 ∷ []) → Appends c₀ c₁ front → StopsWithin c₀ c₁ e d₀ e' (Called call ∷ [])
+StopsWithin-replied c₀ c₁ e e' d₀ call front back buffer grown p app = record {
   stops = λ start before written u.
       let one : length e' ≤ length e + 1 = omega (arith, ap length grown ∙ length-append e (entry_of e call ∷ [])) in
-      (front, app, IsStopped-replied start before call written e e' d₀.out.items front back d₀.counts (one_call_more d₀.counts) u (IsUnderway-replied start before call written e e' d₀.out.items (front ++ back) d₀.counts _ u room grown p refl) one);
+      (front, app, IsStopped-replied start before call written e e' d₀.pending.items front back d₀.counts (one_call_more d₀.counts) u (IsUnderway-replied start before call written e e' d₀.pending.items (front ++ back) d₀.counts _ u buffer grown p refl) one);
 }
 
 pub on_ok : {A E : Type 0} (r : Result A E) {P Q R : Type 0} → OnOk r P → OnOk r Q → (P → Q → R) → OnOk r R
@@ -214,34 +214,34 @@ on_ok (Ok x) p q f = f p q
 on_ok (Err e) p q f = tt
 
 -- memory that is refused ends a run with no failure of the writer
-pub comes_late : {A : Type 0} (r : Result A RunFault) (failures : ℕ) → IfErr r (λ f. f ≡ Memory) → IfErr r (λ f. ComesLate f failures failures)
-comes_late (Ok x) failures h = tt
-comes_late (Err f) failures h = subst (λ (f : RunFault). ComesLate f failures failures) (sym h) refl
+pub late_fault : {A : Type 0} (r : Result A RunFault) (failures : ℕ) → IfErr r (λ f. f ≡ Memory) → IfErr r (λ f. IsLateFault f failures failures)
+late_fault (Ok x) failures h = tt
+late_fault (Err f) failures h = subst (λ (f : RunFault). IsLateFault f failures failures) (sym h) refl
 
 pub on_err : {A E : Type 0} (r : Result A E) {R : Type 0} → R → OnErr r R
 on_err (Ok x) h = tt
 on_err (Err e) h = h
 
-pub Stops-err : {A E : Type 0} (r : Result A E) {c₀ c₁ : Option (List ℕ)} {e₀ e₁ : List Entry} {d₀ : Desk} {xs ys : List ParsedLine} → ys ≡ xs → Stops c₀ c₁ e₀ d₀ e₁ xs → OnErr r (Stops c₀ c₁ e₀ d₀ e₁ ys)
-Stops-err r e s = on_err r (rw e s)
+pub StopsWithin-err : {A E : Type 0} (r : Result A E) {c₀ c₁ : Option (List ℕ)} {e₀ e₁ : List Entry} {d₀ : Output} {xs ys : List ParsedLine} → ys ≡ xs → StopsWithin c₀ c₁ e₀ d₀ e₁ xs → OnErr r (StopsWithin c₀ c₁ e₀ d₀ e₁ ys)
+StopsWithin-err r e s = on_err r (rw e s)
 
 -- a whole run begins at nothing
-begun : (e : List Entry) (d : Desk) → d.out.items ≡ [] → d.counts ≡ record { lines = 0; calls = 0; faults = 0 } → IsUnderway (start_of e) [] [] e d.out.items d.counts
-begun e d out counts = rw (out, counts) (record { sum = refl; told = []; rest = []; split = refl; flushed = refl; answered = refl })
+begun : (e : List Entry) (d : Output) → d.pending.items ≡ [] → d.counts ≡ record { lines = 0; calls = 0; faults = 0 } → IsUnderway (start_of e) [] [] e d.pending.items d.counts
+begun e d pending counts = rw (pending, counts) (record { sum = refl; complete = []; rest = []; split = refl; flushed = refl; answered = refl })
 
-pub stopped : {c₀ c₁ : Option (List ℕ)} {e₀ e₁ : List Entry} {d₀ : Desk} (xs : List ParsedLine) → d₀.out.items ≡ [] → d₀.counts ≡ record { lines = 0; calls = 0; faults = 0 } → Stops c₀ c₁ e₀ d₀ e₁ xs → (written : List ℕ) × Appends c₀ c₁ written × IsStopped (start_of e₀) xs written e₁
-stopped {c₀} {c₁} {e₀} {e₁} {d₀} xs out counts s = s.stops (start_of e₀) [] [] (begun e₀ d₀ out counts)
+pub stopped : {c₀ c₁ : Option (List ℕ)} {e₀ e₁ : List Entry} {d₀ : Output} (xs : List ParsedLine) → d₀.pending.items ≡ [] → d₀.counts ≡ record { lines = 0; calls = 0; faults = 0 } → StopsWithin c₀ c₁ e₀ d₀ e₁ xs → (written : List ℕ) × Appends c₀ c₁ written × IsStopped (start_of e₀) xs written e₁
+stopped {c₀} {c₁} {e₀} {e₁} {d₀} xs pending counts s = s.stops (start_of e₀) [] [] (begun e₀ d₀ pending counts)
 
-pub ended : {c₀ c₁ : Option (List ℕ)} {e₀ e₁ : List Entry} {d₀ d₁ : Desk} (read : List ℕ) (xs : List ParsedLine) (told : Counts) → d₀.out.items ≡ [] → d₀.counts ≡ record { lines = 0; calls = 0; faults = 0 } → d₁.out.items ≡ [] → told ≡ d₁.counts → heard_in read ≡ xs → Goes c₀ c₁ e₀ d₀ e₁ d₁ xs → (written : List ℕ) × Appends c₀ c₁ written × Answers e₀ read e₁ written told
-ended {c₀} {c₁} {e₀} {e₁} {d₀} {d₁} read xs told out counts none same e g =
-    let p = g.goes (start_of e₀) [] [] (begun e₀ d₀ out counts) in
+pub ended : {c₀ c₁ : Option (List ℕ)} {e₀ e₁ : List Entry} {d₀ d₁ : Output} (read : List ℕ) (xs : List ParsedLine) (counted : Counts) → d₀.pending.items ≡ [] → d₀.counts ≡ record { lines = 0; calls = 0; faults = 0 } → d₁.pending.items ≡ [] → counted ≡ d₁.counts → parsed_lines read ≡ xs → Advances c₀ c₁ e₀ d₀ e₁ d₁ xs → (written : List ℕ) × Appends c₀ c₁ written × Answers e₀ read e₁ written counted
+ended {c₀} {c₁} {e₀} {e₁} {d₀} {d₁} read xs counted pending counts none same e g =
+    let p = g.advances (start_of e₀) [] [] (begun e₀ d₀ pending counts) in
     (p.0, p.1, ap (outcome (start_of e₀)) e ∙ p.2.sum ∙ ap (λ l. record { entries = e₁; output = p.0 ++ l; counts = d₁.counts }) none ∙ ap (λ l. record { entries = e₁; output = l; counts = d₁.counts }) (append-nil p.0) ∙ ap (λ k. record { entries = e₁; output = p.0; counts = k }) (sym same))
 
-pub late : (f : RunFault) (r₀ r₁ w₀ w w₁ n : ℕ) → ComesLate f w w₁ → r₁ ≡ r₀ → w ≡ w₀ → n ≤ 2 ^ 40 → ComesOf f r₀ r₁ w₀ w₁ n
+pub late : (f : RunFault) (r₀ r₁ w₀ w w₁ n : ℕ) → IsLateFault f w w₁ → r₁ ≡ r₀ → w ≡ w₀ → n ≤ 2 ^ 40 → ExplainsFault f r₀ r₁ w₀ w₁ n
 late Read r₀ r₁ w₀ w w₁ n h read same le = absurd h
 late Write r₀ r₁ w₀ w w₁ n h read same le = (read, omega (arith, h, same), le)
 late NoEnd r₀ r₁ w₀ w w₁ n h read same le = absurd h
 late Memory r₀ r₁ w₀ w w₁ n h read same le = (read, h ∙ same, le)
 
-pub Stops-as : {c₀ c₁ : Option (List ℕ)} {e₀ e₁ : List Entry} {d₀ : Desk} {xs ys : List ParsedLine} → ys ≡ xs → Stops c₀ c₁ e₀ d₀ e₁ xs → Stops c₀ c₁ e₀ d₀ e₁ ys
-Stops-as e s = rw e s
+pub StopsWithin-as : {c₀ c₁ : Option (List ℕ)} {e₀ e₁ : List Entry} {d₀ : Output} {xs ys : List ParsedLine} → ys ≡ xs → StopsWithin c₀ c₁ e₀ d₀ e₁ xs → StopsWithin c₀ c₁ e₀ d₀ e₁ ys
+StopsWithin-as e s = rw e s

@@ -14,26 +14,26 @@ lines_of [] = []
 lines_of (b ∷ bytes) = if b == 10 then [] ∷ lines_of bytes else onto_first b (lines_of bytes)
 
 -- what the lines of the bytes say
-abbrev pub heard_in : List ℕ → List ParsedLine
-heard_in bytes = map parsed (lines_of bytes)
+abbrev pub parsed_lines : List ℕ → List ParsedLine
+parsed_lines bytes = map parsed (lines_of bytes)
 
 -- what follows the first newline
-abbrev pub past : List ℕ → List ℕ
-past [] = []
-past (b ∷ bytes) = if b == 10 then bytes else past bytes
+abbrev pub after_newline : List ℕ → List ℕ
+after_newline [] = []
+after_newline (b ∷ bytes) = if b == 10 then bytes else after_newline bytes
 
 -- the bytes that count, where the rest of a line that is too long is skipped
-abbrev pub left : Bool → List ℕ → List ℕ
-left true bytes = past bytes
-left false bytes = bytes
+abbrev pub after_skipping : Bool → List ℕ → List ℕ
+after_skipping true bytes = after_newline bytes
+after_skipping false bytes = bytes
 
 -- The lines of the bytes say these things, up to the last newline or the end of a line that is too long. What is
 -- kept is the beginning of a line, or nothing where the rest of a line is skipped.
 pub record IsCut (bytes : List ℕ) (skipping : Bool) (hs : List ParsedLine) (skips : Bool) (kept : List ℕ) : Type 0 where
   pub whole : unbroken kept ≡ true
   pub bare : skips ≡ true → kept ≡ []
-  pub says : (more : List ℕ) → heard_in (left skipping (bytes ++ more)) ≡ hs ++ heard_in (left skips (kept ++ more))
+  pub says : (more : List ℕ) → parsed_lines (after_skipping skipping (bytes ++ more)) ≡ hs ++ parsed_lines (after_skipping skips (kept ++ more))
 
 -- These bytes say these things, and then what those bytes say, whatever follows.
 pub record IsTaken (bytes : List ℕ) (hs : List ParsedLine) (rest : List ℕ) : Type 0 where
-  pub says : (more : List ℕ) → heard_in (bytes ++ more) ≡ hs ++ heard_in (rest ++ more)
+  pub says : (more : List ℕ) → parsed_lines (bytes ++ more) ≡ hs ++ parsed_lines (rest ++ more)

@@ -8,7 +8,7 @@ use Rattle.hub_replay.specs.declared.counts.Counts.{Counts}
 use Rattle.call_lines.specs.declared.parsed.ParsedLine.{ParsedLine}
 use Rattle.call_lines.specs.declared.parsed.ParsedLine.TheVariants.{Blank, TooLong, Fault, Called}
 use Rattle.call_lines.specs.Lines.{fault_text, reply_text}
-use Rattle.hub_replay.specs.Lines.{heard_in}
+use Rattle.hub_replay.specs.Lines.{parsed_lines}
 
 -- the entries of the history, the bytes written so far, and the counts
 pub record Outcome : Type 0 where
@@ -50,9 +50,9 @@ after o (Fault fault) = faulted o (fault_text fault)
 after o (Called call) = if nat_lt (length o.entries) 1000000 then replied o call else faulted o (codes "{\"fault\":\"hub_full\"}")
 
 -- a line that is answered: all but the blank ones
-abbrev pub is_told : ParsedLine → Bool
-is_told Blank = false
-is_told _ = true
+abbrev pub is_answered : ParsedLine → Bool
+is_answered Blank = false
+is_answered _ = true
 
 -- what lines lead to
 abbrev pub outcome : Outcome → List ParsedLine → Outcome
@@ -63,24 +63,24 @@ start_of entries = record { entries = entries; output = []; counts = record { li
 
 -- the lines of what was read lead from the old entries to the new ones, with this written and counted
 abbrev pub Answers : List Entry → List ℕ → List Entry → List ℕ → Counts → Type 0
-Answers old read new written counts = outcome (start_of old) (heard_in read) ≡ record { entries = new; output = written; counts = counts }
+Answers old read new written counts = outcome (start_of old) (parsed_lines read) ≡ record { entries = new; output = written; counts = counts }
 
--- The lines were answered up to some place. What was written begins with the whole answers to the lines `told`, and
--- is a front of those to `told` and `last`. The entries are those that the calls among both lead to, and `last`
+-- The lines were answered up to some place. What was written begins with the whole answers to the lines `complete`, and
+-- is a front of those to `complete` and `last`. The entries are those that the calls among both lead to, and `last`
 -- brought at most one.
 pub record IsStopped (start : Outcome) (hs : List ParsedLine) (written : List ℕ) (entries : List Entry) : Type 0 where
-  pub told : List ParsedLine
+  pub complete : List ParsedLine
   pub last : List ParsedLine
   pub rest : List ParsedLine
-  pub split : hs ≡ told ++ (last ++ rest)
+  pub split : hs ≡ complete ++ (last ++ rest)
   pub cut : List ℕ
-  pub begins : written ≡ (outcome start told).output ++ cut
+  pub begins : written ≡ (outcome start complete).output ++ cut
   pub lacks : List ℕ
-  pub within : written ++ lacks ≡ (outcome start (told ++ last)).output
-  pub entered : entries ≡ (outcome start (told ++ last)).entries
-  pub one : length entries ≤ length (outcome start told).entries + 1
+  pub within : written ++ lacks ≡ (outcome start (complete ++ last)).output
+  pub entered : entries ≡ (outcome start (complete ++ last)).entries
+  pub one : length entries ≤ length (outcome start complete).entries + 1
 
 -- a call that was given to the hub: it is the last entry, with its reply, or the history is full
-abbrev pub IsEntered : List Entry → Call → List Entry → Option Reply → Type 0
-IsEntered old call new (Some reply) = (length old < 1000000) × (new ≡ old ++ entry_of old call ∷ []) × (reply ≡ (entry_of old call).reply)
-IsEntered old call new None = (length old ≡ 1000000) × (new ≡ old)
+abbrev pub IsApplied : List Entry → Call → List Entry → Option Reply → Type 0
+IsApplied old call new (Some reply) = (length old < 1000000) × (new ≡ old ++ entry_of old call ∷ []) × (reply ≡ (entry_of old call).reply)
+IsApplied old call new None = (length old ≡ 1000000) × (new ≡ old)

@@ -5,25 +5,25 @@
 //! lead to is defined in `specs/Outcomes.antt`, where lines begin and end in `specs/Lines.antt`, and what a line says in
 //! `call_lines`.
 //!
-//! Lines are heard in spans: while those of a span are answered, a thread of its own hears those of the next, where the
-//! reader gave as many. Of what was read at once the first span has about 16,384 bytes, and each other a quarter as many
+//! Lines are parsed in batches: while those of a batch are answered, a thread of its own parses those of the next, where the
+//! reader gave as many. Of what was read at once the first batch has about 16,384 bytes, and each other a quarter as many
 //! more than the one before, up to 1,048,576. The hub is called by the one thread that calls [`run`], in the order of the lines.
 //!
-//! Of the input no more than 4,259,840 bytes are held at once, beside what the lines of two spans say, and of the output
+//! Of the input no more than 4,259,840 bytes are held at once, beside what the lines of two batches say, and of the output
 //! the lines of one call and of the faults before it. Each reply is handed to the writer before the next call goes to the
 //! hub, and the writer is flushed before more input is read, so that one who waits for a reply before he writes his next
 //! line gets it.
 #![tactic(auto)]
 
+mod answer_line;
+mod answering;
+mod batch;
+mod chunks;
 mod counts;
-mod desk;
 mod fault;
-mod listener;
-mod pieces;
+mod line_parser;
+mod output;
 mod replay;
-mod span;
-mod telling;
-mod turn;
 
 pub use counts::Counts;
 pub use fault::RunFault;

@@ -2,26 +2,26 @@
 ghost use Rattle.std.specs.Prelude.{◌≡◌, ℕ, ◌+◌, ◌*◌, ◌-◌, ◌<◌, ◌≤◌, ◌^◌, ◌++◌, [], List, length, take, slice_range, OnOk, OnErr, IfOk, IfErr};
 ghost use Rattle.std.specs.List.{count_by};
 ghost use Rattle.std.specs.Io.KnownBytes.{Appends, Consumes, IsAtEnd};
-ghost use Rattle.hub_replay.specs.Lines.{heard_in};
-ghost use Rattle.hub_replay.specs.Outcomes.{Answers, IsStopped, is_told, start_of};
-ghost use Rattle.hub_replay.specs.Running.{ComesOf};
+ghost use Rattle.hub_replay.specs.Lines.{parsed_lines};
+ghost use Rattle.hub_replay.specs.Outcomes.{Answers, IsStopped, is_answered, start_of};
+ghost use Rattle.hub_replay.specs.Running.{ExplainsFault};
 
+use crate::answer_line::flush;
+use crate::chunks::{answer_chunk, finish};
 use crate::counts::Counts;
-use crate::desk::Desk;
 use crate::fault::RunFault;
-use crate::listener::Listener;
-use crate::pieces::{finish, take_piece};
-use crate::turn::flush;
+use crate::line_parser::LineParser;
+use crate::output::Output;
 use hub_core::Hub;
 use std::alloc::Global;
 use std::thread::Threads;
 use taf_codes::{Sink, Source};
 
 // How many bytes are asked for at once.
-const PIECE: usize = 4_194_304;
+const CHUNK: usize = 4_194_304;
 
-// The longest beginning of a line that is kept, and a piece.
-const ROOM: usize = 4_259_840;
+// The longest beginning of a line that is kept, and a chunk.
+const BUFFER: usize = 4_259_840;
 
 /// How many bytes of a reader are read at most.
 pub const MOST_BYTES: u64 = 1 << 40;
@@ -32,7 +32,7 @@ pub const MOST_BYTES: u64 = 1 << 40;
 /// to its call, by `line_too_long` if it has more than 65,536 bytes, else by its fault if it is no call, or by
 /// `hub_full` where the history has 1,000,000 entries. No call enters the history by a fault line.
 ///
-/// Where many lines were read at once, a thread of its own hears the next ones while some are answered; the reader,
+/// Where many lines were read at once, a thread of its own parses the next ones while some are answered; the reader,
 /// the writer and the hub are called by this thread alone. Each reply is pushed before the next call is given to
 /// the hub. The writer is flushed before each pull and at the end; a flush that fails is [`RunFault::Write`]. The
 /// reader is read for at most 2^40 bytes, and where they have no end, [`RunFault::NoEnd`] is the answer. After a
@@ -51,95 +51,98 @@ pub fn run<R: Source, W: Sink>(
         × Answers hub.old read hub.new written counts) }
     // Lines that aren't blank were counted, each as a call that is in the history now or as a fault.
     ensures lines { IfOk result (λ counts. (read : List ℕ) × Consumes (R.remaining reader.old) (R.remaining reader.new) read
-        × (counts.lines ≡ count_by is_told (heard_in read))) }
+        × (counts.lines ≡ count_by is_answered (parsed_lines read))) }
     ensures calls { IfOk result (λ counts. length hub.new ≡ length hub.old + counts.calls) }
     ensures faults { IfOk result (λ counts. counts.lines ≡ counts.calls + counts.faults) }
 
     // No read, write or flush failed.
-    ensures kept { OnOk result ((R.failures reader.new ≡ R.failures reader.old) × (W.failures writer.new ≡ W.failures writer.old)) }
+    ensures kept { OnOk result ((R.failures reader.new ≡ R.failures reader.old)
+        × (W.failures writer.new ≡ W.failures writer.old)) }
 
     // Some bytes were read, and the answers to their lines were written up to some place.
     ensures err { IfErr result (λ fault. (read written : List ℕ)
         × Consumes (R.remaining reader.old) (R.remaining reader.new) read
         × Appends (W.contents writer.old) (W.contents writer.new) written
-        × IsStopped (start_of hub.old) (heard_in read) written hub.new
-        × ComesOf fault (R.failures reader.old) (R.failures reader.new) (W.failures writer.old) (W.failures writer.new) (length read)) }
+        × IsStopped (start_of hub.old) (parsed_lines read) written hub.new
+        × ExplainsFault fault (R.failures reader.old) (R.failures reader.new) (W.failures writer.old) (W.failures writer.new) (length read)) }
 {
-    let mut desk = Desk::new(alloc);
-    let mut listener = Listener::new(rt, alloc);
-    let Ok(mut room) = vec![in alloc; 0u8; ROOM] else {
+    let mut output = Output::new(alloc);
+    let mut line_parser = LineParser::new(rt, alloc);
+    let Ok(mut buffer) = vec![in alloc; 0u8; BUFFER] else {
         return Err(RunFault::Memory);
     };
-    let room = room.as_mut_slice();
-    let mut held: usize = 0;
+    let buffer = buffer.as_mut_slice();
+    let mut kept_len: usize = 0;
     let mut skipping = false;
     let mut total: u64 = 0;
-    'pieces: while total < MOST_BYTES {
-        if let Err(fault) = flush(writer, &mut desk) {
+    'chunks: while total < MOST_BYTES {
+        if let Err(fault) = flush(writer, &mut output) {
             return Err(fault);
         }
-        let count = match pull_piece(reader, room, held, MOST_BYTES - total) {
+        let count = match read_chunk(reader, buffer, kept_len, MOST_BYTES - total) {
             Ok(count) => count,
             Err(fault) => return Err(fault),
         };
         if count == 0 {
-            let counts = match finish(writer, hub, &mut desk, &room[..held]) {
+            let counts = match finish(writer, hub, &mut output, &buffer[..kept_len]) {
                 Ok(counts) => counts,
                 Err(fault) => return Err(fault),
             };
             return Ok(counts);
         }
         total += count as u64;
-        let end = held + count;
-        let rest = match take_piece(
-            &mut listener,
+        let end = kept_len + count;
+        let rest = match answer_chunk(
+            &mut line_parser,
             writer,
             hub,
-            &mut desk,
-            &room[..end],
-            held,
+            &mut output,
+            &buffer[..end],
+            kept_len,
             skipping,
         ) {
             Ok(rest) => rest,
             Err(fault) => return Err(fault),
         };
-        move_to_front(room, rest.start, end);
-        held = end - rest.start;
+        move_to_front(buffer, rest.start, end);
+        kept_len = end - rest.start;
         skipping = rest.skipping;
     }
     Err(RunFault::NoEnd)
 }
 
 // Reads some bytes behind the first ones, no more than so many. None is the end.
-fn pull_piece<R: Source>(
+fn read_chunk<R: Source>(
     reader: &mut R,
-    room: &mut [u8],
-    held: usize,
+    buffer: &mut [u8],
+    kept_len: usize,
     most: u64,
 ) -> Result<usize, RunFault>
-    requires room { held + 4194304 ≤ length room.old }
+    requires space { kept_len + 4194304 ≤ length buffer.old }
     requires some { 0 < most }
     ensures bounds { IfOk result (λ n. (n ≤ 4194304) × (n ≤ most)) }
-    ensures bytes { IfOk result (λ n. Consumes (R.remaining reader.old) (R.remaining reader.new) (slice_range room.new held (held + n))) }
+    ensures bytes { IfOk result (λ n. Consumes (R.remaining reader.old) (R.remaining reader.new)
+        (slice_range buffer.new kept_len (kept_len + n))) }
     ensures end { IfOk result (λ n. n ≡ 0 → IsAtEnd (R.remaining reader.new)) }
-    ensures kept { take held room.new ≡ take held room.old }
+    ensures kept { take kept_len buffer.new ≡ take kept_len buffer.old }
     ensures nothing { OnErr result (Consumes (R.remaining reader.old) (R.remaining reader.new) []) }
-    ensures fault { IfErr result (λ f. (f ≡ RunFault.Read) × (R.failures reader.new ≡ R.failures reader.old + 1)) }
+    ensures fault { IfErr result (λ f. (f ≡ RunFault.Read)
+        × (R.failures reader.new ≡ R.failures reader.old + 1)) }
     ensures same { OnOk result (R.failures reader.new ≡ R.failures reader.old) }
 {
-    let size = most.min(PIECE as u64) as usize;
-    match reader.pull(&mut room[held..held + size]) {
+    let size = most.min(CHUNK as u64) as usize;
+    match reader.pull(&mut buffer[kept_len..kept_len + size]) {
         Ok(count) => Ok(count),
         Err(_) => Err(RunFault::Read),
     }
 }
 
 // Moves what is left to the front.
-fn move_to_front(room: &mut [u8], start: usize, end: usize)
-    requires { (start ≤ end) × (end ≤ length room.old) }
-    ensures { take (end - start) room.new ≡ slice_range room.old start end }
+fn move_to_front(buffer: &mut [u8], start: usize, end: usize)
+    requires { (start ≤ end) × (end ≤ length buffer.old) }
+    ensures { take (end - start) buffer.new ≡ slice_range buffer.old start end }
 {
     if start > 0 {
-        room.copy_within(start..end, 0);
+        buffer.copy_within(start..end, 0);
     }
 }

@@ -1,74 +1,74 @@
 use Rattle.std.proofs.Common.{◌≡◌, ◌+◌, ◌≤◌, ◌++◌, [], ap, sym, ◌∙◌, refl, arith, append-nil, take, length, length-append, List, ℕ}
 use Rattle.std.specs.List.{slice_range}
-use Rattle.hub_replay.specs.Lines.{heard_in}
-use Rattle.hub_replay.specs.Running.{tally}
+use Rattle.hub_replay.specs.Lines.{parsed_lines}
+use Rattle.hub_replay.specs.Running.{line_total}
 use Rattle.hub_replay.proofs.StreamLemmas.{Consumes-none, Consumes-append}
-use Rattle.hub_replay.proofs.LineLemmas.{IsCut-none, IsCut-more, heard_all, heard_more, piece_split, length-piece, held_none, nothing_more, rest_kept}
+use Rattle.hub_replay.proofs.LineLemmas.{IsCut-none, IsCut-more, parsed_all, parsed_more, chunk_split, length-chunk, nothing_kept, nothing_more, rest_kept}
 use Rattle.std.proofs.lemmas.List.{length-take-le}
-use Rattle.hub_replay.proofs.RunLemmas.{Goes-none, Goes-append, Stops-here, Stops-after, Stops-more, Stops-as, stopped, ended, late}
+use Rattle.hub_replay.proofs.RunLemmas.{Advances-none, Advances-append, StopsWithin-here, StopsWithin-after, StopsWithin-more, StopsWithin-as, stopped, ended, late}
 use Rattle.hub_replay.proofs.CountLemmas.{counts_lines, counts_calls, counts_sum}
 use Rattle.hub_replay.proofs.replay.run.Goals as goal
 
 pub returns-in_default-clause-err : goal.returns-in_default-clause-err
 returns-in_default-clause-err g c =
-    let s = stopped (heard_in []) c.new-desk.ensures.out c.new-desk.ensures.counts (Stops-here _ c.args.hub.now c.new-desk.result _) in
+    let s = stopped (parsed_lines []) c.new-output.ensures.pending c.new-output.ensures.counts (StopsWithin-here _ c.args.hub.now c.new-output.result _) in
     ([], s.0, Consumes-none _, s.1, s.2, (refl, refl, omega arith))
 
-pub pieces-init : goal.pieces-init
-pieces-init g c = (
+pub chunks-init : goal.chunks-init
+chunks-init g c = (
   omega arith,
-  c.as_mut_slice-room.ensures.len ∙ c.in-Ok.ensures.len,
+  c.as_mut_slice-buffer.ensures.len ∙ c.in-Ok.ensures.len,
   omega arith,
-  omega (arith, ap tally c.new-desk.ensures.counts),
+  omega (arith, ap line_total c.new-output.ensures.counts),
   refl,
   refl,
-  ([], [], refl, Consumes-none _, IsCut-none, Goes-none _ c.args.hub.now c.new-desk.result),
+  ([], [], refl, Consumes-none _, IsCut-none, Advances-none _ c.args.hub.now c.new-output.result),
 )
 
-pub take_piece-requires-clause-bare : goal.take_piece-requires-clause-bare
-take_piece-requires-clause-bare g c =
-    let i = c.pieces.invariant in
-    λ e. held_none c.pieces.room c.pieces.held (omega (arith, i.0, i.1)) (i.6.4.bare e)
+pub answer_chunk-requires-clause-bare : goal.answer_chunk-requires-clause-bare
+answer_chunk-requires-clause-bare g c =
+    let i = c.chunks.invariant in
+    λ e. nothing_kept c.chunks.buffer c.chunks.kept_len (omega (arith, i.0, i.1)) (i.6.4.bare e)
 
 pub returns-in-Err-clause-err : goal.returns-in-Err-clause-err
 returns-in-Err-clause-err g c =
-    let i = c.pieces.invariant in
+    let i = c.chunks.invariant in
     let r = i.6 in
-    let all = heard_all r.0 (take c.pieces.held c.pieces.room) r.1 c.pieces.skipping r.4 in
-    let stop = Stops-more (heard_in (take c.pieces.held c.pieces.room)) (rw (append-nil r.1) at (Stops-after r.5 (c.in-Err.ensures.err c.pieces.hub))) in
-    let s = stopped (heard_in r.0) c.new-desk.ensures.out c.new-desk.ensures.counts (Stops-as all stop) in
+    let all = parsed_all r.0 (take c.chunks.kept_len c.chunks.buffer) r.1 c.chunks.skipping r.4 in
+    let stop = StopsWithin-more (parsed_lines (take c.chunks.kept_len c.chunks.buffer)) (rw (append-nil r.1) at (StopsWithin-after r.5 (c.in-Err.ensures.err c.chunks.hub))) in
+    let s = stopped (parsed_lines r.0) c.new-output.ensures.pending c.new-output.ensures.counts (StopsWithin-as all stop) in
     (r.0, s.0, r.3, s.1, s.2, late c.in-Err.fault _ _ _ _ _ (length r.0) c.in-Err.ensures.fault i.4 i.5 (omega (arith, r.2, i.2)))
 
-pub returns-in-Err-pull_piece-clause-err : goal.returns-in-Err-pull_piece-clause-err
-returns-in-Err-pull_piece-clause-err g c =
-    let i = c.pieces.invariant in
+pub returns-in-Err-read_chunk-clause-err : goal.returns-in-Err-read_chunk-clause-err
+returns-in-Err-read_chunk-clause-err g c =
+    let i = c.chunks.invariant in
     let r = i.6 in
-    let f = c.in-Err-pull_piece.ensures in
-    let goes = rw (append-nil r.1) at (Goes-append r.5 (c.in_default-flush.ensures.ok c.pieces.hub)) in
-    let all = heard_all r.0 (take c.pieces.held c.pieces.room) r.1 c.pieces.skipping r.4 in
-    let s = stopped (heard_in r.0) c.new-desk.ensures.out c.new-desk.ensures.counts (Stops-as all (Stops-after goes (Stops-here _ _ _ (heard_in (take c.pieces.held c.pieces.room))))) in
+    let f = c.in-Err-read_chunk.ensures in
+    let advances = rw (append-nil r.1) at (Advances-append r.5 (c.in_default-flush.ensures.ok c.chunks.hub)) in
+    let all = parsed_all r.0 (take c.chunks.kept_len c.chunks.buffer) r.1 c.chunks.skipping r.4 in
+    let s = stopped (parsed_lines r.0) c.new-output.ensures.pending c.new-output.ensures.counts (StopsWithin-as all (StopsWithin-after advances (StopsWithin-here _ _ _ (parsed_lines (take c.chunks.kept_len c.chunks.buffer))))) in
     let used = rw (append-nil r.0) at (Consumes-append _ _ _ r.0 [] r.3 f.nothing) in
-    (r.0, s.0, used, s.1, s.2, rw (f.fault.0) (omega (arith, f.fault.1, i.4), c.in_default-flush.ensures.kept ∙ i.5, omega (arith, r.2, c.pieces-test.true)))
+    (r.0, s.0, used, s.1, s.2, rw (f.fault.0) (omega (arith, f.fault.1, i.4), c.in_default-flush.ensures.kept ∙ i.5, omega (arith, r.2, c.chunks-test.true)))
 
 pub returns-clause-err : goal.returns-clause-err
 returns-clause-err g c =
-    let i = c.pieces.invariant in
+    let i = c.chunks.invariant in
     let r = i.6 in
-    let all = heard_all r.0 (take c.pieces.held c.pieces.room) r.1 c.pieces.skipping r.4 in
-    let s = stopped (heard_in r.0) c.new-desk.ensures.out c.new-desk.ensures.counts (Stops-as all (Stops-after r.5 (Stops-here _ _ _ (heard_in (take c.pieces.held c.pieces.room))))) in
-    (r.0, s.0, r.3, s.1, s.2, (i.4, i.5, omega (arith, r.2, i.2, c.pieces-test.false)))
+    let all = parsed_all r.0 (take c.chunks.kept_len c.chunks.buffer) r.1 c.chunks.skipping r.4 in
+    let s = stopped (parsed_lines r.0) c.new-output.ensures.pending c.new-output.ensures.counts (StopsWithin-as all (StopsWithin-after r.5 (StopsWithin-here _ _ _ (parsed_lines (take c.chunks.kept_len c.chunks.buffer))))) in
+    (r.0, s.0, r.3, s.1, s.2, (i.4, i.5, omega (arith, r.2, i.2, c.chunks-test.false)))
 
 pub returns-then-count-eq0-clause-ok : goal.returns-then-count-eq0-clause-ok
 returns-then-count-eq0-clause-ok g c =
-    let i = c.pieces.invariant in
+    let i = c.chunks.invariant in
     let r = i.6 in
-    let p = c.in-Ok-pull_piece.ensures in
+    let p = c.in-Ok-read_chunk.ensures in
     let f = c.in-Ok-finish.ensures in
-    let goes = rw (append-nil r.1) at (Goes-append r.5 (c.in_default-flush.ensures.ok c.pieces.hub)) in
-    let all : heard_in r.0 ≡ r.1 ++ heard_in (take c.pieces.held c.pull_piece.new.room) = heard_all r.0 (take c.pieces.held c.pieces.room) r.1 c.pieces.skipping r.4 ∙ ap (λ l. r.1 ++ heard_in l) (sym p.kept) in
-    let none : length (slice_range c.pull_piece.new.room c.pieces.held (c.pieces.held + c.in-Ok-pull_piece.count)) ≡ 0 = length-piece c.pull_piece.new.room c.pieces.held c.in-Ok-pull_piece.count (omega (arith, i.0, i.1, p.bounds.0, c.pull_piece.auto.room)) ∙ c.if-count-eq0.true in
+    let advances = rw (append-nil r.1) at (Advances-append r.5 (c.in_default-flush.ensures.ok c.chunks.hub)) in
+    let all : parsed_lines r.0 ≡ r.1 ++ parsed_lines (take c.chunks.kept_len c.read_chunk.new.buffer) = parsed_all r.0 (take c.chunks.kept_len c.chunks.buffer) r.1 c.chunks.skipping r.4 ∙ ap (λ l. r.1 ++ parsed_lines l) (sym p.kept) in
+    let none : length (slice_range c.read_chunk.new.buffer c.chunks.kept_len (c.chunks.kept_len + c.in-Ok-read_chunk.count)) ≡ 0 = length-chunk c.read_chunk.new.buffer c.chunks.kept_len c.in-Ok-read_chunk.count (omega (arith, i.0, i.1, p.bounds.0, c.read_chunk.auto.buffer)) ∙ c.if-count-eq0.true in
     let used = rw (nothing_more r.0 _ none) at (Consumes-append _ _ _ r.0 _ r.3 p.bytes) in
-    let s = ended r.0 _ c.in-Ok-finish.counts c.new-desk.ensures.out c.new-desk.ensures.counts f.empty f.counts all (Goes-append goes f.ok) in
+    let s = ended r.0 _ c.in-Ok-finish.counts c.new-output.ensures.pending c.new-output.ensures.counts f.empty f.counts all (Advances-append advances f.ok) in
     (r.0, s.0, used, p.end c.if-count-eq0.true, s.1, s.2)
 
 pub returns-then-count-eq0-clause-lines : goal.returns-then-count-eq0-clause-lines
@@ -88,57 +88,57 @@ returns-then-count-eq0-clause-faults g c =
 
 pub returns-then-count-eq0-clause-kept : goal.returns-then-count-eq0-clause-kept
 returns-then-count-eq0-clause-kept g c =
-    let i = c.pieces.invariant in
-    (c.in-Ok-pull_piece.ensures.same ∙ i.4, c.in-Ok-finish.ensures.kept ∙ c.in_default-flush.ensures.kept ∙ i.5)
+    let i = c.chunks.invariant in
+    (c.in-Ok-read_chunk.ensures.same ∙ i.4, c.in-Ok-finish.ensures.kept ∙ c.in_default-flush.ensures.kept ∙ i.5)
 
 pub returns-in-Err-finish-clause-err : goal.returns-in-Err-finish-clause-err
 returns-in-Err-finish-clause-err g c =
-    let i = c.pieces.invariant in
+    let i = c.chunks.invariant in
     let r = i.6 in
-    let p = c.in-Ok-pull_piece.ensures in
+    let p = c.in-Ok-read_chunk.ensures in
     let f = c.in-Err-finish.ensures in
-    let goes = rw (append-nil r.1) at (Goes-append r.5 (c.in_default-flush.ensures.ok c.pieces.hub)) in
-    let all : heard_in r.0 ≡ r.1 ++ heard_in (take c.pieces.held c.pull_piece.new.room) = heard_all r.0 (take c.pieces.held c.pieces.room) r.1 c.pieces.skipping r.4 ∙ ap (λ l. r.1 ++ heard_in l) (sym p.kept) in
-    let none : length (slice_range c.pull_piece.new.room c.pieces.held (c.pieces.held + c.in-Ok-pull_piece.count)) ≡ 0 = length-piece c.pull_piece.new.room c.pieces.held c.in-Ok-pull_piece.count (omega (arith, i.0, i.1, p.bounds.0, c.pull_piece.auto.room)) ∙ c.if-count-eq0.true in
+    let advances = rw (append-nil r.1) at (Advances-append r.5 (c.in_default-flush.ensures.ok c.chunks.hub)) in
+    let all : parsed_lines r.0 ≡ r.1 ++ parsed_lines (take c.chunks.kept_len c.read_chunk.new.buffer) = parsed_all r.0 (take c.chunks.kept_len c.chunks.buffer) r.1 c.chunks.skipping r.4 ∙ ap (λ l. r.1 ++ parsed_lines l) (sym p.kept) in
+    let none : length (slice_range c.read_chunk.new.buffer c.chunks.kept_len (c.chunks.kept_len + c.in-Ok-read_chunk.count)) ≡ 0 = length-chunk c.read_chunk.new.buffer c.chunks.kept_len c.in-Ok-read_chunk.count (omega (arith, i.0, i.1, p.bounds.0, c.read_chunk.auto.buffer)) ∙ c.if-count-eq0.true in
     let used = rw (nothing_more r.0 _ none) at (Consumes-append _ _ _ r.0 _ r.3 p.bytes) in
-    let s = stopped (heard_in r.0) c.new-desk.ensures.out c.new-desk.ensures.counts (Stops-as all (Stops-after goes f.err)) in
+    let s = stopped (parsed_lines r.0) c.new-output.ensures.pending c.new-output.ensures.counts (StopsWithin-as all (StopsWithin-after advances f.err)) in
     (r.0, s.0, used, s.1, s.2, late c.in-Err-finish.fault _ _ _ _ _ (length r.0) f.fault (p.same ∙ i.4) (c.in_default-flush.ensures.kept ∙ i.5) (omega (arith, r.2, i.2)))
 
-pub returns-in-Err-take_piece-clause-err : goal.returns-in-Err-take_piece-clause-err
-returns-in-Err-take_piece-clause-err g c =
-    let i = c.pieces.invariant in
+pub returns-in-Err-answer_chunk-clause-err : goal.returns-in-Err-answer_chunk-clause-err
+returns-in-Err-answer_chunk-clause-err g c =
+    let i = c.chunks.invariant in
     let r = i.6 in
-    let p = c.in-Ok-pull_piece.ensures in
-    let f = c.in-Err-take_piece.ensures in
-    let new : List ℕ = slice_range c.pull_piece.new.room c.pieces.held (c.pieces.held + c.in-Ok-pull_piece.count) in
-    let goes = rw (append-nil r.1) at (Goes-append r.5 (c.in_default-flush.ensures.ok c.pieces.hub)) in
-    let piece : take (c.pieces.held + c.in-Ok-pull_piece.count) c.pull_piece.new.room ≡ take c.pieces.held c.pieces.room ++ new = piece_split c.pull_piece.new.room c.pieces.held c.in-Ok-pull_piece.count ∙ ap (λ l. l ++ new) p.kept in
-    let size : length new ≡ c.in-Ok-pull_piece.count = length-piece c.pull_piece.new.room c.pieces.held c.in-Ok-pull_piece.count (omega (arith, i.0, i.1, p.bounds.0, c.pull_piece.auto.room)) in
-    let all = heard_more r.0 (take c.pieces.held c.pieces.room) new _ r.1 c.pieces.skipping r.4 piece in
-    let s = stopped (heard_in (r.0 ++ new)) c.new-desk.ensures.out c.new-desk.ensures.counts (Stops-as all (Stops-after goes f.err)) in
-    (r.0 ++ new, s.0, Consumes-append _ _ _ r.0 new r.3 p.bytes, s.1, s.2, late c.in-Err-take_piece.fault _ _ _ _ _ (length (r.0 ++ new)) f.fault (p.same ∙ i.4) (c.in_default-flush.ensures.kept ∙ i.5) (omega (arith, length-append r.0 new, size, r.2, i.2, p.bounds.1, c.pieces-test.true)))
+    let p = c.in-Ok-read_chunk.ensures in
+    let f = c.in-Err-answer_chunk.ensures in
+    let new : List ℕ = slice_range c.read_chunk.new.buffer c.chunks.kept_len (c.chunks.kept_len + c.in-Ok-read_chunk.count) in
+    let advances = rw (append-nil r.1) at (Advances-append r.5 (c.in_default-flush.ensures.ok c.chunks.hub)) in
+    let chunk : take (c.chunks.kept_len + c.in-Ok-read_chunk.count) c.read_chunk.new.buffer ≡ take c.chunks.kept_len c.chunks.buffer ++ new = chunk_split c.read_chunk.new.buffer c.chunks.kept_len c.in-Ok-read_chunk.count ∙ ap (λ l. l ++ new) p.kept in
+    let size : length new ≡ c.in-Ok-read_chunk.count = length-chunk c.read_chunk.new.buffer c.chunks.kept_len c.in-Ok-read_chunk.count (omega (arith, i.0, i.1, p.bounds.0, c.read_chunk.auto.buffer)) in
+    let all = parsed_more r.0 (take c.chunks.kept_len c.chunks.buffer) new _ r.1 c.chunks.skipping r.4 chunk in
+    let s = stopped (parsed_lines (r.0 ++ new)) c.new-output.ensures.pending c.new-output.ensures.counts (StopsWithin-as all (StopsWithin-after advances f.err)) in
+    (r.0 ++ new, s.0, Consumes-append _ _ _ r.0 new r.3 p.bytes, s.1, s.2, late c.in-Err-answer_chunk.fault _ _ _ _ _ (length (r.0 ++ new)) f.fault (p.same ∙ i.4) (c.in_default-flush.ensures.kept ∙ i.5) (omega (arith, length-append r.0 new, size, r.2, i.2, p.bounds.1, c.chunks-test.true)))
 
-pub pieces-preserved : goal.pieces-preserved
-pieces-preserved g c =
-    let i = c.pieces.invariant in
+pub chunks-preserved : goal.chunks-preserved
+chunks-preserved g c =
+    let i = c.chunks.invariant in
     let r = i.6 in
-    let p = c.in-Ok-pull_piece.ensures in
-    let f = c.in-Ok-take_piece.ensures in
-    let end : ℕ = c.pieces.held + c.in-Ok-pull_piece.count in
-    let new : List ℕ = slice_range c.pull_piece.new.room c.pieces.held end in
-    let room : end ≤ length c.pull_piece.new.room = omega (arith, i.0, i.1, p.bounds.0, c.pull_piece.auto.room) in
-    let len : length (take end c.pull_piece.new.room) ≡ end = length-take-le end c.pull_piece.new.room room in
-    let start : c.in-Ok-take_piece.rest.start ≤ end = omega (arith, f.bounds.0, len) in
-    let goes = rw (append-nil r.1) at (Goes-append r.5 (c.in_default-flush.ensures.ok c.pieces.hub)) in
-    let piece : take end c.pull_piece.new.room ≡ take c.pieces.held c.pieces.room ++ new = piece_split c.pull_piece.new.room c.pieces.held c.in-Ok-pull_piece.count ∙ ap (λ l. l ++ new) p.kept in
-    let size : length new ≡ c.in-Ok-pull_piece.count = length-piece c.pull_piece.new.room c.pieces.held c.in-Ok-pull_piece.count room in
-    let cut = IsCut-more r.0 (take c.pieces.held c.pieces.room) new _ r.1 f.ok.0 c.pieces.skipping c.in-Ok-take_piece.rest.skipping _ r.4 piece f.ok.1 in
-    let moved = c.move_to_front.ensures ∙ rest_kept c.pull_piece.new.room c.in-Ok-take_piece.rest.start end start in (
+    let p = c.in-Ok-read_chunk.ensures in
+    let f = c.in-Ok-answer_chunk.ensures in
+    let end : ℕ = c.chunks.kept_len + c.in-Ok-read_chunk.count in
+    let new : List ℕ = slice_range c.read_chunk.new.buffer c.chunks.kept_len end in
+    let buffer : end ≤ length c.read_chunk.new.buffer = omega (arith, i.0, i.1, p.bounds.0, c.read_chunk.auto.buffer) in
+    let len : length (take end c.read_chunk.new.buffer) ≡ end = length-take-le end c.read_chunk.new.buffer buffer in
+    let start : c.in-Ok-answer_chunk.rest.start ≤ end = omega (arith, f.bounds.0, len) in
+    let advances = rw (append-nil r.1) at (Advances-append r.5 (c.in_default-flush.ensures.ok c.chunks.hub)) in
+    let chunk : take end c.read_chunk.new.buffer ≡ take c.chunks.kept_len c.chunks.buffer ++ new = chunk_split c.read_chunk.new.buffer c.chunks.kept_len c.in-Ok-read_chunk.count ∙ ap (λ l. l ++ new) p.kept in
+    let size : length new ≡ c.in-Ok-read_chunk.count = length-chunk c.read_chunk.new.buffer c.chunks.kept_len c.in-Ok-read_chunk.count buffer in
+    let cut = IsCut-more r.0 (take c.chunks.kept_len c.chunks.buffer) new _ r.1 f.ok.0 c.chunks.skipping c.in-Ok-answer_chunk.rest.skipping _ r.4 chunk f.ok.1 in
+    let moved = c.move_to_front.ensures ∙ rest_kept c.read_chunk.new.buffer c.in-Ok-answer_chunk.rest.start end start in (
       omega (arith, f.bounds.1, len),
-      omega (arith, i.1, c.pull_piece.auto.room, c.move_to_front.auto.room),
-      omega (arith, i.2, p.bounds.1, c.pieces-test.true),
-      omega (arith, i.3, f.counted, start, ap tally c.in_default-flush.ensures.counts),
+      omega (arith, i.1, c.read_chunk.auto.buffer, c.move_to_front.auto.buffer),
+      omega (arith, i.2, p.bounds.1, c.chunks-test.true),
+      omega (arith, i.3, f.counted, start, ap line_total c.in_default-flush.ensures.counts),
       p.same ∙ i.4,
       f.kept ∙ c.in_default-flush.ensures.kept ∙ i.5,
-      (r.0 ++ new, r.1 ++ f.ok.0, length-append r.0 new ∙ omega (arith, size, r.2), Consumes-append _ _ _ r.0 new r.3 p.bytes, rw moved cut, Goes-append goes f.ok.2),
+      (r.0 ++ new, r.1 ++ f.ok.0, length-append r.0 new ∙ omega (arith, size, r.2), Consumes-append _ _ _ r.0 new r.3 p.bytes, rw moved cut, Advances-append advances f.ok.2),
     )

@@ -1,0 +1,19 @@
+use Rattle.std.proofs.Common.{◌≡◌, ◌≤◌, ◌-◌, length, drop, true}
+use Rattle.std.specs.List.{All, slice_range}
+use Rattle.call_lines.specs.Lines.{IsNotMemory, unbroken}
+use Rattle.hub_replay.specs.Lines.{IsTaken}
+use Rattle.hub_replay.proofs.batch.parse_batch.Given as goal
+
+-- the lines before `from` are parsed, and no newline comes from there to `place`
+abbrev pub invariant-lines : goal.invariant-lines
+invariant-lines l = record {
+  order : l.from ≤ l.place;
+  bounds : l.place ≤ length l.bytes;
+  scanned : unbroken (slice_range l.bytes l.from l.place) ≡ true;
+  says : IsTaken l.bytes l.lines.items (drop l.from l.bytes);
+  reportable : All IsNotMemory l.lines.items;
+  few : length l.lines.items ≤ l.from;
+}
+
+abbrev pub decreases-lines : goal.decreases-lines
+decreases-lines l = length l.bytes - l.place

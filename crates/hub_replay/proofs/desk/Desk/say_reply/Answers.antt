@@ -1,8 +1,0 @@
-use Rattle.std.proofs.Common.{ℕ, List, [], ◌∷◌, ◌++◌, ap, ◌∙◌, append_assoc}
-use Rattle.call_lines.specs.Lines.{reply_text}
-use Rattle.hub_replay.proofs.desk.Desk.say_reply.Goals as goal
-
-pub returns-clause-out : goal.returns-clause-out
-returns-clause-out c =
-    c.in_ok-push.ensures.items ∙ ap (λ (bytes : List ℕ). bytes ++ 10 ∷ []) c.in_ok-append_reply.ensures.ok ∙
-    append_assoc c.args.self.now.out.items (reply_text c.args.reply.now) (10 ∷ [])

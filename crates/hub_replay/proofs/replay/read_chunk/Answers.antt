@@ -1,0 +1,6 @@
+use Rattle.std.proofs.Common.{arith}
+use Rattle.std.proofs.lemmas.Grind.{common_steps}
+use Rattle.hub_replay.proofs.replay.read_chunk.Goals as goal
+
+pub returns-in-Ok-clause-bounds : goal.returns-in-Ok-clause-bounds
+returns-in-Ok-clause-bounds g c = (grind (arith, common_steps), grind (arith, common_steps))
