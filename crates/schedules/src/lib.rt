@@ -7,8 +7,9 @@
 //! a session may read no more or take no answer any more, and an answer may be a stranger's.
 //!
 //! At the end each session has to have said what one says that reads the same lines in lock step, with each answer directly
-//! after its job, but for lines that say that memory was refused where it was scarce. Its tally has to be the same. All
-//! tallies together have to settle where each answer of the hub was told, and not to settle where one was not.
+//! after its job, but for lines that say that memory was refused where it was scarce. Its tally has to be the same, with an
+//! entry for each answer that it took. All tallies together have to settle where each answer of the hub was told, and not to
+//! settle where one was not.
 //!
 //! | part | what it has |
 //! |---|---|

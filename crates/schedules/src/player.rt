@@ -58,6 +58,8 @@ pub(crate) struct Player {
     pub(crate) answers: Vec<Answer>,
     /// How many of its calls the hub answered.
     pub(crate) replied: usize,
+    /// How many of these answers it took as its own.
+    pub(crate) taken: usize,
     /// The lines that it said, each with a newline.
     pub(crate) said: Vec<u8>,
 }
@@ -75,6 +77,7 @@ impl Player {
             arrived: VecDeque::new(alloc),
             answers: Vec::new(alloc),
             replied: 0,
+            taken: 0,
             said: Vec::new(alloc),
         })
     }
@@ -151,6 +154,7 @@ impl Player {
             return Ok(false);
         };
         let mut answer = Answer::of(&done)?;
+        self.taken = self.taken.saturating_add(usize::from(done.answer.is_ok()));
         answer.is_scarce = scarcity.begin(draws);
         let line = self.session.on_done(done);
         scarcity.end();

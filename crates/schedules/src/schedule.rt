@@ -238,12 +238,12 @@ impl<'b> Schedule<'b> {
             counts.add_session(&player);
             let beside = lock_step(alloc, &player)?;
             counts.refusals = counts.refusals.saturating_add(beside.refusals as u64);
-            let (id, replied) = (player.id, player.replied);
+            let (id, taken) = (player.id, player.taken);
+            is_told &= taken == player.replied;
             let tally = player.end();
-            if tally.entries() != beside.tally.entries() {
+            if tally.entries().len() != taken || tally.entries() != beside.tally.entries() {
                 return Err(ScheduleFault::Tally(id));
             }
-            is_told &= tally.entries().len() == replied;
             if tallies.push(tally).is_err() {
                 return Err(ScheduleFault::Memory);
             }
