@@ -1,12 +1,12 @@
 //! Tracks that grow, with their estimates.
 ghost use Rattle.std.specs.Prelude.{◌≡◌, ◌≤◌, ◌+◌, length, true, IfOk, OnOk};
-ghost use Rattle.eti_chain.specs.Chains.{anchored, chain};
+ghost use Rattle.eti_chain.specs.EstimateStates.{estimate_anchor, estimates_state};
 ghost use Rattle.eti_chain.specs.Estimates.{fits};
 
 use crate::measured::Measured;
 use crate::samples;
 use anyhow::{Result, bail};
-use eti_chain::{Anchored, Estimates};
+use eti_chain::{EstimateAnchor, Estimates};
 use journey::{Event, EventBody, Track};
 use std::alloc::Global;
 use std::time::{Clock, Instant};
@@ -21,8 +21,8 @@ use wimo::record_with;
 pub struct Run {
     alloc: Global,
     track: Track,
-    kept: Anchored,
-    ghost follows: { kept ≡ anchored track.events },
+    kept: EstimateAnchor,
+    ghost follows: { kept ≡ estimate_anchor track.events },
     ghost within: { fits track.events ≡ true },
 }
 
@@ -41,7 +41,7 @@ impl Run {
         if !Estimates::fits(&track) {
             bail!("the plan passes the calendar");
         }
-        let kept = Anchored::of(&track);
+        let kept = EstimateAnchor::of(&track);
         let mut run = Run { alloc, track, kept };
         run.add("R100", MovementKind::Release)?;
         run.add("R101", MovementKind::Departure)?;
@@ -83,7 +83,7 @@ impl Run {
             bail!("the sample is refused");
         }
         let step = self.track.step(&event);
-        if self.estimates().step_passes_calendar(&step) {
+        if self.estimates().transition_passes_calendar(&step) {
             bail!("the sample passes the calendar");
         }
         if self.track.events().len() >= 1 << 62 {
@@ -96,7 +96,7 @@ impl Run {
 
     // When the wagon is expected.
     fn estimates(&self) -> Estimates<'_>
-        ensures { result ≡ chain self.now.track.events }
+        ensures { result ≡ estimates_state self.now.track.events }
     {
         self.kept.estimates(&self.track)
     }

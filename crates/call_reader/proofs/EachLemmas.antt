@@ -4,9 +4,9 @@ use Rattle.std.proofs.lemmas.List.{append-nil, drop_all}
 use Rattle.serde_json.specs.Data.{Data}
 use Rattle.serde_json.specs.View.{view, items_view}
 use Rattle.serde_json.specs.declared.value.Value.{Value}
-use Rattle.call_reader.specs.declared.value.Unread.{Unread}
-use Rattle.call_reader.specs.declared.value.Unread.TheVariants.{Bad, Memory}
-use Rattle.call_reader.specs.Good.{◌>>=◌, Misses, each}
+use Rattle.call_reader.specs.declared.value.DecodeError.{DecodeError}
+use Rattle.call_reader.specs.declared.value.DecodeError.TheVariants.{Bad, Memory}
+use Rattle.call_reader.specs.Values.{◌>>=◌, Misses, each}
 
 -- what was read before, and what is still read
 abbrev pub with_front : {X : Type 0} → List X → Option (List X) → Option (List X)
@@ -33,7 +33,7 @@ goes_on good values i front v x total lt is h so_far =
     let one : with_front front (each good (items_view (drop i values))) ≡ with_front (front ++ x ∷ []) (each good (items_view (drop (i + 1) values))) = rw (opens values i v lt is, h) (regroup front x (each good (items_view (drop (i + 1) values)))) in
     sym one ∙ so_far
 
-pub ends : {X : Type 0} (e : Unread) (good : Data → Option X) (values : List Value) (i : ℕ) (front : List X) (v : Value) (total : Option (List X)) → i < length values → v ≡ get_or values i v
+pub ends : {X : Type 0} (e : DecodeError) (good : Data → Option X) (values : List Value) (i : ℕ) (front : List X) (v : Value) (total : Option (List X)) → i < length values → v ≡ get_or values i v
     → Misses e (good (view v)) → with_front front (each good (items_view (drop i values))) ≡ total → Misses e total
 unfolding each
 ends Memory good values i front v total lt is h so_far = tt

@@ -16,8 +16,8 @@ use Rattle.taf_codes.specs.declared.fault.UnitFault.{UnitFault}
 use Rattle.taf_codes.specs.declared.fault.UnitFault.TheVariants.{NotAUnitCode, BadUnitDigit}
 use Rattle.trip_plan.specs.declared.parts.Leg.{Leg}
 use Rattle.trip_plan.specs.declared.parts.UnitLoad.{UnitLoad}
-use Rattle.call_reader.specs.Good as good
-use Rattle.call_reader.specs.Good.{◌>>=◌, each, leg, unit_load, member, list, short_list}
+use Rattle.call_reader.specs.Values as good
+use Rattle.call_reader.specs.Values.{◌>>=◌, each, leg, unit_load, member, list, short_list}
 use Rattle.taf_messages.specs.Kept.{IsBetween, IsLeg, IsUnitLoad}
 use Rattle.taf_messages.specs.Limits.{may_be_offered}
 use Rattle.taf_messages.specs.declared.field.Field.{Field}

@@ -9,14 +9,14 @@ use Rattle.taf_codes.specs.Codes.{is_railway, is_place, is_name}
 use Rattle.trip_plan.specs.declared.parts.Leg.{Leg}
 use Rattle.trip_plan.specs.declared.parts.UnitLoad.{UnitLoad}
 use Rattle.trip_plan.specs.Trip.{Trip, plan_fault, route_fault}
-use Rattle.call_reader.specs.Good as good
+use Rattle.call_reader.specs.Values as good
 use Rattle.taf_messages.specs.Kept.{IsBetween, IsLeg, IsUnitLoad, IsTrip, IsMovementKind, IsMovement, IsOffer, AreAnswered, IsAnswer, IsRailwayIfThere, IsBody, IsMessage}
 use Rattle.std.specs.Prelude.{bytes_eq}
 use Rattle.taf_codes.specs.Equality.{texts}
 use Rattle.taf_messages.specs.Limits.{may_be_offered}
 use Rattle.taf_messages.specs.Leads.{is_sent_by_its_lead}
 use Rattle.taf_messages.specs.Names.{field_name}
-use Rattle.call_reader.specs.Reading.{◌>>=◌, good_or_fault, field_of, good_if_there, optional_field_of, plan_or_fault, plan_made, route_or_fault, listed_units, units_of, plan_of, route_of, movement_kind_of, movement_of, offer_of, answer_of, body_of, message_of, call_of_kind, kind_of, call_of, call_read}
+use Rattle.call_reader.specs.Reading.{◌>>=◌, value_or_fault, field_of, value_if_there, optional_field_of, plan_or_fault, plan_made, route_or_fault, listed_units, units_of, plan_of, route_of, movement_kind_of, movement_of, offer_of, answer_of, body_of, message_of, call_of_kind, kind_of, call_of, call_read}
 use Rattle.taf_messages.specs.declared.field.Field.{Field}
 use Rattle.taf_messages.specs.declared.field.Field.TheVariants as field
 use Rattle.taf_messages.specs.declared.kind.Kind.{Kind}
@@ -62,7 +62,7 @@ was_good : {X : Type 0} (o : Option X) (name : Field) (x : X) → ok_or o (BadFi
 was_good None name x h = absurd (cc)
 was_good (Some y) name x h = ap Some (same_ok y x h)
 
-was_there : {X : Type 0} (reads : Data → Option X) (name : Field) (o : Option Data) (x : X) → good_or_fault reads name o ≡ Ok x → (d : Data) × (reads d ≡ Some x)
+was_there : {X : Type 0} (reads : Data → Option X) (name : Field) (o : Option Data) (x : X) → value_or_fault reads name o ≡ Ok x → (d : Data) × (reads d ≡ Some x)
 was_there reads name None x h = absurd (cc)
 was_there reads name (Some d) x h = (d, was_good (reads d) name x h)
 
@@ -76,7 +76,7 @@ was_some {X} r x h =
     let p = given r (λ (y : X). Ok (Some y)) (Some x) h in
     p.1 ∙ ap (λ o. ok_or o BadJson) (same_ok (Some p.0) (Some x) p.2)
 
-was_if_there : {X : Type 0} (reads : Data → Option X) (name : Field) (o : Option Data) (x : X) → good_if_there reads name o ≡ Ok (Some x) → (d : Data) × (reads d ≡ Some x)
+was_if_there : {X : Type 0} (reads : Data → Option X) (name : Field) (o : Option Data) (x : X) → value_if_there reads name o ≡ Ok (Some x) → (d : Data) × (reads d ≡ Some x)
 was_if_there reads name None x h = absurd (cc)
 was_if_there reads name (Some null) x h = absurd (cc)
 was_if_there reads name (Some (boolean b)) x h = was_there reads name (Some (boolean b)) x (was_some _ x h)

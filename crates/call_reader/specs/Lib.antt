@@ -1,2 +1,2 @@
-pub mod Good
+pub mod Values
 pub mod Reading

@@ -7,7 +7,7 @@ use Rattle.trip_plan.specs.declared.parts.Leg.{Leg}
 use Rattle.trip_plan.specs.declared.parts.UnitLoad.{UnitLoad}
 use Rattle.trip_plan.specs.Trip.{Trip, plan_fault, route_fault}
 use Rattle.taf_messages.specs.Names.{field_name, kind_named}
-use Rattle.call_reader.specs.Good as good
+use Rattle.call_reader.specs.Values as good
 use Rattle.taf_messages.specs.declared.field.Field.{Field}
 use Rattle.taf_messages.specs.declared.field.Field.TheVariants as fields
 use Rattle.taf_messages.specs.declared.fault.RecordFault.{RecordFault}
@@ -49,24 +49,24 @@ Gives (Err e) read = Fails e read
 
 -- ---- fields
 
-abbrev pub good_or_fault : {X : Type 0} → (Data → Option X) → Field → Option Data → Result X RecordFault
-good_or_fault good field None = Err (MissingField field)
-good_or_fault good field (Some d) = ok_or (good d) (BadField field)
+abbrev pub value_or_fault : {X : Type 0} → (Data → Option X) → Field → Option Data → Result X RecordFault
+value_or_fault good field None = Err (MissingField field)
+value_or_fault good field (Some d) = ok_or (good d) (BadField field)
 
 -- a field of a record: absent, not good, or good
 abbrev pub field_of : {X : Type 0} → (Data → Option X) → Field → Data → Result X RecordFault
-field_of good field d = good_or_fault good field (get (field_name field) d)
+field_of good field d = value_or_fault good field (get (field_name field) d)
 
-abbrev pub good_if_there : {X : Type 0} → (Data → Option X) → Field → Option Data → Result (Option X) RecordFault
-good_if_there good field None = Ok None
-good_if_there good field (Some d) = if is_some (as_null d) then Ok None else (field_of_value good field d)
+abbrev pub value_if_there : {X : Type 0} → (Data → Option X) → Field → Option Data → Result (Option X) RecordFault
+value_if_there good field None = Ok None
+value_if_there good field (Some d) = if is_some (as_null d) then Ok None else (field_of_value good field d)
   where
     field_of_value : {Y : Type 0} → (Data → Option Y) → Field → Data → Result (Option Y) RecordFault
-    field_of_value good field d = good_or_fault good field (Some d) >>= λ x. Ok (Some x)
+    field_of_value good field d = value_or_fault good field (Some d) >>= λ x. Ok (Some x)
 
 -- a field that may be absent or null
 abbrev pub optional_field_of : {X : Type 0} → (Data → Option X) → Field → Data → Result (Option X) RecordFault
-optional_field_of good field d = good_if_there good field (get (field_name field) d)
+optional_field_of good field d = value_if_there good field (get (field_name field) d)
 
 -- ---- plans and routes
 

@@ -1,14 +1,14 @@
 //! Records in: the call that a line is, or its first fault.
 ghost use Rattle.std.specs.Prelude.{◌≡◌, IsUtf8, Err};
 ghost use Rattle.serde_json.specs.Read.{read as read_text};
-ghost use Rattle.json_tokens.specs.FoundIn.{found_data};
+ghost use Rattle.json_tokens.specs.JsonValues.{json_value_data};
 ghost use Rattle.call_reader.specs.Reading as reading;
 ghost use Rattle.call_reader.specs.Reading.{Gives};
 
 use crate::unit_loads::UnitLoads;
-use crate::value::{Good, Unread};
+use crate::value::{FromJson, DecodeError};
 use json::Scratch;
-use json_tokens::{FlatRecord, Found};
+use json_tokens::{FlatRecord, JsonValue};
 use serde_json::Value;
 use std::alloc::Global;
 use taf_codes::Railway;
@@ -65,7 +65,7 @@ fn read_line(alloc: Global, text: &str, scratch: &mut Scratch) -> Result<Call, R
     match FlatRecord::read(alloc, text, scratch)? {
         Some(record) => read_record(Fields {
             alloc,
-            value: Found::Flat(&record),
+            value: JsonValue::Flat(&record),
         }),
         None => read_tree(alloc, text),
     }
@@ -82,7 +82,7 @@ fn read_tree(alloc: Global, text: &str) -> Result<Call, RecordFault>
     };
     read_record(Fields {
         alloc,
-        value: Found::Tree(&value),
+        value: JsonValue::Tree(&value),
     })
 }
 
@@ -90,13 +90,13 @@ fn read_tree(alloc: Global, text: &str) -> Result<Call, RecordFault>
 #[derive(Clone, Copy)]
 struct Fields<'r, 'a> {
     alloc: Global,
-    value: Found<'r, 'a>,
+    value: JsonValue<'r, 'a>,
 }
 
 impl Fields<'_, '_> {
     // The value of a field.
-    fn read<T: Good>(self, field: Field) -> Result<T, RecordFault>
-        ensures { Gives result (reading.field_of T.good field (found_data self.entry.value)) }
+    fn read<T: FromJson>(self, field: Field) -> Result<T, RecordFault>
+        ensures { Gives result (reading.field_of T.good field (json_value_data self.entry.value)) }
     {
         let value = self
             .value
@@ -104,32 +104,32 @@ impl Fields<'_, '_> {
             .ok_or(RecordFault::MissingField(field))?;
         match T::of_value(self.alloc, value) {
             Ok(value) => Ok(value),
-            Err(Unread::Bad) => Err(RecordFault::BadField(field)),
-            Err(Unread::Memory) => Err(RecordFault::Memory),
+            Err(DecodeError::Bad) => Err(RecordFault::BadField(field)),
+            Err(DecodeError::Memory) => Err(RecordFault::Memory),
         }
     }
 
     // The value of a field that may be absent or null.
-    fn read_if<T: Good>(self, field: Field) -> Result<Option<T>, RecordFault>
-        ensures { Gives result (reading.optional_field_of T.good field (found_data self.entry.value)) }
+    fn read_if<T: FromJson>(self, field: Field) -> Result<Option<T>, RecordFault>
+        ensures { Gives result (reading.optional_field_of T.good field (json_value_data self.entry.value)) }
     {
         match self.value.get(field.name()) {
             None => Ok(None),
             Some(value) if value.is_null() => Ok(None),
             Some(value) => match T::of_value(self.alloc, value) {
                 Ok(value) => Ok(Some(value)),
-                Err(Unread::Bad) => Err(RecordFault::BadField(field)),
-                Err(Unread::Memory) => Err(RecordFault::Memory),
+                Err(DecodeError::Bad) => Err(RecordFault::BadField(field)),
+                Err(DecodeError::Memory) => Err(RecordFault::Memory),
             },
         }
     }
 
     fn kind(self) -> Result<Kind, RecordFault>
-        ensures { result ≡ reading.kind_of (found_data self.entry.value) }
+        ensures { result ≡ reading.kind_of (json_value_data self.entry.value) }
     {
         self.value
             .get("kind")
-            .and_then(Found::as_str)
+            .and_then(JsonValue::as_str)
             .and_then(Kind::named)
             .ok_or(RecordFault::BadKind)
     }
@@ -137,7 +137,7 @@ impl Fields<'_, '_> {
 
 #[tactic(auto, unfolding(crate::specs::Reading::call_of, crate::specs::Reading::call_of_kind))]
 fn read_record(fields: Fields) -> Result<Call, RecordFault>
-    ensures { Gives result (reading.call_of (found_data fields.entry.value)) }
+    ensures { Gives result (reading.call_of (json_value_data fields.entry.value)) }
 {
     if !fields.value.is_object() {
         return Err(RecordFault::BadJson);
@@ -172,7 +172,7 @@ fn read_record(fields: Fields) -> Result<Call, RecordFault>
 
 #[tactic(auto, using(crate::proofs::SentLemmas::read_from_its_lead), unfolding(crate::specs::Reading::message_of))]
 fn read_message(fields: Fields, name: BodyName) -> Result<Message, RecordFault>
-    ensures { Gives result (reading.message_of name (found_data fields.entry.value)) }
+    ensures { Gives result (reading.message_of name (json_value_data fields.entry.value)) }
 {
     let by = fields.read(Field::From)?;
     let content = Content {
@@ -188,7 +188,7 @@ fn read_message(fields: Fields, name: BodyName) -> Result<Message, RecordFault>
 
 #[tactic(auto, unfolding(crate::specs::Reading::body_of))]
 fn read_body(fields: Fields, by: Railway, name: BodyName) -> Result<Body, RecordFault>
-    ensures { Gives result (reading.body_of name by (found_data fields.entry.value)) }
+    ensures { Gives result (reading.body_of name by (json_value_data fields.entry.value)) }
 {
     match name {
         BodyName::Plan => Ok(Body::Plan(read_plan(fields, by)?)),
@@ -217,7 +217,7 @@ fn read_body(fields: Fields, by: Railway, name: BodyName) -> Result<Body, Record
 
 #[tactic(auto, unfolding(crate::specs::Reading::movement_of))]
 fn read_movement(fields: Fields, name: MovementName) -> Result<Movement, RecordFault>
-    ensures { Gives result (reading.movement_of name (found_data fields.entry.value)) }
+    ensures { Gives result (reading.movement_of name (json_value_data fields.entry.value)) }
 {
     Ok(Movement {
         wagon: fields.read(Field::Wagon)?,
@@ -228,7 +228,7 @@ fn read_movement(fields: Fields, name: MovementName) -> Result<Movement, RecordF
 
 #[tactic(auto, unfolding(crate::specs::Reading::movement_kind_of))]
 fn read_movement_kind(fields: Fields, name: MovementName) -> Result<MovementKind, RecordFault>
-    ensures { Gives result (reading.movement_kind_of name (found_data fields.entry.value)) }
+    ensures { Gives result (reading.movement_kind_of name (json_value_data fields.entry.value)) }
 {
     match name {
         MovementName::Release => Ok(MovementKind::Release),
@@ -250,7 +250,7 @@ fn read_movement_kind(fields: Fields, name: MovementName) -> Result<MovementKind
 
 #[tactic(auto, unfolding(crate::specs::Reading::offer_of))]
 fn read_offer(fields: Fields) -> Result<TrainOffer, RecordFault>
-    ensures { Gives result (reading.offer_of (found_data fields.entry.value)) }
+    ensures { Gives result (reading.offer_of (json_value_data fields.entry.value)) }
 {
     Ok(TrainOffer {
         at: fields.read(Field::At)?,
@@ -263,7 +263,7 @@ fn read_offer(fields: Fields) -> Result<TrainOffer, RecordFault>
 
 #[tactic(auto, unfolding(crate::specs::Reading::answer_of))]
 fn read_answer(fields: Fields) -> Result<TrainAnswer, RecordFault>
-    ensures { Gives result (reading.answer_of (found_data fields.entry.value)) }
+    ensures { Gives result (reading.answer_of (json_value_data fields.entry.value)) }
 {
     Ok(TrainAnswer {
         at: fields.read(Field::At)?,
@@ -277,7 +277,7 @@ fn read_answer(fields: Fields) -> Result<TrainAnswer, RecordFault>
 
 #[tactic(auto, unfolding(crate::specs::Reading::plan_of))]
 fn read_plan(fields: Fields, lead: Railway) -> Result<Plan, RecordFault>
-    ensures { Gives result (reading.plan_of lead (found_data fields.entry.value)) }
+    ensures { Gives result (reading.plan_of lead (json_value_data fields.entry.value)) }
 {
     let consignment = fields.read(Field::Consignment)?;
     let load = fields.read(Field::Load)?;
@@ -299,7 +299,7 @@ fn read_plan(fields: Fields, lead: Railway) -> Result<Plan, RecordFault>
 
 // The intermodal units of a plan: absent, null and empty are the same.
 fn read_units(fields: Fields) -> Result<UnitLoads, RecordFault>
-    ensures { Gives result (reading.units_of (found_data fields.entry.value)) }
+    ensures { Gives result (reading.units_of (json_value_data fields.entry.value)) }
 {
     match fields.read_if(Field::Units)? {
         Some(units) => Ok(units),
@@ -308,7 +308,7 @@ fn read_units(fields: Fields) -> Result<UnitLoads, RecordFault>
 }
 
 fn read_route(fields: Fields) -> Result<Route, RecordFault>
-    ensures { Gives result (reading.route_of (found_data fields.entry.value)) }
+    ensures { Gives result (reading.route_of (json_value_data fields.entry.value)) }
 {
     let legs: Listed<Leg> = fields.read(Field::Legs)?;
     Ok(Route::new(fields.alloc, legs.as_slice())?)

@@ -2,13 +2,13 @@
 ghost use Rattle.std.specs.Prelude.{◌≡◌, ◌≤◌, Option, length};
 ghost use Rattle.serde_json.specs.Data.{Data};
 ghost use Rattle.serde_json.specs.View.{items_view};
-ghost use Rattle.json_tokens.specs.FoundIn.{found_data};
-ghost use Rattle.call_reader.specs.Good as good;
-ghost use Rattle.call_reader.specs.Good.{Reads, ReadsList};
-ghost use Rattle.call_reader.specs.declared.value.Unread.TheVariants.{Memory};
+ghost use Rattle.json_tokens.specs.JsonValues.{json_value_data};
+ghost use Rattle.call_reader.specs.Values as good;
+ghost use Rattle.call_reader.specs.Values.{Reads, ReadsList};
+ghost use Rattle.call_reader.specs.declared.value.DecodeError.TheVariants.{Memory};
 
 use crate::unit_loads::UnitLoads;
-use json_tokens::Found;
+use json_tokens::JsonValue;
 use serde_json::Value;
 use std::alloc::{AllocError, AllocFailed, Global};
 use taf_codes::{ConsignmentId, Place, Railway, TrainId, UnitCode};
@@ -19,137 +19,137 @@ use wagon_number::WagonNumber;
 
 /// Why a value was not read.
 #[derive(Clone, Copy, Debug, PartialEq, Eq)]
-pub(crate) enum Unread {
+pub(crate) enum DecodeError {
     /// It is not good for its field.
     Bad,
     Memory,
 }
 
-impl From<AllocError> for Unread {
+impl From<AllocError> for DecodeError {
     ghost from_gives = { λ _ unread. unread ≡ Memory };
 
-    fn from(_refused: AllocError) -> Unread {
-        Unread::Memory
+    fn from(_refused: AllocError) -> DecodeError {
+        DecodeError::Memory
     }
 }
 
-impl<T: Drop> From<AllocFailed<T>> for Unread {
+impl<T: Drop> From<AllocFailed<T>> for DecodeError {
     ghost from_gives = { λ _ unread. unread ≡ Memory };
 
-    fn from(_refused: AllocFailed<T>) -> Unread {
-        Unread::Memory
+    fn from(_refused: AllocFailed<T>) -> DecodeError {
+        DecodeError::Memory
     }
 }
 
 /// What the value of a field is read as.
-pub(crate) trait Good: Sized {
+pub(crate) trait FromJson: Sized {
     ghost good: { Data → Option Self };
 
-    fn of_value(alloc: Global, value: Found<'_, '_>) -> Result<Self, Unread>
-        ensures { Reads result (good (found_data value.entry)) };
+    fn of_value(alloc: Global, value: JsonValue<'_, '_>) -> Result<Self, DecodeError>
+        ensures { Reads result (good (json_value_data value.entry)) };
 }
 
-impl<const LOW: u64, const HIGH: u64> Good for Within<LOW, HIGH> {
+impl<const LOW: u64, const HIGH: u64> FromJson for Within<LOW, HIGH> {
     ghost good = { good.number LOW HIGH };
 
-    fn of_value(_alloc: Global, value: Found<'_, '_>) -> Result<Self, Unread> {
-        let number = value.as_u64().ok_or(Unread::Bad)?;
-        Within::new(number).ok_or(Unread::Bad)
+    fn of_value(_alloc: Global, value: JsonValue<'_, '_>) -> Result<Self, DecodeError> {
+        let number = value.as_u64().ok_or(DecodeError::Bad)?;
+        Within::new(number).ok_or(DecodeError::Bad)
     }
 }
 
-impl Good for u32 {
+impl FromJson for u32 {
     ghost good = { good.number 0 4_294_967_295 };
 
-    fn of_value(_alloc: Global, value: Found<'_, '_>) -> Result<u32, Unread> {
-        let number = value.as_u64().ok_or(Unread::Bad)?;
-        u32::try_from(number).map_err(|_| Unread::Bad)
+    fn of_value(_alloc: Global, value: JsonValue<'_, '_>) -> Result<u32, DecodeError> {
+        let number = value.as_u64().ok_or(DecodeError::Bad)?;
+        u32::try_from(number).map_err(|_| DecodeError::Bad)
     }
 }
 
-impl Good for Railway {
+impl FromJson for Railway {
     ghost good = { good.railway };
 
-    fn of_value(_alloc: Global, value: Found<'_, '_>) -> Result<Railway, Unread> {
-        let text = value.as_str().ok_or(Unread::Bad)?;
-        Railway::read(text).map_err(|_| Unread::Bad)
+    fn of_value(_alloc: Global, value: JsonValue<'_, '_>) -> Result<Railway, DecodeError> {
+        let text = value.as_str().ok_or(DecodeError::Bad)?;
+        Railway::read(text).map_err(|_| DecodeError::Bad)
     }
 }
 
-impl Good for Place {
+impl FromJson for Place {
     ghost good = { good.place };
 
-    fn of_value(_alloc: Global, value: Found<'_, '_>) -> Result<Place, Unread> {
-        let text = value.as_str().ok_or(Unread::Bad)?;
-        Place::read(text).map_err(|_| Unread::Bad)
+    fn of_value(_alloc: Global, value: JsonValue<'_, '_>) -> Result<Place, DecodeError> {
+        let text = value.as_str().ok_or(DecodeError::Bad)?;
+        Place::read(text).map_err(|_| DecodeError::Bad)
     }
 }
 
-impl Good for ConsignmentId {
+impl FromJson for ConsignmentId {
     ghost good = { good.consignment };
 
-    fn of_value(_alloc: Global, value: Found<'_, '_>) -> Result<ConsignmentId, Unread> {
-        let text = value.as_str().ok_or(Unread::Bad)?;
-        ConsignmentId::read(text).map_err(|_| Unread::Bad)
+    fn of_value(_alloc: Global, value: JsonValue<'_, '_>) -> Result<ConsignmentId, DecodeError> {
+        let text = value.as_str().ok_or(DecodeError::Bad)?;
+        ConsignmentId::read(text).map_err(|_| DecodeError::Bad)
     }
 }
 
-impl Good for TrainId {
+impl FromJson for TrainId {
     ghost good = { good.train };
 
-    fn of_value(_alloc: Global, value: Found<'_, '_>) -> Result<TrainId, Unread> {
-        let text = value.as_str().ok_or(Unread::Bad)?;
-        TrainId::read(text).map_err(|_| Unread::Bad)
+    fn of_value(_alloc: Global, value: JsonValue<'_, '_>) -> Result<TrainId, DecodeError> {
+        let text = value.as_str().ok_or(DecodeError::Bad)?;
+        TrainId::read(text).map_err(|_| DecodeError::Bad)
     }
 }
 
-impl Good for UnitCode {
+impl FromJson for UnitCode {
     ghost good = { good.unit };
 
-    fn of_value(_alloc: Global, value: Found<'_, '_>) -> Result<UnitCode, Unread> {
-        let text = value.as_str().ok_or(Unread::Bad)?;
-        UnitCode::read(text).map_err(|_| Unread::Bad)
+    fn of_value(_alloc: Global, value: JsonValue<'_, '_>) -> Result<UnitCode, DecodeError> {
+        let text = value.as_str().ok_or(DecodeError::Bad)?;
+        UnitCode::read(text).map_err(|_| DecodeError::Bad)
     }
 }
 
-impl Good for Moment {
+impl FromJson for Moment {
     ghost good = { good.moment };
 
-    fn of_value(_alloc: Global, value: Found<'_, '_>) -> Result<Moment, Unread> {
-        let text = value.as_str().ok_or(Unread::Bad)?;
-        Moment::read(text).map_err(|_| Unread::Bad)
+    fn of_value(_alloc: Global, value: JsonValue<'_, '_>) -> Result<Moment, DecodeError> {
+        let text = value.as_str().ok_or(DecodeError::Bad)?;
+        Moment::read(text).map_err(|_| DecodeError::Bad)
     }
 }
 
-impl Good for WagonNumber {
+impl FromJson for WagonNumber {
     ghost good = { good.wagon };
 
-    fn of_value(_alloc: Global, value: Found<'_, '_>) -> Result<WagonNumber, Unread> {
-        let text = value.as_str().ok_or(Unread::Bad)?;
-        WagonNumber::read(text).map_err(|_| Unread::Bad)
+    fn of_value(_alloc: Global, value: JsonValue<'_, '_>) -> Result<WagonNumber, DecodeError> {
+        let text = value.as_str().ok_or(DecodeError::Bad)?;
+        WagonNumber::read(text).map_err(|_| DecodeError::Bad)
     }
 }
 
-impl Good for Load {
+impl FromJson for Load {
     ghost good = { good.load };
 
-    fn of_value(_alloc: Global, value: Found<'_, '_>) -> Result<Load, Unread> {
-        let text = value.as_str().ok_or(Unread::Bad)?;
+    fn of_value(_alloc: Global, value: JsonValue<'_, '_>) -> Result<Load, DecodeError> {
+        let text = value.as_str().ok_or(DecodeError::Bad)?;
         if text == "loaded" {
             Ok(Load::Loaded)
         } else if text == "empty" {
             Ok(Load::Empty)
         } else {
-            Err(Unread::Bad)
+            Err(DecodeError::Bad)
         }
     }
 }
 
-impl Good for Leg {
+impl FromJson for Leg {
     ghost good = { good.leg };
 
-    #[tactic(auto, unfolding(crate::specs::Good::leg))]
-    fn of_value(alloc: Global, value: Found<'_, '_>) -> Result<Leg, Unread> {
+    #[tactic(auto, unfolding(crate::specs::Values::leg))]
+    fn of_value(alloc: Global, value: JsonValue<'_, '_>) -> Result<Leg, DecodeError> {
         Ok(Leg {
             ru: member_of(alloc, value, Field::Ru)?,
             origin: member_of(alloc, value, Field::Origin)?,
@@ -159,11 +159,11 @@ impl Good for Leg {
     }
 }
 
-impl Good for UnitLoad {
+impl FromJson for UnitLoad {
     ghost good = { good.unit_load };
 
-    #[tactic(auto, unfolding(crate::specs::Good::unit_load))]
-    fn of_value(alloc: Global, value: Found<'_, '_>) -> Result<UnitLoad, Unread> {
+    #[tactic(auto, unfolding(crate::specs::Values::unit_load))]
+    fn of_value(alloc: Global, value: JsonValue<'_, '_>) -> Result<UnitLoad, DecodeError> {
         Ok(UnitLoad {
             unit: member_of(alloc, value, Field::Unit)?,
             wagon: member_of(alloc, value, Field::Wagon)?,
@@ -171,63 +171,63 @@ impl Good for UnitLoad {
     }
 }
 
-impl<T: Good + Drop> Good for Listed<T> {
+impl<T: FromJson + Drop> FromJson for Listed<T> {
     ghost good = { good.list T.good };
 
-    fn of_value(alloc: Global, value: Found<'_, '_>) -> Result<Listed<T>, Unread> {
+    fn of_value(alloc: Global, value: JsonValue<'_, '_>) -> Result<Listed<T>, DecodeError> {
         Ok(Listed::from_vec(items_of(alloc, value)?))
     }
 }
 
-impl Good for Wagons {
+impl FromJson for Wagons {
     ghost good = { good.wagons };
 
-    fn of_value(alloc: Global, value: Found<'_, '_>) -> Result<Wagons, Unread> {
+    fn of_value(alloc: Global, value: JsonValue<'_, '_>) -> Result<Wagons, DecodeError> {
         let items = items_of(alloc, value)?;
-        Wagons::new(items).ok_or(Unread::Bad)
+        Wagons::new(items).ok_or(DecodeError::Bad)
     }
 }
 
-impl Good for OfferedWagons {
+impl FromJson for OfferedWagons {
     ghost good = { good.offered_wagons };
 
-    fn of_value(alloc: Global, value: Found<'_, '_>) -> Result<OfferedWagons, Unread> {
+    fn of_value(alloc: Global, value: JsonValue<'_, '_>) -> Result<OfferedWagons, DecodeError> {
         let items = items_of(alloc, value)?;
-        OfferedWagons::new(items).ok_or(Unread::Bad)
+        OfferedWagons::new(items).ok_or(DecodeError::Bad)
     }
 }
 
-impl Good for UnitLoads {
+impl FromJson for UnitLoads {
     ghost good = { good.unit_loads };
 
-    fn of_value(alloc: Global, value: Found<'_, '_>) -> Result<UnitLoads, Unread> {
+    fn of_value(alloc: Global, value: JsonValue<'_, '_>) -> Result<UnitLoads, DecodeError> {
         let items = items_of(alloc, value)?;
-        UnitLoads::new(items).ok_or(Unread::Bad)
+        UnitLoads::new(items).ok_or(DecodeError::Bad)
     }
 }
 
 // The value under a key of an object.
-fn member_of<T: Good>(alloc: Global, value: Found<'_, '_>, field: Field) -> Result<T, Unread>
-    ensures { Reads result (good.member T.good field (found_data value.entry)) }
+fn member_of<T: FromJson>(alloc: Global, value: JsonValue<'_, '_>, field: Field) -> Result<T, DecodeError>
+    ensures { Reads result (good.member T.good field (json_value_data value.entry)) }
 {
-    let value = value.get(field.name()).ok_or(Unread::Bad)?;
+    let value = value.get(field.name()).ok_or(DecodeError::Bad)?;
     T::of_value(alloc, value)
 }
 
 // The items of an array, if each is good.
-fn items_of<T: Good + Drop>(alloc: Global, value: Found<'_, '_>) -> Result<Vec<T>, Unread>
-    ensures { ReadsList result (good.list T.good (found_data value.entry)) }
+fn items_of<T: FromJson + Drop>(alloc: Global, value: JsonValue<'_, '_>) -> Result<Vec<T>, DecodeError>
+    ensures { ReadsList result (good.list T.good (json_value_data value.entry)) }
 {
-    let values = value.as_array().ok_or(Unread::Bad)?;
+    let values = value.as_array().ok_or(DecodeError::Bad)?;
     each_of(alloc, values)
 }
 
-fn each_of<T: Good + Drop>(alloc: Global, values: &[Value]) -> Result<Vec<T>, Unread>
+fn each_of<T: FromJson + Drop>(alloc: Global, values: &[Value]) -> Result<Vec<T>, DecodeError>
     ensures { ReadsList result (good.each T.good (items_view values.now)) }
 {
     let mut items = Vec::with_capacity(alloc, values.len())?;
     for value in values {
-        let item = T::of_value(alloc, Found::Tree(value))?;
+        let item = T::of_value(alloc, JsonValue::Tree(value))?;
         items.push(item)?;
     }
     Ok(items)

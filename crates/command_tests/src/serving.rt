@@ -1,7 +1,7 @@
 //! A shift of two railways over loopback.
 
 use crate::commands::end_of;
-use ballast::Ballast;
+use memory_limit::MemoryLimit;
 use hub_commands::serve_on;
 use hub_server::ShiftSize;
 use std::alloc::Global;
@@ -155,7 +155,7 @@ fn an_output_that_fails_is_a_fault(rt: HostRuntime) -> Result<(), Fail> {
 fn status_within<H>(
     rt: &H,
     listener: &TcpListener,
-    ballast: &mut Ballast,
+    memory_limit: &mut MemoryLimit,
     left: usize,
 ) -> Result<u8, Fail>
 where
@@ -165,10 +165,10 @@ where
         return Err(Fail::new("no size"));
     };
     let client = TcpStream::connect(rt, listener.local_addr()?)?;
-    ballast.leave(left)?;
+    memory_limit.leave(left)?;
     let (output, mut errors) = (Vec::new(rt.alloc()), Vec::new(rt.alloc()));
     let status = serve_on(rt, listener, size, output, &mut errors);
-    ballast.ease();
+    memory_limit.ease();
     drop(client);
     Ok(status)
 }
@@ -177,10 +177,10 @@ where
 #[test]
 fn refused_memory_and_then_no_thread(rt: HostRuntime) -> Result<(), Fail> {
     let listener = TcpListener::bind(&rt, (Ipv4Addr::LOCALHOST, 0))?;
-    let mut ballast = Ballast::new(rt.alloc())?;
+    let mut memory_limit = MemoryLimit::new(rt.alloc())?;
     let mut refused = 0u32;
     for step in 0..10_000usize {
-        match status_within(&rt, &listener, &mut ballast, step * 64)? {
+        match status_within(&rt, &listener, &mut memory_limit, step * 64)? {
             4 => refused = refused.saturating_add(1),
             5 => break,
             _ => return Err(Fail::new("another status")),

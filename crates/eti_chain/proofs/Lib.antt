@@ -1,4 +1,4 @@
-pub mod Estimating
-pub mod Fitting
-pub mod Ending
-pub mod Chaining
+pub mod EstimateLemmas
+pub mod CalendarLemmas
+pub mod LegEndLemmas
+pub mod EstimateStateLemmas

@@ -1,6 +1,6 @@
 //! The event from which estimates are counted.
 ghost use Rattle.std.specs.Prelude.{◌≡◌, ◌+◌, ◌<◌, ◌≤◌, ◌^◌, IfSome};
-ghost use Rattle.eti_chain.specs.Chains as of;
+ghost use Rattle.eti_chain.specs.EstimateStates as of;
 ghost use Rattle.eti_chain.specs.Estimates as words;
 
 use journey::{Event, EventBody};
@@ -23,13 +23,13 @@ pub(crate) fn anchor_after(before: Option<Anchor>, event: &Event) -> Option<Anch
     ensures value { result ≡ of.anchor_after before event.now }
     ensures bound { of.delays_of result ≤ of.delays_of before + 100000 }
 {
-    anchor_in(event).or(delayed(before, &event.body))
+    anchor_in(event).or(with_delay_of(before, &event.body))
 }
 
 // The anchor with the delays after one event more.
-fn delayed(before: Option<Anchor>, body: &EventBody) -> Option<Anchor>
+fn with_delay_of(before: Option<Anchor>, body: &EventBody) -> Option<Anchor>
     requires { of.delays_of before < 2 ^ 127 }
-    ensures value { result ≡ of.delayed before body.now }
+    ensures value { result ≡ of.with_delay_of before body.now }
     ensures bound { of.delays_of result ≤ of.delays_of before + 100000 }
 {
     let anchor = before?;

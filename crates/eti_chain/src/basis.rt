@@ -4,10 +4,10 @@ ghost use Rattle.std.specs.List.{sum_by};
 ghost use Rattle.taf_moment.specs.Calendar.{last_minute};
 ghost use Rattle.journey.specs.Checks.{refusal};
 ghost use Rattle.journey.specs.Journey.{after};
-ghost use Rattle.eti_chain.specs.Chains as of;
+ghost use Rattle.eti_chain.specs.EstimateStates as of;
 
 use crate::anchor::{Anchor, anchor_after};
-use journey::{Event, Events, Legs, Step, Track};
+use journey::{Event, Events, Legs, Transition, Track};
 use std::collections::LinkedList;
 use std::marker::Model;
 use taf_moment::Moment;
@@ -18,58 +18,58 @@ const LAST_MINUTE: u128 = 120_968_639;
 
 /// The legs of a wagon with the current one, and the newest anchor. It borrows the legs.
 #[derive(Drop)]
-pub(crate) struct Basis<'a> {
+pub(crate) struct EstimateBasis<'a> {
     pub(crate) leg_index: usize,
     pub(crate) legs: &'a Legs,
     pub(crate) anchor: Option<Anchor>,
 }
 
-impl<'a> Model for Basis<'a> {
-    ghost use Rattle.eti_chain.specs.Chains.{Reckoning, IsSummable, reckoned_from};
+impl<'a> Model for EstimateBasis<'a> {
+    ghost use Rattle.eti_chain.specs.EstimateStates.{EstimateBasis, IsSummable, basis_from};
 
-    ghost Value = { Reckoning };
+    ghost Value = { EstimateBasis };
 
-    ghost view = { λ b. reckoned_from b.leg_index b.legs.now b.anchor };
+    ghost view = { λ b. basis_from b.leg_index b.legs.now b.anchor };
 
-    ghost invariant = { λ b. IsSummable (reckoned_from b.leg_index b.legs.now b.anchor) };
+    ghost invariant = { λ b. IsSummable (basis_from b.leg_index b.legs.now b.anchor) };
 }
 
-impl<'a> Basis<'a> {
+impl<'a> EstimateBasis<'a> {
     /// What the estimates of a track are reckoned from. It walks the events.
-    pub(crate) fn of(track: &'a Track) -> Basis<'a>
-        ensures value { result ≡ of.reckoning track.now.events }
+    pub(crate) fn of(track: &'a Track) -> EstimateBasis<'a>
+        ensures value { result ≡ of.estimate_basis track.now.events }
         ensures on_a_leg { result.leg_index < length result.legs }
     {
-        Basis::with(newest_anchor(track.events()), track)
+        EstimateBasis::with(newest_anchor(track.events()), track)
     }
 
     /// The same by the newest anchor of the track.
-    pub(crate) fn with(anchor: Option<Anchor>, track: &'a Track) -> Basis<'a>
+    pub(crate) fn with(anchor: Option<Anchor>, track: &'a Track) -> EstimateBasis<'a>
         requires newest { anchor ≡ of.anchor track.now.events }
         requires small { of.delays_of anchor < 2 ^ 127 }
-        ensures value { result ≡ of.reckoning track.now.events }
+        ensures value { result ≡ of.estimate_basis track.now.events }
         ensures on_a_leg { result.leg_index < length result.legs }
     {
-        Basis {
+        EstimateBasis {
             leg_index: track.leg_index(),
-            legs: &track.situation().legs,
+            legs: &track.journey_state().legs,
             anchor,
         }
     }
 
     /// The same after a step, from the newest anchor before it.
-    pub(crate) fn after(anchor: Option<Anchor>, step: &'a Step<'_>) -> Basis<'a>
-        requires newest { anchor ≡ of.anchor step.now.before }
+    pub(crate) fn after(anchor: Option<Anchor>, transition: &'a Transition<'_>) -> EstimateBasis<'a>
+        requires newest { anchor ≡ of.anchor transition.now.before }
         requires small { of.delays_of anchor ≤ last_minute }
-        ensures value { result ≡ of.reckoning (after step.now) }
+        ensures value { result ≡ of.estimate_basis (after transition.now) }
         ensures on_a_leg { result.leg_index < length result.legs }
-        ensures admitted { refusal step.now.before step.now.event.by step.now.event.body ≡ None }
+        ensures admitted { refusal transition.now.before transition.now.event.by transition.now.event.body ≡ None }
     {
-        let next = step.situation();
-        Basis {
+        let next = transition.journey_state();
+        EstimateBasis {
             leg_index: next.leg_index,
             legs: &next.legs,
-            anchor: anchor_after(anchor, step.event()),
+            anchor: anchor_after(anchor, transition.event()),
         }
     }
 
@@ -94,7 +94,7 @@ impl<'a> Basis<'a> {
     }
 
     /// Whether no estimate passes the last minute of the calendar.
-    #[tactic(auto, using(crate::proofs::Chaining::fits_by_eta))]
+    #[tactic(auto, using(crate::proofs::EstimateStateLemmas::fits_by_eta))]
     pub(crate) fn fits(&self) -> bool
         ensures { result ≡ of.fits_in self.now }
     {
@@ -154,7 +154,7 @@ impl<'a> Basis<'a> {
 
 // The newest anchor of a journey, with the delays since. At most 2^64 events delay the wagon by at
 // most 100,000 minutes each.
-#[tactic(auto, using(crate::proofs::Chaining::anchor_by_parts))]
+#[tactic(auto, using(crate::proofs::EstimateStateLemmas::anchor_by_parts))]
 fn newest_anchor(events: &Events) -> Option<Anchor>
     ensures value { result ≡ of.anchor events.now }
     ensures small { of.delays_of result < 2 ^ 127 }
@@ -164,7 +164,7 @@ fn newest_anchor(events: &Events) -> Option<Anchor>
 }
 
 // The same of the events in a row.
-#[tactic(auto, using(crate::proofs::Chaining::anchor_pushed))]
+#[tactic(auto, using(crate::proofs::EstimateStateLemmas::anchor_pushed))]
 fn anchor_in_row(row: &[Event]) -> Option<Anchor>
     ensures value { result ≡ of.anchor row.now }
     ensures small { of.delays_of result ≤ 100000 * length row.now }

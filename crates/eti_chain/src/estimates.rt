@@ -5,9 +5,9 @@ ghost use Rattle.journey.specs.Journey.{after};
 ghost use Rattle.eti_chain.specs.Estimates as of;
 
 use crate::anchor::Anchor;
-use crate::basis::Basis;
+use crate::basis::EstimateBasis;
 use crate::held_legs::HeldLegs;
-use journey::{Event, Step, Track};
+use journey::{Event, Transition, Track};
 use std::marker::Model;
 use taf_moment::Moment;
 
@@ -24,26 +24,26 @@ pub struct Estimates<'a> {
 
 impl<'a> Model for Estimates<'a> {
     ghost use Rattle.std.specs.Prelude.{Some};
-    ghost use Rattle.eti_chain.specs.Chains.{Chain, IsWithin, promised, reckoned_from};
+    ghost use Rattle.eti_chain.specs.EstimateStates.{EstimatesState, IsWithin, state_with_commitment, basis_from};
     ghost use Rattle.eti_chain.specs.Held.{legs_in};
 
-    ghost Value = { Chain };
+    ghost Value = { EstimatesState };
 
-    ghost view = { λ e. promised (reckoned_from e.leg_index (legs_in e.legs) e.anchor) (Some e.commit) };
+    ghost view = { λ e. state_with_commitment (basis_from e.leg_index (legs_in e.legs) e.anchor) (Some e.commit) };
 
-    ghost invariant = { λ e. IsWithin (reckoned_from e.leg_index (legs_in e.legs) e.anchor) };
+    ghost invariant = { λ e. IsWithin (basis_from e.leg_index (legs_in e.legs) e.anchor) };
 }
 
 impl<'a> Estimates<'a> {
     ghost use Rattle.std.specs.Prelude.{Some};
-    ghost use Rattle.eti_chain.specs.Chains.{IsWithin, chain, promised};
+    ghost use Rattle.eti_chain.specs.EstimateStates.{IsWithin, estimates_state, state_with_commitment};
 
     /// The estimates that are reckoned from this.
-    pub(crate) fn by(basis: Basis<'a>, commit: Moment) -> Estimates<'a>
+    pub(crate) fn by(basis: EstimateBasis<'a>, commit: Moment) -> Estimates<'a>
         requires { IsWithin basis }
-        ensures { result ≡ promised basis.entry (Some commit) }
+        ensures { result ≡ state_with_commitment basis.entry (Some commit) }
     {
-        let Basis {
+        let EstimateBasis {
             leg_index,
             legs,
             anchor,
@@ -60,92 +60,92 @@ impl<'a> Estimates<'a> {
     pub fn fits(track: &Track) -> bool
         ensures { result ≡ of.fits track.now.events }
     {
-        Basis::of(track).fits()
+        EstimateBasis::of(track).fits()
     }
 
     /// The estimates of a track. It walks the events.
     pub fn of(track: &'a Track) -> Estimates<'a>
         requires { of.fits track.now.events ≡ true }
-        ensures { result ≡ chain track.now.events }
+        ensures { result ≡ estimates_state track.now.events }
     {
-        Estimates::by(Basis::of(track), track.plan().commit())
+        Estimates::by(EstimateBasis::of(track), track.plan().commit())
     }
 
     /// Goes on from the estimates of the track to those of the track with the event, which may come next and does not
     /// pass the calendar. It takes no walk, and copies the legs in place.
     pub fn follow(&mut self, track: &Track, event: &Event)
-        requires of_track { self.old ≡ chain track.now.events }
+        requires of_track { self.old ≡ estimates_state track.now.events }
         requires admitted { refusal track.now.events event.now.by event.now.body ≡ None }
         requires fits { of.fits (track.now.events ++ event.now ∷ []) ≡ true }
-        ensures { self.new ≡ chain (track.now.events ++ event.now ∷ []) }
+        ensures { self.new ≡ estimates_state (track.now.events ++ event.now ∷ []) }
     {
-        let step = track.step(event);
-        *self = self.followed(&step).owned();
+        let transition = track.transition(event);
+        *self = self.followed(&transition).owned();
     }
 
     /// Whether with the event, which may come next, an estimate of the track would pass the last minute of the
     /// calendar, 2199-12-31T23:59Z.
     pub fn would_pass_calendar(&self, track: &Track, event: &Event) -> bool
-        requires of_track { self.now ≡ chain track.now.events }
+        requires of_track { self.now ≡ estimates_state track.now.events }
         requires admitted { refusal track.now.events event.now.by event.now.body ≡ None }
         ensures { result ≡ not (of.fits (track.now.events ++ event.now ∷ [])) }
     {
-        self.step_passes_calendar(&track.step(event))
+        self.transition_passes_calendar(&track.transition(event))
     }
 
     /// Whether with the event of a step an estimate would pass the last minute of the calendar.
-    pub fn step_passes_calendar(&self, step: &Step<'_>) -> bool
-        requires { self.now ≡ chain step.now.before }
-        ensures { result ≡ not (of.fits (after step.now)) }
+    pub fn transition_passes_calendar(&self, transition: &Transition<'_>) -> bool
+        requires { self.now ≡ estimates_state transition.now.before }
+        ensures { result ≡ not (of.fits (after transition.now)) }
     {
-        !Basis::after(self.anchor, step).fits()
+        !EstimateBasis::after(self.anchor, transition).fits()
     }
 
     /// The estimates of the track with the event of a step, which does not pass the calendar. It takes
     /// no walk.
-    pub fn followed<'b>(&self, step: &'b Step<'_>) -> Estimates<'b>
-        requires of_track { self.now ≡ chain step.now.before }
-        requires fits { of.fits (after step.now) ≡ true }
-        ensures { result ≡ chain (after step.now) }
+    pub fn followed<'b>(&self, transition: &'b Transition<'_>) -> Estimates<'b>
+        requires of_track { self.now ≡ estimates_state transition.now.before }
+        requires fits { of.fits (after transition.now) ≡ true }
+        ensures { result ≡ estimates_state (after transition.now) }
     {
-        Estimates::by(Basis::after(self.anchor, step), self.commit)
+        Estimates::by(EstimateBasis::after(self.anchor, transition), self.commit)
     }
 
     /// When the wagon is expected at the end of this leg: none without an event to count from,
     /// before the current leg and past the last one.
     pub fn estimate(&self, leg: usize) -> Option<Moment>
-        ensures { (events : List Event) → self.now ≡ chain events → result ≡ of.estimate events leg }
+        ensures { (events : List Event) → self.now ≡ estimates_state events → result ≡ of.estimate events leg }
     {
         self.basis().moment(leg)
     }
 
     /// When the wagon is expected at the end of its last leg.
     pub fn eta(&self) -> Option<Moment>
-        ensures { (events : List Event) → self.now ≡ chain events → result ≡ of.eta events }
+        ensures { (events : List Event) → self.now ≡ estimates_state events → result ≡ of.eta events }
     {
         self.basis().last_moment()
     }
 
     /// Whether the wagon is expected after what was promised to the customer.
     pub fn late(&self) -> bool
-        ensures { (events : List Event) → self.now ≡ chain events → result ≡ of.is_late events }
+        ensures { (events : List Event) → self.now ≡ estimates_state events → result ≡ of.is_late events }
     {
         self.late_by().is_some()
     }
 
     /// By how many minutes the wagon is expected after what was promised, if it is.
     pub fn late_by(&self) -> Option<u32>
-        ensures { (events : List Event) → self.now ≡ chain events → result ≡ of.late_by events }
+        ensures { (events : List Event) → self.now ≡ estimates_state events → result ≡ of.late_by events }
     {
         lateness(self.commit, self.basis().last_moment()?)
     }
 
     // What the estimates are reckoned from.
-    fn basis(&self) -> Basis<'_>
-        ensures value { result ≡ self.now.reckoning }
+    fn basis(&self) -> EstimateBasis<'_>
+        ensures value { result ≡ self.now.estimate_basis }
         ensures within { IsWithin result }
     {
-        Basis {
+        EstimateBasis {
             leg_index: self.leg_index,
             legs: self.legs.legs(),
             anchor: self.anchor,

@@ -7,17 +7,17 @@
 //! on top (`specs/Estimates.antt`). The estimate of the last leg is the estimated time of arrival, which is compared
 //! with the moment that was promised to the customer.
 //!
-//! [`Estimates`] are those of one track, whose legs they borrow, or copy in place once they follow an event. Contracts see them as the `chain` of the track's
+//! [`Estimates`] are those of one track, whose legs they borrow, or copy in place once they follow an event. Contracts see them as the `estimates_state` of the track's
 //! events: the leg index, the legs, the newest anchor with the delays since, and the promised moment
-//! (`specs/Chains.antt`). [`Anchored`] is what is kept for them beside a track: the anchor and the promise alone.
+//! (`specs/EstimateStates.antt`). [`EstimateAnchor`] is what is kept for them beside a track: the anchor and the promise alone.
 //!
 //! - [`Estimates::fits`] says whether no estimate of a track passes 2199-12-31T23:59Z. [`Estimates::of`] and
-//!   [`Anchored::of`] walk its events.
-//! - [`Anchored::estimates`] gives the estimates of a track without a walk. [`Anchored::add`] and [`Anchored::put`] add
+//!   [`EstimateAnchor::of`] walk its events.
+//! - [`EstimateAnchor::estimates`] gives the estimates of a track without a walk. [`EstimateAnchor::add`] and [`EstimateAnchor::put`] add
 //!   an event to the track and go on with it.
 //! - [`Estimates::follow`] goes from the estimates of a track to those of the track with one event more.
 //!   [`Estimates::would_pass_calendar`] says beforehand whether one would pass the calendar.
-//! - [`Estimates::followed`] and [`Estimates::step_passes_calendar`] do the same by a [`Step`](journey::Step), whose
+//! - [`Estimates::followed`] and [`Estimates::transition_passes_calendar`] do the same by a [`Transition`](journey::Step), whose
 //!   situation they don't make anew and whose legs they borrow.
 //! - [`Estimates::estimate`], [`Estimates::eta`], [`Estimates::late`] and [`Estimates::late_by`] read them.
 //!
@@ -27,10 +27,10 @@
 #![tactic(auto)]
 
 mod anchor;
-mod anchored;
+mod estimate_anchor;
 mod basis;
 mod estimates;
 mod held_legs;
 
-pub use anchored::Anchored;
+pub use estimate_anchor::EstimateAnchor;
 pub use estimates::Estimates;

@@ -1,2 +1,2 @@
-pub mod Selecting
-pub mod Finding
+pub mod SelectionLemmas
+pub mod FindLemmas

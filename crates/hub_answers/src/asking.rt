@@ -1,9 +1,9 @@
 //! Answers to a railway that asks for a wagon or an intermodal unit (4.2.11).
 ghost use Rattle.std.specs.Prelude.{◌≡◌, IfOk, is_some, true};
 ghost use Rattle.wimo.specs.Records.{record_of};
-ghost use Rattle.hub_model.specs.Answers as of;
+ghost use Rattle.hub_model.specs.Replies as of;
 ghost use Rattle.hub_model.specs.Units.{unit_wagon};
-ghost use Rattle.hub_tables.specs.Tabled.{known};
+ghost use Rattle.hub_tables.specs.TableStates.{table_state};
 
 use hub_tables::{Tables, Wagon};
 use std::alloc::Global;
@@ -14,7 +14,7 @@ use wagon_number::WagonNumber;
 /// The reply to a railway that asks for a wagon: its record, or why it gets none. A refusal names
 /// the wagon. The only error is that memory was refused.
 pub fn ask(alloc: Global, tables: &Tables, by: Railway, wagon: WagonNumber) -> Result<Reply, Memory>
-    ensures { IfOk result (λ r. r ≡ of.ask_reply (known tables.now) by wagon) }
+    ensures { IfOk result (λ r. r ≡ of.ask_reply (table_state tables.now) by wagon) }
 {
     record_reply(alloc, tables, by, wagon, Why::UnknownWagon, Some(wagon))
 }
@@ -27,12 +27,12 @@ pub fn ask_unit(
     by: Railway,
     unit: UnitCode,
 ) -> Result<Reply, Memory>
-    ensures { let s = known tables.now in
+    ensures { let s = table_state tables.now in
         IfOk result (λ r. r ≡ of.unit_reply s by (unit_wagon s unit)) }
 {
     match tables.unit_wagon(unit) {
         Some(wagon) => record_reply(alloc, tables, by, wagon, Why::UnknownUnit, None),
-        None => Ok(refused(Why::UnknownUnit, None)),
+        None => Ok(refusal_reply(Why::UnknownUnit, None)),
     }
 }
 
@@ -46,19 +46,19 @@ fn record_reply(
     unknown: Why,
     told: Option<WagonNumber>,
 ) -> Result<Reply, Memory>
-    ensures { let events = (known tables.now).journey wagon in
-        let unseen = of.refused Why.NotYours told in
-        IfOk result (λ r. r ≡ of.record_reply by events (record_of wagon events) (of.refused unknown told) unseen) }
+    ensures { let events = (table_state tables.now).journey wagon in
+        let unseen = of.refusal_reply Why.NotYours told in
+        IfOk result (λ r. r ≡ of.record_reply by events (record_of wagon events) (of.refusal_reply unknown told) unseen) }
 {
     let Some(found) = tables.wagon(wagon) else {
-        return Ok(refused(unknown, told));
+        return Ok(refusal_reply(unknown, told));
     };
     if wimo::may_see(found.track(), by) {
         let shown = wimo::record_with(alloc, found.track(), &found.estimates())?;
         Ok(Reply::One(Shared::new(alloc, shown)?))
     } else {
         has_record(found);
-        Ok(refused(Why::NotYours, told))
+        Ok(refusal_reply(Why::NotYours, told))
     }
 }
 
@@ -71,8 +71,8 @@ fn has_record(wagon: &Wagon)
 }
 
 /// The refusal of a question.
-pub(crate) fn refused(why: Why, wagon: Option<WagonNumber>) -> Reply
-    ensures { result ≡ of.refused why wagon }
+pub(crate) fn refusal_reply(why: Why, wagon: Option<WagonNumber>) -> Reply
+    ensures { result ≡ of.refusal_reply why wagon }
 {
     Reply::Refused {
         no: None,

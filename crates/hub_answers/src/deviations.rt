@@ -2,11 +2,11 @@
 ghost use Rattle.std.specs.Prelude.{◌≡◌, ◌&&◌, IfOk, None, if◌then◌else◌};
 ghost use Rattle.eti_chain.specs.Estimates.{is_late};
 ghost use Rattle.wimo.specs.Records.{record_of};
-ghost use Rattle.hub_model.specs.Answers as of;
+ghost use Rattle.hub_model.specs.Replies as of;
 ghost use Rattle.hub_model.specs.Units.{is_on_plan};
-ghost use Rattle.hub_tables.specs.Tabled.{known};
+ghost use Rattle.hub_tables.specs.TableStates.{table_state};
 
-use crate::asking::refused;
+use crate::asking::refusal_reply;
 use hub_tables::Tables;
 use std::alloc::Global;
 use taf_codes::{ConsignmentId, Memory, Railway};
@@ -24,23 +24,23 @@ pub fn deviation(
     by: Railway,
     consignment: ConsignmentId,
 ) -> Result<Reply, Memory>
-    ensures { let s = known tables.now in
+    ensures { let s = table_state tables.now in
         IfOk result (λ r. r ≡ of.deviation_reply s by (s.plan_of consignment)) }
 {
     let Some(plan) = tables.plan(consignment) else {
-        return Ok(refused(Why::UnknownConsignment, None));
+        return Ok(refusal_reply(Why::UnknownConsignment, None));
     };
     if plan.lead() == by {
-        let late = deviating(alloc, tables, plan)?;
+        let late = deviating_records(alloc, tables, plan)?;
         Ok(Reply::Many(Shared::new(alloc, Listed::from_vec(late))?))
     } else {
-        Ok(refused(Why::NotYours, None))
+        Ok(refusal_reply(Why::NotYours, None))
     }
 }
 
 /// The late wagons of the plan that are still on it, in the plan's order.
-fn deviating(alloc: Global, tables: &Tables, plan: &Plan) -> Result<Vec<Record>, Memory>
-    ensures { IfOk result (λ v. v.items ≡ of.deviating (known tables.now) plan.now) }
+fn deviating_records(alloc: Global, tables: &Tables, plan: &Plan) -> Result<Vec<Record>, Memory>
+    ensures { IfOk result (λ v. v.items ≡ of.deviating_records (table_state tables.now) plan.now) }
 {
     let mut late = Vec::new(alloc);
     for wagon in plan.wagons() {
@@ -58,7 +58,7 @@ fn deviating_record(
     plan: &Plan,
     wagon: WagonNumber,
 ) -> Result<Option<Record>, Memory>
-    ensures { let events = (known tables.now).journey wagon in
+    ensures { let events = (table_state tables.now).journey wagon in
         let deviates = is_late events && is_on_plan events plan.now in
         IfOk result (λ r. r ≡ (if deviates then record_of wagon events else None)) }
 {

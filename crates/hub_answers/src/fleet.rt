@@ -2,8 +2,8 @@
 ghost use Rattle.std.specs.Prelude.{◌≡◌, ◌<◌, length, slice_get, Some, IfOk};
 ghost use Rattle.wimo.specs.Records.{record_of};
 ghost use Rattle.wagon_number.specs.declared.number.WagonNumber.{WagonNumber};
-ghost use Rattle.hub_model.specs.Answers as of;
-ghost use Rattle.hub_tables.specs.Tabled.{known};
+ghost use Rattle.hub_model.specs.Replies as of;
+ghost use Rattle.hub_tables.specs.TableStates.{table_state};
 
 use hub_tables::Tables;
 use std::alloc::Global;
@@ -13,7 +13,7 @@ use taf_messages::Record;
 /// The records of all wagons that were planned, in the order of their first plans. The only error is
 /// that memory was refused.
 pub fn view(alloc: Global, tables: &Tables) -> Result<Vec<Record>, Memory>
-    ensures { IfOk result (λ v. v.items ≡ of.view (known tables.now)) }
+    ensures { IfOk result (λ v. v.items ≡ of.view (table_state tables.now)) }
 {
     let mut records = Vec::new(alloc);
     for i in 0..tables.fleet_len() {
@@ -24,8 +24,8 @@ pub fn view(alloc: Global, tables: &Tables) -> Result<Vec<Record>, Memory>
 
 /// The record of the wagon at this place of the fleet, from 0.
 fn record_at(alloc: Global, tables: &Tables, i: usize) -> Result<Record, Memory>
-    requires { i < length (known tables.now).fleet }
-    ensures { let s = known tables.now in
+    requires { i < length (table_state tables.now).fleet }
+    ensures { let s = table_state tables.now in
         IfOk result (λ r. (w : WagonNumber) → slice_get s.fleet i ≡ Some w → record_of w (s.journey w) ≡ Some r) }
 {
     match tables.at(i) {

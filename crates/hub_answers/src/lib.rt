@@ -23,7 +23,7 @@
 #![tactic(auto)]
 
 mod asking;
-mod counted;
+mod affected;
 mod deviations;
 mod fleet;
 mod overtaking;

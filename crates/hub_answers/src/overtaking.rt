@@ -4,9 +4,9 @@ ghost use Rattle.std.specs.List.{list_any};
 ghost use Rattle.trip_plan.specs.Rules.{loads};
 ghost use Rattle.replay_numbers.specs.Names.{same_name};
 ghost use Rattle.hub_model.specs.Overtaking as of;
-ghost use Rattle.hub_tables.specs.Tabled.{known};
+ghost use Rattle.hub_tables.specs.TableStates.{table_state};
 
-use crate::counted::Counted;
+use crate::affected::AffectedWagons;
 use hub_tables::{Tables, units_in};
 use taf_codes::{ConsignmentId, Railway, UnitCode};
 use taf_messages::{Body, Message, MessageNumber};
@@ -16,41 +16,41 @@ use trip_plan::UnitLoad;
 /// they get the same replies in either order. An answer also counts with the wagons of its offer,
 /// and any message with the units on its wagons. Takes no memory.
 pub fn apart(tables: &Tables, first: &Message, second: &Message) -> bool
-    ensures { result ≡ of.is_apart (known tables.now) first.now second.now }
+    ensures { result ≡ of.is_apart (table_state tables.now) first.now second.now }
 {
-    !Counted::of(tables, first).share(&Counted::of(tables, second))
-        && !loads_counted(tables, first, second)
-        && !loads_counted(tables, second, first)
-        && !shares(consignment_in(first.body()), consignment_in(second.body()))
-        && !shares(offer_named(first), offer_named(second))
+    !AffectedWagons::of(tables, first).share_wagon_with(&AffectedWagons::of(tables, second))
+        && !loads_affected(tables, first, second)
+        && !loads_affected(tables, second, first)
+        && !both_same(consignment_in(first.body()), consignment_in(second.body()))
+        && !both_same(offer_named(first), offer_named(second))
         && !same_name(first, second)
 }
 
 /// Whether the first message loads a unit that the second counts with.
-fn loads_counted(tables: &Tables, first: &Message, second: &Message) -> bool
-    ensures { result ≡ of.loads_counted (known tables.now) first.now second.now }
+fn loads_affected(tables: &Tables, first: &Message, second: &Message) -> bool
+    ensures { result ≡ of.loads_affected (table_state tables.now) first.now second.now }
 {
-    any_counted(tables, second, units_in(first.body()))
+    any_affected(tables, second, units_in(first.body()))
 }
 
 /// Whether the message counts with one of the units.
-fn any_counted(tables: &Tables, message: &Message, loads: &[UnitLoad]) -> bool
-    ensures { result ≡ list_any (λ l. of.counts_unit (known tables.now) message.now l.unit) loads.now }
+fn any_affected(tables: &Tables, message: &Message, loads: &[UnitLoad]) -> bool
+    ensures { result ≡ list_any (λ l. of.affects_unit (table_state tables.now) message.now l.unit) loads.now }
 {
     loads
         .iter()
-        .any(|load| counts_unit(tables, message, load.unit))
+        .any(|load| affects_unit(tables, message, load.unit))
 }
 
 /// Whether the message loads the unit, or counts with the unit's wagon.
-fn counts_unit(tables: &Tables, message: &Message, unit: UnitCode) -> bool
-    ensures { result ≡ of.counts_unit (known tables.now) message.now unit }
+fn affects_unit(tables: &Tables, message: &Message, unit: UnitCode) -> bool
+    ensures { result ≡ of.affects_unit (table_state tables.now) message.now unit }
 {
     if loads(units_in(message.body()), unit) {
         return true;
     }
     match tables.unit_wagon(unit) {
-        Some(wagon) => Counted::of(tables, message).has(wagon),
+        Some(wagon) => AffectedWagons::of(tables, message).has(wagon),
         None => false,
     }
 }
@@ -85,8 +85,8 @@ fn offer_named(message: &Message) -> Option<(Railway, MessageNumber)>
 }
 
 /// Whether both are there, and are the same.
-fn shares<T: PartialEq + Copy>(first: Option<T>, second: Option<T>) -> bool
-    ensures { result ≡ of.shares T.eq first second }
+fn both_same<T: PartialEq + Copy>(first: Option<T>, second: Option<T>) -> bool
+    ensures { result ≡ of.both_same T.eq first second }
 {
     match (first, second) {
         (Some(one), Some(other)) => one == other,

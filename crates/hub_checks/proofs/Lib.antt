@@ -1,2 +1,2 @@
-pub mod GoingOn
-pub mod Loads
+pub mod ContinuationLemmas
+pub mod UnitLoadLemmas

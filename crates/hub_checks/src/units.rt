@@ -2,7 +2,7 @@
 ghost use Rattle.std.specs.Prelude.{◌≡◌};
 ghost use Rattle.hub_model.specs.Units as of;
 ghost use Rattle.hub_model.specs.Faults.{unit_fault};
-ghost use Rattle.hub_tables.specs.Tabled.{known};
+ghost use Rattle.hub_tables.specs.TableStates.{table_state};
 
 use crate::wagon::is_delivered;
 use hub_model::Fault;
@@ -13,7 +13,7 @@ use trip_plan::UnitLoad;
 
 /// The first unit that is busy, at the wagon that it is to be loaded on.
 pub(crate) fn unit_fault(tables: &Tables, units: &[UnitLoad]) -> Option<Fault>
-    ensures { result ≡ unit_fault (known tables.now) units.now }
+    ensures { result ≡ unit_fault (table_state tables.now) units.now }
 {
     for load in units {
         if is_unit_busy(tables, load.unit) {
@@ -28,7 +28,7 @@ pub(crate) fn unit_fault(tables: &Tables, units: &[UnitLoad]) -> Option<Fault>
 
 // It has a wagon whose journey has no delivery.
 fn is_unit_busy(tables: &Tables, unit: UnitCode) -> bool
-    ensures { result ≡ of.is_unit_busy (known tables.now) unit }
+    ensures { result ≡ of.is_unit_busy (table_state tables.now) unit }
 {
     match tables.unit_wagon(unit) {
         Some(wagon) => !is_delivered(tables, wagon),

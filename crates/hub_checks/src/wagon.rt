@@ -5,10 +5,10 @@ ghost use Rattle.trip_plan.specs.Rules.{has};
 ghost use Rattle.journey.specs.Stages as stages;
 ghost use Rattle.journey.specs.Checks.{refusal};
 ghost use Rattle.eti_chain.specs.Estimates as estimates;
-ghost use Rattle.hub_model.specs.Standing.{named};
+ghost use Rattle.hub_model.specs.HubState.{named_wagons};
 ghost use Rattle.hub_model.specs.Faults as of;
 ghost use Rattle.hub_model.specs.Laws.{OpenIsOffered};
-ghost use Rattle.hub_tables.specs.Tabled.{known};
+ghost use Rattle.hub_tables.specs.TableStates.{table_state};
 
 use hub_tables::{Tables, Wagon};
 use journey::{Event, EventBody};
@@ -22,10 +22,10 @@ pub(crate) fn wagon_fault(
     message: &Message,
     wagon: WagonNumber,
 ) -> Result<Option<Why>, Memory>
-    requires whole { of.whole_fault (known tables.now) message.now.by message.now.body ≡ None }
-    requires offered { OpenIsOffered (known tables.now) }
-    requires is_named { has (named (known tables.now).offer message.now) wagon ≡ true }
-    ensures { IfOk result (λ why. why ≡ of.wagon_fault (known tables.now) message.now message.now.body wagon) }
+    requires whole { of.whole_fault (table_state tables.now) message.now.by message.now.body ≡ None }
+    requires offered { OpenIsOffered (table_state tables.now) }
+    requires is_named { has (named_wagons (table_state tables.now).offer message.now) wagon ≡ true }
+    ensures { IfOk result (λ why. why ≡ of.wagon_fault (table_state tables.now) message.now message.now.body wagon) }
 {
     match message.body() {
         Body::Plan(_) => Ok(busy_fault(tables, wagon)),
@@ -41,7 +41,7 @@ pub(crate) fn wagon_fault(
 
 // A wagon is planned anew once it is delivered.
 fn busy_fault(tables: &Tables, wagon: WagonNumber) -> Option<Why>
-    ensures { result ≡ (if of.is_busy ((known tables.now).journey wagon) then Some Why.WagonBusy else None) }
+    ensures { result ≡ (if of.is_busy ((table_state tables.now).journey wagon) then Some Why.WagonBusy else None) }
 {
     if is_busy(tables, wagon) {
         Some(Why::WagonBusy)
@@ -52,20 +52,20 @@ fn busy_fault(tables: &Tables, wagon: WagonNumber) -> Option<Why>
 
 // It has a journey without delivery.
 fn is_busy(tables: &Tables, wagon: WagonNumber) -> bool
-    ensures { result ≡ of.is_busy ((known tables.now).journey wagon) }
+    ensures { result ≡ of.is_busy ((table_state tables.now).journey wagon) }
 {
     match tables.wagon(wagon) {
-        Some(found) => !found.track().situation().is_delivered,
+        Some(found) => !found.track().journey_state().is_delivered,
         None => false,
     }
 }
 
 /// Whether the wagon was delivered.
 pub(crate) fn is_delivered(tables: &Tables, wagon: WagonNumber) -> bool
-    ensures { result ≡ stages.is_delivered ((known tables.now).journey wagon) }
+    ensures { result ≡ stages.is_delivered ((table_state tables.now).journey wagon) }
 {
     match tables.wagon(wagon) {
-        Some(found) => found.track().situation().is_delivered,
+        Some(found) => found.track().journey_state().is_delivered,
         None => false,
     }
 }
@@ -76,22 +76,22 @@ fn either_fault(
     message: &Message,
     wagon: WagonNumber,
 ) -> Result<Option<Why>, Memory>
-    requires whole { of.whole_fault (known tables.now) message.now.by message.now.body ≡ None }
-    requires is_named { has (named (known tables.now).offer message.now) wagon ≡ true }
-    ensures { IfOk result (λ why. why ≡ option_or (of.known_fault (known tables.now) message.now wagon) (of.calendar_fault (known tables.now) message.now wagon)) }
+    requires whole { of.whole_fault (table_state tables.now) message.now.by message.now.body ≡ None }
+    requires is_named { has (named_wagons (table_state tables.now).offer message.now) wagon ≡ true }
+    ensures { IfOk result (λ why. why ≡ option_or (of.known_fault (table_state tables.now) message.now wagon) (of.calendar_fault (table_state tables.now) message.now wagon)) }
 {
     match tables.wagon(wagon) {
         Some(found) => {
-            let event = tables.share(message, wagon)?;
-            Ok(share_fault(found, &event))
+            let event = tables.event_for(message, wagon)?;
+            Ok(event_fault(found, &event))
         }
         None => Ok(Some(Why::UnknownWagon)),
     }
 }
 
 // The same of a wagon that is known, by its share of the message.
-fn share_fault(wagon: &Wagon, event: &Event) -> Option<Why>
-    ensures { result ≡ option_or (refusal wagon.now.events event.now.by event.now.body) (if estimates.is_reckoned event.now.body && not (estimates.fits (wagon.now.events ++ event.now ∷ [])) then Some Why.BeyondCalendar else None) }
+fn event_fault(wagon: &Wagon, event: &Event) -> Option<Why>
+    ensures { result ≡ option_or (refusal wagon.now.events event.now.by event.now.body) (if estimates.is_calendar_checked event.now.body && not (estimates.fits (wagon.now.events ++ event.now ∷ [])) then Some Why.BeyondCalendar else None) }
 {
     match wagon.track().admits(event) {
         Some(why) => Some(why),
@@ -106,12 +106,12 @@ fn calendar_fault(
     message: &Message,
     wagon: WagonNumber,
 ) -> Result<Option<Why>, Memory>
-    requires whole { of.whole_fault (known tables.now) message.now.by message.now.body ≡ None }
-    requires is_named { has (named (known tables.now).offer message.now) wagon ≡ true }
-    requires admitted { of.known_fault (known tables.now) message.now wagon ≡ None }
-    ensures { IfOk result (λ why. why ≡ of.calendar_fault (known tables.now) message.now wagon) }
+    requires whole { of.whole_fault (table_state tables.now) message.now.by message.now.body ≡ None }
+    requires is_named { has (named_wagons (table_state tables.now).offer message.now) wagon ≡ true }
+    requires admitted { of.known_fault (table_state tables.now) message.now wagon ≡ None }
+    ensures { IfOk result (λ why. why ≡ of.calendar_fault (table_state tables.now) message.now wagon) }
 {
-    let event = tables.share(message, wagon)?;
+    let event = tables.event_for(message, wagon)?;
     match tables.wagon(wagon) {
         Some(found) if is_beyond(found, &event) => Ok(Some(Why::BeyondCalendar)),
         Some(_) => Ok(None),
@@ -122,9 +122,9 @@ fn calendar_fault(
 // With the event, which its journey admits, an estimate of the wagon would pass the calendar.
 fn is_beyond(wagon: &Wagon, event: &Event) -> bool
     requires { refusal wagon.now.events event.now.by event.now.body ≡ None }
-    ensures { result ≡ (estimates.is_reckoned event.now.body && not (estimates.fits (wagon.now.events ++ event.now ∷ []))) }
+    ensures { result ≡ (estimates.is_calendar_checked event.now.body && not (estimates.fits (wagon.now.events ++ event.now ∷ []))) }
 {
-    is_reckoned(&event.body) && would_pass_calendar(wagon, event)
+    is_calendar_checked(&event.body) && would_pass_calendar(wagon, event)
 }
 
 // An estimate would pass the calendar with the event, whether that refuses it or not.
@@ -132,16 +132,16 @@ fn would_pass_calendar(wagon: &Wagon, event: &Event) -> bool
     requires { refusal wagon.now.events event.now.by event.now.body ≡ None }
     ensures { result ≡ not (estimates.fits (wagon.now.events ++ event.now ∷ [])) }
 {
-    let step = wagon.track().step(event);
-    wagon.estimates().step_passes_calendar(&step)
+    let transition = wagon.track().transition(event);
+    wagon.estimates().transition_passes_calendar(&transition)
 }
 
 // An event that is refused where it would make an estimate pass the calendar.
-fn is_reckoned(says: &EventBody) -> bool
-    ensures { result ≡ estimates.is_reckoned says.now }
+fn is_calendar_checked(says: &EventBody) -> bool
+    ensures { result ≡ estimates.is_calendar_checked says.now }
 {
     match says {
-        EventBody::Moved(what) => is_reckoned_movement(*what),
+        EventBody::Moved(what) => is_checked_movement(*what),
         EventBody::LegTimed { .. } | EventBody::Answered { .. } | EventBody::Rerouted(_) => true,
         EventBody::Planned(_)
         | EventBody::EstimateAsked
@@ -151,8 +151,8 @@ fn is_reckoned(says: &EventBody) -> bool
 }
 
 // The same of a movement.
-fn is_reckoned_movement(what: MovementKind) -> bool
-    ensures { result ≡ estimates.is_reckoned (EventBody.Moved what) }
+fn is_checked_movement(what: MovementKind) -> bool
+    ensures { result ≡ estimates.is_calendar_checked (EventBody.Moved what) }
 {
     matches!(
         what,

@@ -3,7 +3,7 @@ ghost use Rattle.std.specs.Prelude.{◌≡◌, ℕ};
 ghost use Rattle.taf_codes.specs.declared.code.Railway.{Railway};
 ghost use Rattle.taf_messages.specs.declared.message.Body.TheVariants as body;
 ghost use Rattle.hub_model.specs.Faults.{whole_fault};
-ghost use Rattle.hub_tables.specs.Tabled.{known};
+ghost use Rattle.hub_tables.specs.TableStates.{table_state};
 
 use hub_tables::Tables;
 use taf_codes::Railway;
@@ -12,7 +12,7 @@ use trip_plan::Plan;
 
 /// Why the message as a whole is refused, if it is.
 pub(crate) fn whole_fault(tables: &Tables, by: Railway, says: &Body) -> Option<Why>
-    ensures { result ≡ whole_fault (known tables.now) by says.now }
+    ensures { result ≡ whole_fault (table_state tables.now) by says.now }
 {
     match says {
         Body::Plan(plan) => plan_fault(tables, plan),
@@ -28,7 +28,7 @@ pub(crate) fn whole_fault(tables: &Tables, by: Railway, says: &Body) -> Option<W
 
 // A plan needs a consignment of its own.
 fn plan_fault(tables: &Tables, plan: &Plan) -> Option<Why>
-    ensures { (by : Railway) → result ≡ whole_fault (known tables.now) by (body.Plan plan.now) }
+    ensures { (by : Railway) → result ≡ whole_fault (table_state tables.now) by (body.Plan plan.now) }
 {
     if tables.plan(plan.consignment()).is_some() {
         Some(Why::ConsignmentTaken)
@@ -39,7 +39,7 @@ fn plan_fault(tables: &Tables, plan: &Plan) -> Option<Why>
 
 // An answer needs an open offer to its sender, and all wagons of it.
 fn answer_fault(tables: &Tables, by: Railway, answer: &TrainAnswer) -> Option<Why>
-    ensures { result ≡ whole_fault (known tables.now) by (body.Answer answer.now) }
+    ensures { result ≡ whole_fault (table_state tables.now) by (body.Answer answer.now) }
 {
     let Some(offer) = tables.offer(answer.offerer, answer.offer) else {
         return Some(Why::UnknownOffer);
@@ -57,7 +57,7 @@ fn answer_fault(tables: &Tables, by: Railway, answer: &TrainAnswer) -> Option<Wh
 
 // A withdrawal needs an open offer of its sender.
 fn withdraw_fault(tables: &Tables, by: Railway, offer: MessageNumber) -> Option<Why>
-    ensures { (at : ℕ) → result ≡ whole_fault (known tables.now) by (body.Withdraw at offer) }
+    ensures { (at : ℕ) → result ≡ whole_fault (table_state tables.now) by (body.Withdraw at offer) }
 {
     if tables.offer(by, offer).is_none() {
         Some(Why::UnknownOffer)

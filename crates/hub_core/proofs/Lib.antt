@@ -1,5 +1,5 @@
-pub mod Keeping
-pub mod Acks
-pub mod Sends
-pub mod DeliverySteps
-pub mod Acceptable
+pub mod HistoryLemmas
+pub mod AcknowledgementLemmas
+pub mod SendLemmas
+pub mod DeliveryLemmas
+pub mod AcceptableLemmas

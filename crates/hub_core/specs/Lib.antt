@@ -1,4 +1,4 @@
 pub mod Faults
-pub mod Books
+pub mod States
 pub mod Delivery
 pub mod Apart

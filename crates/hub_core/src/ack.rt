@@ -1,11 +1,11 @@
 //! Acknowledgements.
 ghost use Rattle.std.specs.Prelude.{◌≡◌, ◌<◌, ◌∷◌, [], ◌++◌, length, IfOk, OnErr, nat_lt, max, if◌then◌else◌, None, Some};
 ghost use Rattle.taf_messages.specs.declared.call.Call.TheVariants as call;
-ghost use Rattle.outbox.specs.Kept.{kept_for, last_of};
-ghost use Rattle.hub_model.specs.Answers.{answer};
-ghost use Rattle.hub_core.specs.Books.{IsKept, told_of_ack};
+ghost use Rattle.outbox.specs.OutboxStates.{outbox_state_of, last_of};
+ghost use Rattle.hub_model.specs.Histories.{answer};
+ghost use Rattle.hub_core.specs.States.{IsConsistent, ack_outcome_reply};
 
-use crate::books::Books;
+use crate::state::State;
 use hub_model::Entry;
 use outbox::{AckAhead, boxes_keep_the_lists};
 use taf_codes::{Memory, Railway};
@@ -13,7 +13,7 @@ use taf_messages::{Call, ItemNumber, Reply, Why};
 
 /// The reply to an acknowledgement that stands, or is ahead.
 fn reply_of(outcome: Result<u64, AckAhead>) -> Reply
-    ensures { result ≡ told_of_ack outcome }
+    ensures { result ≡ ack_outcome_reply outcome }
 {
     match outcome {
         Ok(stands) => Reply::Acknowledged(stands),
@@ -27,18 +27,18 @@ fn reply_of(outcome: Result<u64, AckAhead>) -> Reply
 }
 
 /// Takes an acknowledgement. The items up to its number are dropped.
-pub fn take_ack(books: &mut Books, by: Railway, item: ItemNumber) -> Result<Reply, Memory>
-    requires kept { IsKept books.old }
-    requires room { length books.old.history.entries < 1000000 }
-    ensures kept { IsKept books.new }
-    ensures answered { IfOk result (λ r. r ≡ answer books.old.history.entries (call.Ack by item)) }
-    ensures grows { IfOk result (λ r. books.new.history.entries ≡ books.old.history.entries ++ record { call = call.Ack by item; reply = r } ∷ []) }
-    ensures err { OnErr result (books.new.history.entries ≡ books.old.history.entries) }
+pub fn apply_ack(state: &mut State, by: Railway, item: ItemNumber) -> Result<Reply, Memory>
+    requires kept { IsConsistent state.old }
+    requires room { length state.old.history.entries < 1000000 }
+    ensures kept { IsConsistent state.new }
+    ensures answered { IfOk result (λ r. r ≡ answer state.old.history.entries (call.Ack by item)) }
+    ensures grows { IfOk result (λ r. state.new.history.entries ≡ state.old.history.entries ++ record { call = call.Ack by item; reply = r } ∷ []) }
+    ensures err { OnErr result (state.new.history.entries ≡ state.old.history.entries) }
 {
     boxes_keep_the_lists();
-    books.history.reserve()?;
-    let outcome = books.outboxes.ack(by, item.get());
-    books.history.push_reserved(Entry {
+    state.history.reserve()?;
+    let outcome = state.outboxes.ack(by, item.get());
+    state.history.push_reserved(Entry {
         call: Call::Ack { by, item },
         reply: reply_of(outcome),
     });

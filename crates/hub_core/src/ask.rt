@@ -1,10 +1,10 @@
 //! Questions: they change nothing that is looked up.
 ghost use Rattle.std.specs.Prelude.{◌≡◌, IfOk, ◌<◌, ◌∷◌, [], ◌++◌, length, OnOk, OnErr};
-ghost use Rattle.hub_model.specs.Answers.{answer};
+ghost use Rattle.hub_model.specs.Histories.{answer};
 ghost use Rattle.taf_messages.specs.declared.call.Call.TheVariants as call;
-ghost use Rattle.hub_core.specs.Books.{IsKept};
+ghost use Rattle.hub_core.specs.States.{IsConsistent};
 
-use crate::books::Books;
+use crate::state::State;
 use hub_answers::{ask, ask_unit, deviation};
 use std::alloc::Global;
 use taf_codes::{ConsignmentId, Memory, Railway, UnitCode};
@@ -14,53 +14,53 @@ use wagon_number::WagonNumber;
 /// The reply to one who asks for a wagon.
 pub fn ask_reply(
     alloc: Global,
-    books: &Books,
+    state: &State,
     by: Railway,
     wagon: WagonNumber,
 ) -> Result<Reply, Memory>
-    requires { IsKept books.now }
-    ensures { IfOk result (λ r. r ≡ answer books.now.history.entries (call.Ask by wagon)) }
+    requires { IsConsistent state.now }
+    ensures { IfOk result (λ r. r ≡ answer state.now.history.entries (call.Ask by wagon)) }
 {
-    ask(alloc, &books.tables, by, wagon)
+    ask(alloc, &state.tables, by, wagon)
 }
 
 /// The reply to one who asks for an intermodal unit.
 pub fn unit_reply(
     alloc: Global,
-    books: &Books,
+    state: &State,
     by: Railway,
     unit: UnitCode,
 ) -> Result<Reply, Memory>
-    requires { IsKept books.now }
-    ensures { IfOk result (λ r. r ≡ answer books.now.history.entries (call.AskUnit by unit)) }
+    requires { IsConsistent state.now }
+    ensures { IfOk result (λ r. r ≡ answer state.now.history.entries (call.AskUnit by unit)) }
 {
-    ask_unit(alloc, &books.tables, by, unit)
+    ask_unit(alloc, &state.tables, by, unit)
 }
 
 /// The reply to one who asks for the deviations of a consignment.
 pub fn deviation_reply(
     alloc: Global,
-    books: &Books,
+    state: &State,
     by: Railway,
     consignment: ConsignmentId,
 ) -> Result<Reply, Memory>
-    requires { IsKept books.now }
-    ensures { IfOk result (λ r. r ≡ answer books.now.history.entries (call.Deviation by consignment)) }
+    requires { IsConsistent state.now }
+    ensures { IfOk result (λ r. r ≡ answer state.now.history.entries (call.Deviation by consignment)) }
 {
-    deviation(alloc, &books.tables, by, consignment)
+    deviation(alloc, &state.tables, by, consignment)
 }
 
-#[tactic(auto, using(crate::proofs::Keeping::fetch_answer))]
+#[tactic(auto, using(crate::proofs::HistoryLemmas::fetch_answer))]
 /// The reply to one who fetches items.
 pub fn fetch_reply(
     alloc: Global,
-    books: &Books,
+    state: &State,
     by: Railway,
     limit: FetchLimit,
 ) -> Result<Reply, Memory>
-    requires { IsKept books.now }
-    ensures { IfOk result (λ r. r ≡ answer books.now.history.entries (call.Fetch by limit)) }
+    requires { IsConsistent state.now }
+    ensures { IfOk result (λ r. r ≡ answer state.now.history.entries (call.Fetch by limit)) }
 {
-    let items = books.outboxes.fetch(by, limit)?;
+    let items = state.outboxes.fetch(by, limit)?;
     Ok(Reply::Items(Shared::new(alloc, items)?))
 }

@@ -1,18 +1,18 @@
 //! Items on their way into the outboxes.
 ghost use Rattle.std.specs.Prelude.{◌≡◌, ◌<◌, ◌^◌, length, OnOk};
 ghost use Rattle.taf_codes.specs.declared.code.Railway.{Railway};
-ghost use Rattle.outbox.specs.Kept.{kept_for, pushed};
+ghost use Rattle.outbox.specs.OutboxStates.{outbox_state_of, with_items};
 ghost use Rattle.hub_model.specs.Items.{items_to};
 ghost use Rattle.hub_core.specs.Delivery.{AreReady};
 
-use hub_model::Addressed;
+use hub_model::AddressedItem;
 use outbox::Outboxes;
 use taf_codes::Memory;
 
 /// Makes room for these items in the boxes of their railways: in each for all of them, however they are spread. What is
 /// kept in the boxes stays. Memory is answered also where a box had 2^62 items.
-pub fn make_room_for(outboxes: &mut Outboxes, items: &[Addressed]) -> Result<(), Memory>
-    ensures kept { (r : Railway) → kept_for outboxes.new r ≡ kept_for outboxes.old r }
+pub fn make_room_for(outboxes: &mut Outboxes, items: &[AddressedItem]) -> Result<(), Memory>
+    ensures kept { (r : Railway) → outbox_state_of outboxes.new r ≡ outbox_state_of outboxes.old r }
     ensures ready { OnOk result (AreReady outboxes.new (2 ^ 62) (length items.now) items.now) }
 {
     for item in items {
@@ -22,10 +22,10 @@ pub fn make_room_for(outboxes: &mut Outboxes, items: &[Addressed]) -> Result<(),
 }
 
 /// Puts the items into the boxes of their railways. It takes no memory.
-pub fn deliver(outboxes: &mut Outboxes, items: Vec<Addressed>)
+pub fn deliver(outboxes: &mut Outboxes, items: Vec<AddressedItem>)
     requires ready { AreReady outboxes.old (2 ^ 62) (length items.items) items.items }
     requires few { length items.items < 2 ^ 62 }
-    ensures { (r : Railway) → kept_for outboxes.new r ≡ pushed (kept_for outboxes.old r) (items_to r items.items) }
+    ensures { (r : Railway) → outbox_state_of outboxes.new r ≡ with_items (outbox_state_of outboxes.old r) (items_to r items.items) }
 {
     for item in items {
         let _number = outboxes.put(item.to, item.body);

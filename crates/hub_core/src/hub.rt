@@ -1,13 +1,14 @@
 ghost use Rattle.std.specs.Prelude.{◌≡◌, ◌↔◌, ◌<◌, ◌≤◌, [], ◌∷◌, ◌++◌, List, length, map, slice_get, option_copied, IfOk, IfErr, OnErr, IsTrue, Err};
-ghost use Rattle.hub_model.specs.Answers.{IsLegal, answer, run, standing_of, view};
+ghost use Rattle.hub_model.specs.Replies.{view};
+ghost use Rattle.hub_model.specs.Histories.{IsLegal, answer, run, state_of};
 ghost use Rattle.hub_model.specs.Bounds.{AreWithinLimits};
 ghost use Rattle.hub_model.specs.Laws.{AreDated};
 ghost use Rattle.hub_core.specs.Apart.{are_apart};
 ghost use Rattle.hub_core.specs.Faults.{IsFault};
 
-use crate::books::Books;
+use crate::state::State;
 use crate::fault::HubFault;
-use crate::take::take;
+use crate::applying::apply_call;
 use crate::view::View;
 use hub_answers::{apart, view};
 use hub_model::{Entry, histories_are_runs};
@@ -22,20 +23,20 @@ pub const MOST_CALLS: usize = 1_000_000;
 /// The hub, seen as its history: the entries in the order in which it took their calls.
 #[derive(Drop)]
 pub struct Hub {
-    books: Books,
+    state: State,
     alloc: Global,
 }
 
 impl Model for Hub {
     ghost use Rattle.std.specs.Prelude.{List};
     ghost use Rattle.hub_model.specs.declared.entry.Entry.{Entry};
-    ghost use Rattle.hub_core.specs.Books.{IsKept};
+    ghost use Rattle.hub_core.specs.States.{IsConsistent};
 
     ghost Value = { List Entry };
 
-    ghost view = { λ h. h.books.history.entries };
+    ghost view = { λ h. h.state.history.entries };
 
-    ghost invariant = { λ h. IsKept h.books };
+    ghost invariant = { λ h. IsConsistent h.state };
 }
 
 impl Hub {
@@ -44,7 +45,7 @@ impl Hub {
         ensures { result ≡ [] }
     {
         Hub {
-            books: Books::new(alloc),
+            state: State::new(alloc),
             alloc,
         }
     }
@@ -54,21 +55,21 @@ impl Hub {
         ensures value { result ≡ length self.now }
         ensures few { result ≤ 1000000 }
     {
-        self.books.history.len()
+        self.state.history.len()
     }
 
     /// Whether the hub has taken no call.
     pub fn is_empty(&self) -> bool
         ensures { IsTrue result ↔ (self.now ≡ []) }
     {
-        self.books.history.len() == 0
+        self.state.history.len() == 0
     }
 
     /// The entry at this position, from 0.
     pub fn entry(&self, i: usize) -> Option<&Entry>
         ensures { option_copied result ≡ slice_get self.now i }
     {
-        self.books.history.get(i)
+        self.state.history.get(i)
     }
 
     /// The history of every hub is legal: its replies are those that its calls get on a new hub, one after another. Its
@@ -80,7 +81,7 @@ impl Hub {
         ensures within { AreWithinLimits self.now }
     {
         histories_are_runs();
-        let _books = &self.books;
+        let _books = &self.state;
     }
 
     /// Takes a call, and gives its position in the history and its reply.
@@ -92,11 +93,11 @@ impl Hub {
         ensures full { length self.old ≡ 1000000 → result ≡ Err (HubFault.Full call) }
         ensures unchanged { OnErr result (self.new ≡ self.old) }
     {
-        let position = self.books.history.len();
+        let position = self.state.history.len();
         if position >= MOST_CALLS {
             return Err(HubFault::Full(call));
         }
-        match take(self.alloc, &mut self.books, call) {
+        match apply_call(self.alloc, &mut self.state, call) {
             Ok(reply) => Ok((position as u64, reply)),
             Err(_) => Err(HubFault::Memory),
         }
@@ -105,20 +106,20 @@ impl Hub {
     /// The records of all planned wagons, by the first accepted plan that named each, then by its
     /// place in that plan.
     pub fn view(&self) -> Result<View, Memory>
-        ensures { IfOk result (λ v. v ≡ view (standing_of self.now)) }
+        ensures { IfOk result (λ v. v ≡ view (state_of self.now)) }
     {
-        let records = view(self.alloc, &self.books.tables)?;
+        let records = view(self.alloc, &self.state.tables)?;
         Ok(View::from_vec(records))
     }
 
     /// Whether both calls are sends whose messages may come in either order: they share no wagon,
     /// unit, consignment, offer or name. It takes no memory.
     pub fn apart(&self, call: &Call, other: &Call) -> bool
-        ensures { result ≡ are_apart (standing_of self.now) call.now other.now }
+        ensures { result ≡ are_apart (state_of self.now) call.now other.now }
     {
         match (call, other) {
             (Call::Send(message), Call::Send(also)) => {
-                apart(&self.books.tables, message.get(), also.get())
+                apart(&self.state.tables, message.get(), also.get())
             }
             _ => false,
         }

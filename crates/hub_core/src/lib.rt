@@ -6,7 +6,7 @@
 //!
 //! Contracts see a [`Hub`] as its history, the list of its entries. Behind it stand the hub's *books*: the history in
 //! pages, the tables of wagons, plans and offers, the first sends by their names, and the outboxes. The books are *kept*:
-//! the history is legal, and each of them answers as the model does after it (`specs/Books.antt`). No function looks
+//! the history is legal, and each of them answers as the model does after it (`specs/States.antt`). No function looks
 //! through the history, so a call takes no longer when it is long.
 //!
 //! A message is taken in two steps. First comes all that may be refused memory: the items, their places in the outboxes,
@@ -19,17 +19,17 @@
 //! | `ack` | acknowledgements |
 //! | `send` | messages: sent before, refused, accepted |
 //! | `delivery` | items on their way into the outboxes |
-//! | `take` | each call to its part |
+//! | `applying` | each call to its part |
 #![tactic(auto)]
 
 mod ack;
 mod ask;
-mod books;
+mod state;
 mod delivery;
 mod fault;
 mod hub;
 mod send;
-mod take;
+mod applying;
 mod view;
 
 pub use fault::HubFault;

@@ -1,24 +1,25 @@
 //! Messages: new ones, and those that were sent before.
 ghost use Rattle.std.specs.Prelude.{◌≡◌, ◌<◌, ◌^◌, ◌∷◌, [], ◌++◌, length, IfOk, OnOk, OnErr, Some, None, true};
 ghost use Rattle.taf_codes.specs.declared.code.Railway.{Railway};
-ghost use Rattle.outbox.specs.Kept.{kept_for};
+ghost use Rattle.outbox.specs.OutboxStates.{outbox_state_of};
 ghost use Rattle.taf_messages.specs.declared.call.Call.TheVariants as call;
-ghost use Rattle.replay_numbers.specs.Notes.{position_of, has_room};
-ghost use Rattle.hub_model.specs.Answers.{answer, verdict};
-ghost use Rattle.hub_model.specs.Standing.{moment_in};
+ghost use Rattle.replay_numbers.specs.SentPositions.{position_of, has_room};
+ghost use Rattle.hub_model.specs.Replies.{verdict};
+ghost use Rattle.hub_model.specs.Histories.{answer};
+ghost use Rattle.hub_model.specs.HubState.{moment_in};
 ghost use Rattle.hub_model.specs.Faults.{fault};
 ghost use Rattle.hub_model.specs.Bounds.{IsWithinLimits};
 ghost use Rattle.hub_model.specs.Laws.{IsMoment};
 ghost use Rattle.hub_model.specs.Items.{items_of};
-ghost use Rattle.hub_tables.specs.Tabled.{known, IsAcceptable};
-ghost use Rattle.hub_core.specs.Books.{IsKept, KeepsLimits};
+ghost use Rattle.hub_tables.specs.TableStates.{table_state, IsAcceptable};
+ghost use Rattle.hub_core.specs.States.{IsConsistent, KeepsLimits};
 ghost use Rattle.hub_core.specs.Delivery.{AreReady};
 
-use crate::books::{Books, enter};
+use crate::state::{State, append_entry};
 use crate::delivery::{deliver, make_room_for};
 use hub_checks::fault;
 use hub_items::items;
-use hub_model::{Addressed, Entry, Fault, estimates_fit, offers_are_in_order};
+use hub_model::{AddressedItem, Entry, Fault, estimates_fit, offers_are_in_order};
 use hub_tables::Tables;
 use outbox::boxes_keep_the_lists;
 use std::alloc::Global;
@@ -27,12 +28,12 @@ use taf_messages::{Body, Call, Message, MessageNumber, Reply, Shared, Why, copy_
 
 /// The reply to a message whose number its sender used before: the same reply again to the same
 /// message, and a refusal to another one.
-fn repeat_reply(books: &Books, position: u64, message: &Message) -> Result<Reply, Memory>
-    requires kept { IsKept books.now }
-    requires noted { position_of books.now.seen message.now.by message.now.no ≡ Some position }
-    ensures { IfOk result (λ r. r ≡ answer books.now.history.entries (call.Send message.now)) }
+fn repeat_reply(state: &State, position: u64, message: &Message) -> Result<Reply, Memory>
+    requires kept { IsConsistent state.now }
+    requires sent_before { position_of state.now.seen message.now.by message.now.no ≡ Some position }
+    ensures { IfOk result (λ r. r ≡ answer state.now.history.entries (call.Send message.now)) }
 {
-    let entry = match books.history.get(position as usize) {
+    let entry = match state.history.get(position as usize) {
         Some(entry) => entry,
         None => unreachable!(),
     };
@@ -79,48 +80,48 @@ fn entry_of(message: Shared<Message>, reply: Reply) -> Entry
 }
 
 /// Takes a new message that has a fault.
-fn refuse(books: &mut Books, message: Shared<Message>, found: Fault) -> Result<Reply, Memory>
-    requires kept { IsKept books.old }
-    requires room { length books.old.history.entries < 1000000 }
-    requires new { position_of books.old.seen message.by message.no ≡ None }
+fn refuse(state: &mut State, message: Shared<Message>, found: Fault) -> Result<Reply, Memory>
+    requires kept { IsConsistent state.old }
+    requires room { length state.old.history.entries < 1000000 }
+    requires new { position_of state.old.seen message.by message.no ≡ None }
     requires limits { KeepsLimits message }
-    requires fault { fault (known books.old.tables) message ≡ Some found }
-    ensures kept { IsKept books.new }
-    ensures answered { IfOk result (λ r. r ≡ answer books.old.history.entries (call.Send message)) }
-    ensures grows { IfOk result (λ r. books.new.history.entries ≡ books.old.history.entries ++ record { call = call.Send message; reply = r } ∷ []) }
-    ensures err { OnErr result (books.new.history.entries ≡ books.old.history.entries) }
+    requires fault { fault (table_state state.old.tables) message ≡ Some found }
+    ensures kept { IsConsistent state.new }
+    ensures answered { IfOk result (λ r. r ≡ answer state.old.history.entries (call.Send message)) }
+    ensures grows { IfOk result (λ r. state.new.history.entries ≡ state.old.history.entries ++ record { call = call.Send message; reply = r } ∷ []) }
+    ensures err { OnErr result (state.new.history.entries ≡ state.old.history.entries) }
 {
     let content = message.get().content();
     let by = content.by;
     let no = content.no;
     let reply = verdict(no, Some(found));
-    let told = copy_reply(&reply)?;
-    books.seen.reserve(by, no)?;
-    books.history.reserve()?;
-    let position = books.history.len() as u64;
-    books.seen.note_reserved(by, no, position);
-    books.history.push_reserved(entry_of(message, reply));
-    Ok(told)
+    let reply_copy = copy_reply(&reply)?;
+    state.seen.reserve(by, no)?;
+    state.history.reserve()?;
+    let position = state.history.len() as u64;
+    state.seen.note_reserved(by, no, position);
+    state.history.push_reserved(entry_of(message, reply));
+    Ok(reply_copy)
 }
 
 /// Makes room for one entry more, its name and these items. Nothing that is looked up changes.
 fn make_room(
-    books: &mut Books,
+    state: &mut State,
     by: Railway,
     no: MessageNumber,
-    items: &[Addressed],
+    items: &[AddressedItem],
 ) -> Result<(), Memory>
-    ensures entries { books.new.history.entries ≡ books.old.history.entries }
-    ensures tables { books.new.tables ≡ books.old.tables }
-    ensures positions { position_of books.new.seen ≡ position_of books.old.seen }
-    ensures boxes { (r : Railway) → kept_for books.new.outboxes r ≡ kept_for books.old.outboxes r }
-    ensures ready { OnOk result (AreReady books.new.outboxes (2 ^ 62) (length items.now) items.now) }
-    ensures room { OnOk result (0 < books.new.history.spare) }
-    ensures name { OnOk result (has_room books.new.seen by no ≡ true) }
+    ensures entries { state.new.history.entries ≡ state.old.history.entries }
+    ensures tables { state.new.tables ≡ state.old.tables }
+    ensures positions { position_of state.new.seen ≡ position_of state.old.seen }
+    ensures boxes { (r : Railway) → outbox_state_of state.new.outboxes r ≡ outbox_state_of state.old.outboxes r }
+    ensures ready { OnOk result (AreReady state.new.outboxes (2 ^ 62) (length items.now) items.now) }
+    ensures room { OnOk result (0 < state.new.history.spare) }
+    ensures name { OnOk result (has_room state.new.seen by no ≡ true) }
 {
-    make_room_for(&mut books.outboxes, items)?;
-    books.seen.reserve(by, no)?;
-    books.history.reserve()?;
+    make_room_for(&mut state.outboxes, items)?;
+    state.seen.reserve(by, no)?;
+    state.history.reserve()?;
     Ok(())
 }
 
@@ -129,9 +130,9 @@ fn few_items(
     alloc: Global,
     tables: &Tables,
     message: &Shared<Message>,
-) -> Result<Vec<Addressed>, Memory>
-    requires { IsAcceptable (known tables.now) message.now }
-    ensures items { IfOk result (λ items. items.items ≡ items_of (known tables.now) message.now) }
+) -> Result<Vec<AddressedItem>, Memory>
+    requires { IsAcceptable (table_state tables.now) message.now }
+    ensures items { IfOk result (λ items. items.items ≡ items_of (table_state tables.now) message.now) }
     ensures few { IfOk result (λ items. length items.items < 2 ^ 62) }
 {
     let items = items(alloc, tables, message)?;
@@ -142,29 +143,29 @@ fn few_items(
 }
 
 /// Takes a new message that may be accepted: all that can be refused memory comes first, and then what cannot.
-fn accept(alloc: Global, books: &mut Books, message: Shared<Message>) -> Result<Reply, Memory>
-    requires kept { IsKept books.old }
-    requires room { length books.old.history.entries < 1000000 }
-    requires new { position_of books.old.seen message.by message.no ≡ None }
+fn accept(alloc: Global, state: &mut State, message: Shared<Message>) -> Result<Reply, Memory>
+    requires kept { IsConsistent state.old }
+    requires room { length state.old.history.entries < 1000000 }
+    requires new { position_of state.old.seen message.by message.no ≡ None }
     requires limits { KeepsLimits message }
-    requires acceptable { IsAcceptable (known books.old.tables) message }
-    ensures kept { IsKept books.new }
-    ensures answered { IfOk result (λ r. r ≡ answer books.old.history.entries (call.Send message)) }
-    ensures grows { IfOk result (λ r. books.new.history.entries ≡ books.old.history.entries ++ record { call = call.Send message; reply = r } ∷ []) }
-    ensures err { OnErr result (books.new.history.entries ≡ books.old.history.entries) }
+    requires acceptable { IsAcceptable (table_state state.old.tables) message }
+    ensures kept { IsConsistent state.new }
+    ensures answered { IfOk result (λ r. r ≡ answer state.old.history.entries (call.Send message)) }
+    ensures grows { IfOk result (λ r. state.new.history.entries ≡ state.old.history.entries ++ record { call = call.Send message; reply = r } ∷ []) }
+    ensures err { OnErr result (state.new.history.entries ≡ state.old.history.entries) }
 {
     boxes_keep_the_lists();
-    let said = message.get();
-    let content = said.content();
+    let sent = message.get();
+    let content = sent.content();
     let by = content.by;
     let no = content.no;
-    let items = few_items(alloc, &books.tables, &message)?;
-    make_room(books, by, no, &items)?;
-    books.tables.accept(alloc, said)?;
-    deliver(&mut books.outboxes, items);
-    let position = books.history.len() as u64;
-    books.seen.note_reserved(by, no, position);
-    books
+    let items = few_items(alloc, &state.tables, &message)?;
+    make_room(state, by, no, &items)?;
+    state.tables.accept(alloc, sent)?;
+    deliver(&mut state.outboxes, items);
+    let position = state.history.len() as u64;
+    state.seen.note_reserved(by, no, position);
+    state
         .history
         .push_reserved(entry_of(message, verdict(no, None)));
     Ok(verdict(no, None))
@@ -202,57 +203,57 @@ fn note_lists(message: &Message)
 }
 
 /// Takes a message whose name is new.
-fn take_new(alloc: Global, books: &mut Books, message: Shared<Message>) -> Result<Reply, Memory>
-    requires kept { IsKept books.old }
-    requires room { length books.old.history.entries < 1000000 }
-    requires new { position_of books.old.seen message.by message.no ≡ None }
+fn apply_new(alloc: Global, state: &mut State, message: Shared<Message>) -> Result<Reply, Memory>
+    requires kept { IsConsistent state.old }
+    requires room { length state.old.history.entries < 1000000 }
+    requires new { position_of state.old.seen message.by message.no ≡ None }
     requires limits { KeepsLimits message }
-    ensures kept { IsKept books.new }
-    ensures answered { IfOk result (λ r. r ≡ answer books.old.history.entries (call.Send message)) }
-    ensures grows { IfOk result (λ r. books.new.history.entries ≡ books.old.history.entries ++ record { call = call.Send message; reply = r } ∷ []) }
-    ensures err { OnErr result (books.new.history.entries ≡ books.old.history.entries) }
+    ensures kept { IsConsistent state.new }
+    ensures answered { IfOk result (λ r. r ≡ answer state.old.history.entries (call.Send message)) }
+    ensures grows { IfOk result (λ r. state.new.history.entries ≡ state.old.history.entries ++ record { call = call.Send message; reply = r } ∷ []) }
+    ensures err { OnErr result (state.new.history.entries ≡ state.old.history.entries) }
 {
     estimates_fit();
     offers_are_in_order();
-    match fault(alloc, &books.tables, message.get())? {
-        Some(found) => refuse(books, message, found),
-        None => accept(alloc, books, message),
+    match fault(alloc, &state.tables, message.get())? {
+        Some(found) => refuse(state, message, found),
+        None => accept(alloc, state, message),
     }
 }
 
 /// Takes a message that was sent before, and gives the reply that it got then.
-fn take_again(books: &mut Books, position: u64, message: Shared<Message>) -> Result<Reply, Memory>
-    requires kept { IsKept books.old }
-    requires room { length books.old.history.entries < 1000000 }
-    requires noted { position_of books.old.seen message.by message.no ≡ Some position }
+fn apply_repeat(state: &mut State, position: u64, message: Shared<Message>) -> Result<Reply, Memory>
+    requires kept { IsConsistent state.old }
+    requires room { length state.old.history.entries < 1000000 }
+    requires sent_before { position_of state.old.seen message.by message.no ≡ Some position }
     requires limits { KeepsLimits message }
-    ensures kept { IsKept books.new }
-    ensures answered { IfOk result (λ r. r ≡ answer books.old.history.entries (call.Send message)) }
-    ensures grows { IfOk result (λ r. books.new.history.entries ≡ books.old.history.entries ++ record { call = call.Send message; reply = r } ∷ []) }
-    ensures err { OnErr result (books.new.history.entries ≡ books.old.history.entries) }
+    ensures kept { IsConsistent state.new }
+    ensures answered { IfOk result (λ r. r ≡ answer state.old.history.entries (call.Send message)) }
+    ensures grows { IfOk result (λ r. state.new.history.entries ≡ state.old.history.entries ++ record { call = call.Send message; reply = r } ∷ []) }
+    ensures err { OnErr result (state.new.history.entries ≡ state.old.history.entries) }
 {
-    let reply = repeat_reply(books, position, message.get())?;
-    enter(books, Call::Send(message), reply)
+    let reply = repeat_reply(state, position, message.get())?;
+    append_entry(state, Call::Send(message), reply)
 }
 
 /// Takes a message, new or sent before.
-pub fn take_send(
+pub fn apply_send(
     alloc: Global,
-    books: &mut Books,
+    state: &mut State,
     message: Shared<Message>,
 ) -> Result<Reply, Memory>
-    requires kept { IsKept books.old }
-    requires room { length books.old.history.entries < 1000000 }
-    ensures kept { IsKept books.new }
-    ensures answered { IfOk result (λ r. r ≡ answer books.old.history.entries (call.Send message)) }
-    ensures grows { IfOk result (λ r. books.new.history.entries ≡ books.old.history.entries ++ record { call = call.Send message; reply = r } ∷ []) }
-    ensures err { OnErr result (books.new.history.entries ≡ books.old.history.entries) }
+    requires kept { IsConsistent state.old }
+    requires room { length state.old.history.entries < 1000000 }
+    ensures kept { IsConsistent state.new }
+    ensures answered { IfOk result (λ r. r ≡ answer state.old.history.entries (call.Send message)) }
+    ensures grows { IfOk result (λ r. state.new.history.entries ≡ state.old.history.entries ++ record { call = call.Send message; reply = r } ∷ []) }
+    ensures err { OnErr result (state.new.history.entries ≡ state.old.history.entries) }
 {
-    let said = message.get();
-    note_moment(said);
-    note_lists(said);
-    match books.seen.find(said.by(), said.no()) {
-        Some(position) => take_again(books, position, message),
-        None => take_new(alloc, books, message),
+    let sent = message.get();
+    note_moment(sent);
+    note_lists(sent);
+    match state.seen.find(sent.by(), sent.no()) {
+        Some(position) => apply_repeat(state, position, message),
+        None => apply_new(alloc, state, message),
     }
 }

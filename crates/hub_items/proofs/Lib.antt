@@ -1,7 +1,7 @@
-pub mod SoFar
-pub mod Planned
-pub mod Silent
-pub mod Accepted
-pub mod Alerted
-pub mod Noticed
-pub mod Told
+pub mod PrefixLemmas
+pub mod PlanLemmas
+pub mod UnchangedEstimateLemmas
+pub mod AcceptanceLemmas
+pub mod AlertLemmas
+pub mod NoticeLemmas
+pub mod MessageItemLemmas

@@ -1,2 +1,2 @@
-pub mod Onward
-pub mod Telling
+pub mod Transitions
+pub mod MessageItems

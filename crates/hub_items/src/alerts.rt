@@ -5,8 +5,8 @@ ghost use Rattle.journey.specs.Journey.{after};
 
 use crate::each::put_each;
 use crate::once::each_once;
-use crate::progress::Progress;
-use hub_model::Addressed;
+use crate::wagon_change::WagonChange;
+use hub_model::AddressedItem;
 use std::alloc::{AllocError, Global};
 use taf_codes::{Memory, Railway};
 use taf_messages::ItemBody;
@@ -14,13 +14,13 @@ use taf_messages::ItemBody;
 /// Adds the items of the alert that begins or ends with the event, if one does.
 pub(crate) fn put_alerts(
     alloc: Global,
-    items: &mut Vec<Addressed>,
-    progress: &Progress<'_>,
+    items: &mut Vec<AddressedItem>,
+    change: &WagonChange<'_>,
 ) -> Result<(), Memory>
-    ensures { OnOk result (items.new.items ≡ items.old.items ++ of.alert_items progress.now.before (after progress.now) progress.now.wagon) }
+    ensures { OnOk result (items.new.items ≡ items.old.items ++ of.alert_items change.now.before (after change.now) change.now.wagon) }
 {
-    match alert(progress) {
-        Some(says) => put_alert(alloc, items, progress, &says),
+    match alert(change) {
+        Some(says) => put_alert(alloc, items, change, &says),
         None => Ok(()),
     }
 }
@@ -28,27 +28,27 @@ pub(crate) fn put_alerts(
 // Adds the items of the alert that says this.
 fn put_alert(
     alloc: Global,
-    items: &mut Vec<Addressed>,
-    progress: &Progress<'_>,
+    items: &mut Vec<AddressedItem>,
+    change: &WagonChange<'_>,
     says: &ItemBody,
 ) -> Result<(), Memory>
-    requires { of.alert progress.now.before (after progress.now) progress.now.wagon ≡ Some says.now }
-    ensures { OnOk result (items.new.items ≡ items.old.items ++ of.alert_items progress.now.before (after progress.now) progress.now.wagon) }
+    requires { of.alert change.now.before (after change.now) change.now.wagon ≡ Some says.now }
+    ensures { OnOk result (items.new.items ≡ items.old.items ++ of.alert_items change.now.before (after change.now) change.now.wagon) }
 {
-    let railways = alerted(alloc, progress)?;
+    let railways = alert_receivers(alloc, change)?;
     put_each(items, says, railways.as_slice())?;
     Ok(())
 }
 
 // An alert begins or ends, or neither.
-fn alert(progress: &Progress<'_>) -> Option<ItemBody>
-    ensures { result ≡ of.alert progress.now.before (after progress.now) progress.now.wagon }
+fn alert(change: &WagonChange<'_>) -> Option<ItemBody>
+    ensures { result ≡ of.alert change.now.before (after change.now) change.now.wagon }
 {
-    let wagon = progress.wagon();
-    if !progress.was_late() {
-        let late_by = progress.late_by()?;
+    let wagon = change.wagon();
+    if !change.was_late() {
+        let late_by = change.late_by()?;
         Some(ItemBody::AlertBegins { wagon, late_by })
-    } else if progress.is_late() {
+    } else if change.is_late() {
         None
     } else {
         Some(ItemBody::AlertEnds { wagon })
@@ -56,14 +56,14 @@ fn alert(progress: &Progress<'_>) -> Option<ItemBody>
 }
 
 // The lead, and the railway that answers for the wagon.
-fn alerted(alloc: Global, progress: &Progress<'_>) -> Result<Vec<Railway>, AllocError>
-    ensures { IfOk result (λ v. v.items ≡ of.alerted (after progress.now)) }
+fn alert_receivers(alloc: Global, change: &WagonChange<'_>) -> Result<Vec<Railway>, AllocError>
+    ensures { IfOk result (λ v. v.items ≡ of.alert_receivers (after change.now)) }
 {
     let mut railways = Vec::new(alloc);
-    if let Some(lead) = progress.lead() {
+    if let Some(lead) = change.lead() {
         railways.push(lead)?;
     }
-    if let Some(responsible) = progress.responsible() {
+    if let Some(responsible) = change.responsible() {
         railways.push(responsible)?;
     }
     each_once(alloc, railways.as_slice())

@@ -17,9 +17,9 @@ mod alerts;
 mod each;
 mod estimates;
 mod notices;
-mod notified;
+mod receivers;
 mod once;
-mod progress;
-mod telling;
+mod wagon_change;
+mod item_list;
 
-pub use telling::items;
+pub use item_list::items;

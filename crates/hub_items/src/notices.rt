@@ -1,13 +1,13 @@
 //! The notices of a message, and the sub notice (4.2.8).
 ghost use Rattle.std.specs.Prelude.{◌≡◌, ◌++◌, false, IfOk, OnOk, option_to_list};
 ghost use Rattle.hub_model.specs.Items as of;
-ghost use Rattle.hub_tables.specs.Tabled.{IsAcceptable, known};
-ghost use Rattle.hub_items.specs.Telling.{tells_one};
+ghost use Rattle.hub_tables.specs.TableStates.{IsAcceptable, table_state};
+ghost use Rattle.hub_items.specs.MessageItems.{has_one_receiver};
 
 use crate::each::put_each;
-use crate::notified::notified;
+use crate::receivers::notice_receivers;
 use crate::once::each_once;
-use hub_model::Addressed;
+use hub_model::AddressedItem;
 use hub_tables::Tables;
 use std::alloc::Global;
 use taf_codes::{Memory, Railway};
@@ -19,13 +19,13 @@ pub(crate) fn notices(
     tables: &Tables,
     message: &Message,
     notice: &Shared<Message>,
-) -> Result<Vec<Addressed>, Memory>
-    requires acceptable { IsAcceptable (known tables.now) message.now }
+) -> Result<Vec<AddressedItem>, Memory>
+    requires acceptable { IsAcceptable (table_state tables.now) message.now }
     requires same { notice.now ≡ message.now }
-    requires many { tells_one message.now.body ≡ false }
-    ensures { IfOk result (λ v. v.items ≡ of.notices (known tables.now) message.now) }
+    requires many { has_one_receiver message.now.body ≡ false }
+    ensures { IfOk result (λ v. v.items ≡ of.notices (table_state tables.now) message.now) }
 {
-    let concerned = notified(alloc, tables, message)?;
+    let concerned = notice_receivers(alloc, tables, message)?;
     let railways = each_once(alloc, concerned.as_slice())?;
     let mut items = Vec::new(alloc);
     put_each(
@@ -40,7 +40,7 @@ pub(crate) fn notices(
 // Adds the sub notice, if there is one.
 fn put_sub_notice(
     alloc: Global,
-    items: &mut Vec<Addressed>,
+    items: &mut Vec<AddressedItem>,
     by: Railway,
     says: &Body,
 ) -> Result<(), Memory>
@@ -53,7 +53,7 @@ fn put_sub_notice(
 }
 
 // The item for the manager, where a manager is named and a wagon was received.
-fn sub_notice(alloc: Global, by: Railway, says: &Body) -> Result<Option<Addressed>, Memory>
+fn sub_notice(alloc: Global, by: Railway, says: &Body) -> Result<Option<AddressedItem>, Memory>
     ensures { IfOk result (λ o. option_to_list o ≡ of.sub_items by says.now) }
 {
     let Body::Answer(answer) = says else {
@@ -74,7 +74,7 @@ fn sub_item(
     by: Railway,
     answer: &TrainAnswer,
     manager: Railway,
-) -> Result<Addressed, Memory>
+) -> Result<AddressedItem, Memory>
     ensures { IfOk result (λ i. i ≡ of.sub_item by answer.now manager) }
 {
     let sub = SubNotice {
@@ -84,7 +84,7 @@ fn sub_item(
         offerer: answer.offerer,
         wagons: answer.received.clone()?,
     };
-    Ok(Addressed {
+    Ok(AddressedItem {
         to: manager,
         body: ItemBody::Sub(Shared::new(alloc, sub)?),
     })

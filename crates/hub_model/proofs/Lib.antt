@@ -1,35 +1,35 @@
-pub mod RowWords
-pub mod Rows
-pub mod MoreRows
-mod ReplyRows
-mod WholeRows
-mod RouteRows
-mod UnitRows
-pub mod Histories
-pub mod Naming
-pub mod NoFault
-pub mod Sound
-pub mod Keeping
-pub mod OnLegs
-pub mod Growth
-pub mod FewItems
-pub mod Positions
-pub mod Acknowledging
-pub mod InOrder
-pub mod Fit
-pub mod Steps
-pub mod Lists
-pub mod Sends
-pub mod Journeys
-pub mod Shares
-pub mod Receivers
-pub mod Openings
-pub mod Fleets
-pub mod LookUps
-pub mod Depends
-pub mod Judging
-pub mod Frames
-pub mod Apart
-pub mod UnitFrames
-pub mod Either
-pub mod Alike
+pub mod ExampleWords
+pub mod Examples
+pub mod MoreExamples
+mod ReplyExamples
+mod FullExamples
+mod RouteExamples
+mod UnitExamples
+pub mod HistoryLemmas
+pub mod NamedWagonLemmas
+pub mod NoFaultLemmas
+pub mod SoundnessLemmas
+pub mod JourneyLengthLemmas
+pub mod LegIndexLemmas
+pub mod GrowthLemmas
+pub mod ItemCountLemmas
+pub mod PositionLemmas
+pub mod AcknowledgementLemmas
+pub mod OfferOrderLemmas
+pub mod CalendarLemmas
+pub mod StepLemmas
+pub mod ListLemmas
+pub mod SendLemmas
+pub mod JourneyLemmas
+pub mod WagonEventLemmas
+pub mod ReceiverLemmas
+pub mod OfferOpeningLemmas
+pub mod FleetLemmas
+pub mod LookupLemmas
+pub mod DependencyLemmas
+pub mod FaultLemmas
+pub mod FrameLemmas
+pub mod ApartLemmas
+pub mod UnitFrameLemmas
+pub mod EitherOrderLemmas
+pub mod AlikeLemmas

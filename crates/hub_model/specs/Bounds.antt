@@ -11,8 +11,8 @@ use Rattle.journey.specs.Legs.{legs}
 use Rattle.hub_model.specs.declared.entry.Entry.{Entry}
 use Rattle.hub_model.specs.Faults.{fault, is_unknown}
 use Rattle.hub_model.specs.Items.{items_of}
-use Rattle.hub_model.specs.Answers.{IsLegal, standing_of}
-use Rattle.hub_model.specs.Accepted.{told}
+use Rattle.hub_model.specs.Histories.{IsLegal, state_of}
+use Rattle.hub_model.specs.AcceptedMessages.{send_of_name}
 use Rattle.hub_model.specs.Laws.{EachSend}
 
 -- a plan has one to eight legs
@@ -31,7 +31,7 @@ IsOnLeg events = (leg_index events < length (legs events)) × (length (legs even
 -- a wagon with a journey is on one of its legs, after every legal history
 abbrev pub AlwaysOnLeg : Type 0
 AlwaysOnLeg = (history : List Entry) → IsLegal history → PlansHaveLegs history → (w : ℕ) →
-    is_unknown ((standing_of history).journey w) ≡ false → IsOnLeg ((standing_of history).journey w)
+    is_unknown ((state_of history).journey w) ≡ false → IsOnLeg ((state_of history).journey w)
 
 -- a message lists at most 60 wagons, and an answer as many received and refused
 abbrev pub HasFewWagons : Body → Type 0
@@ -51,32 +51,32 @@ AreWithinLimits history = EachSend IsWithinLimits history
 -- an accepted message makes at most 1,322 items: 122 notices, an estimate for each of 8 legs of 120 wagons, and two alerts for each wagon
 abbrev pub ItemsAreFew : Type 0
 ItemsAreFew = (history : List Entry) (m : Message) → IsLegal history → AreWithinLimits history → IsWithinLimits m →
-    fault (standing_of history) m ≡ None → length (items_of (standing_of history) m) ≤ 1322
+    fault (state_of history) m ≡ None → length (items_of (state_of history) m) ≤ 1322
 
 -- so an outbox has at most 1,322 items for each entry
 abbrev pub OutboxesAreBounded : Type 0
 OutboxesAreBounded = (history : List Entry) (r : Railway) → IsLegal history → AreWithinLimits history →
-    length ((standing_of history).outbox r) ≤ 1322 * length history
+    length ((state_of history).outbox r) ≤ 1322 * length history
 
 -- what a railway acknowledged is in its outbox
 abbrev pub AcknowledgedAreThere : Type 0
-AcknowledgedAreThere = (history : List Entry) (r : Railway) → IsLegal history → (standing_of history).acknowledged r ≤ length ((standing_of history).outbox r)
+AcknowledgedAreThere = (history : List Entry) (r : Railway) → IsLegal history → (state_of history).acknowledged r ≤ length ((state_of history).outbox r)
 
 -- a journey has at most one event for each entry
 abbrev pub JourneysAreBounded : Type 0
-JourneysAreBounded = (history : List Entry) (w : ℕ) → length ((standing_of history).journey w) ≤ length history
+JourneysAreBounded = (history : List Entry) (w : ℕ) → length ((state_of history).journey w) ≤ length history
 
 -- the position of the first send of a name, from 0
 abbrev pub first_position : Railway → ℕ → List Entry → Option ℕ
-first_position by n history = position (λ e. is_some (told by n e.call e.reply)) history
+first_position by n history = position (λ e. is_some (send_of_name by n e.call e.reply)) history
 
 -- the first send of a name stands in the history at its position
 pub record StandsAt (history : List Entry) (by : Railway) (n i : ℕ) : Type 0 where
   pub within : i < length history
-  pub there : (standing_of history).first_send by n ≡ option_and_then (λ e. told by n e.call e.reply) (slice_get history i)
+  pub there : (state_of history).first_send by n ≡ option_and_then (λ e. send_of_name by n e.call e.reply) (slice_get history i)
 
 -- each first send stands at its position, and where there is none, the name has no position
 abbrev pub FirstSendsStand : Type 0
 FirstSendsStand = (history : List Entry) (by : Railway) (n : ℕ) →
     ((i : ℕ) → first_position by n history ≡ Some i → StandsAt history by n i) ×
-    (first_position by n history ≡ None → (standing_of history).first_send by n ≡ None)
+    (first_position by n history ≡ None → (state_of history).first_send by n ≡ None)

@@ -13,9 +13,9 @@ use Rattle.journey.specs.declared.event.Event.{Event}
 use Rattle.journey.specs.Stages.{is_delivered}
 use Rattle.journey.specs.Checks.{refusal}
 use Rattle.interchange.specs.Offers.{matches, wagons_of, asked_by}
-use Rattle.eti_chain.specs.Estimates.{fits, is_reckoned}
+use Rattle.eti_chain.specs.Estimates.{fits, is_calendar_checked}
 use Rattle.hub_model.specs.declared.fault.Fault.{Fault}
-use Rattle.hub_model.specs.Standing.{Standing, named, said_of, journey_after}
+use Rattle.hub_model.specs.HubState.{HubState, named_wagons, event_body_for, journey_after}
 use Rattle.hub_model.specs.Units.{is_unit_busy, units_in}
 
 -- no accepted plan names the wagon
@@ -28,7 +28,7 @@ abbrev pub is_busy : List Event → Bool
 is_busy events = not (is_unknown events) && not (is_delivered events)
 
 -- what may be wrong with a message as a whole, in the order of the checks
-abbrev pub whole_checks : Standing → Railway → Body → List (Bool × Why)
+abbrev pub whole_checks : HubState → Railway → Body → List (Bool × Why)
 whole_checks s by (body.Plan p) = (is_some (s.plan_of p.consignment), ConsignmentTaken) ∷ []
 whole_checks s by (body.Answer a) =
     (is_none (s.offer a.offerer a.offer), UnknownOffer) ∷
@@ -41,39 +41,39 @@ whole_checks s by (body.Withdraw at n) =
 whole_checks s by _ = []
 
 -- why the message as a whole is refused, if it is
-abbrev pub whole_fault : Standing → Railway → Body → Option Why
+abbrev pub whole_fault : HubState → Railway → Body → Option Why
 whole_fault s by says = first_of (whole_checks s by says)
 
 -- the checks of one wagon by its own events
-abbrev pub known_fault : Standing → Message → ℕ → Option Why
+abbrev pub known_fault : HubState → Message → ℕ → Option Why
 known_fault s m w =
-    if is_unknown (s.journey w) then Some UnknownWagon else refusal (s.journey w) m.by (said_of s.offer m.by m.body w)
+    if is_unknown (s.journey w) then Some UnknownWagon else refusal (s.journey w) m.by (event_body_for s.offer m.by m.body w)
 
 -- with the message, an estimate of the wagon would pass the calendar
-abbrev pub calendar_fault : Standing → Message → ℕ → Option Why
+abbrev pub calendar_fault : HubState → Message → ℕ → Option Why
 calendar_fault s m w =
-    if is_reckoned (said_of s.offer m.by m.body w) && not (fits (journey_after s m w)) then Some BeyondCalendar else None
+    if is_calendar_checked (event_body_for s.offer m.by m.body w) && not (fits (journey_after s m w)) then Some BeyondCalendar else None
 
 -- the checks of one wagon that the message names
-abbrev pub wagon_fault : Standing → Message → Body → ℕ → Option Why
+abbrev pub wagon_fault : HubState → Message → Body → ℕ → Option Why
 wagon_fault s m (body.Plan p) w = if is_busy (s.journey w) then Some WagonBusy else None
 wagon_fault s m (body.Answer a) w = calendar_fault s m w
 wagon_fault s m (body.Withdraw at n) w = None
 wagon_fault s m _ w = option_or (known_fault s m w) (calendar_fault s m w)
 
 -- the first wagon that has a fault
-abbrev pub first_fault : Standing → Message → List ℕ → Option Fault
+abbrev pub first_fault : HubState → Message → List ℕ → Option Fault
 first_fault s m [] = None
 first_fault s m (w ∷ wagons) =
     option_or (option_map (λ why. record { why = why; wagon = Some w }) (wagon_fault s m m.body w)) (first_fault s m wagons)
 
 -- the first unit that is busy, at the wagon that it is to be loaded on
-abbrev pub unit_fault : Standing → List UnitLoad → Option Fault
+abbrev pub unit_fault : HubState → List UnitLoad → Option Fault
 unit_fault s [] = None
 unit_fault s (l ∷ units) = if is_unit_busy s l.unit then Some (record { why = UnitBusy; wagon = Some l.wagon }) else unit_fault s units
 
 -- why the message is refused, if it is new: as a whole, at a wagon, or for a unit
-abbrev pub fault : Standing → Message → Option Fault
+abbrev pub fault : HubState → Message → Option Fault
 fault s m =
     option_or (option_map (λ why. record { why = why; wagon = None }) (whole_fault s m.by m.body))
-    (option_or (first_fault s m (named s.offer m)) (unit_fault s (units_in m.body)))
+    (option_or (first_fault s m (named_wagons s.offer m)) (unit_fault s (units_in m.body)))

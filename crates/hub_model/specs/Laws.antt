@@ -11,34 +11,34 @@ use Rattle.journey.specs.Stages.{stage, responsible, is_on_its_way}
 use Rattle.interchange.specs.Offers.{wagons_of}
 use Rattle.eti_chain.specs.Estimates.{fits}
 use Rattle.hub_model.specs.declared.entry.Entry.{Entry}
-use Rattle.hub_model.specs.Standing.{Standing, moment_in}
-use Rattle.hub_model.specs.Answers.{IsLegal, answer, run, standing_of, standing_after}
+use Rattle.hub_model.specs.HubState.{HubState, moment_in}
+use Rattle.hub_model.specs.Histories.{IsLegal, answer, run, state_of, state_after}
 
 -- the offer of this name is open, and has the wagon
-abbrev pub IsInOpenOffer : Standing → Railway → ℕ → ℕ → Type 0
+abbrev pub IsInOpenOffer : HubState → Railway → ℕ → ℕ → Type 0
 IsInOpenOffer s by n w = (s.is_open by n ≡ true) × (has (wagons_of (s.offer by n)) w ≡ true)
 
 -- a wagon is in at most one open offer (4.2.8)
-abbrev pub OneOpenOffer : Standing → Type 0
+abbrev pub OneOpenOffer : HubState → Type 0
 OneOpenOffer s = (w n k : ℕ) (by also : Railway) → IsInOpenOffer s by n w → IsInOpenOffer s also k w → (by ≡ also) × (n ≡ k)
 
 -- every wagon of an open offer is offered
-abbrev pub OpenIsOffered : Standing → Type 0
+abbrev pub OpenIsOffered : HubState → Type 0
 OpenIsOffered s = (w n : ℕ) (by : Railway) → IsInOpenOffer s by n w → stage (s.journey w) ≡ Some stage_is.Offered
 
 -- a wagon has a responsible railway exactly when it is on its way (4.2.7)
-abbrev pub OneResponsible : Standing → Type 0
+abbrev pub OneResponsible : HubState → Type 0
 OneResponsible s = (w : ℕ) → IsSome (responsible (s.journey w)) ↔ (is_on_its_way (s.journey w) ≡ true)
 
 -- what holds of offers and responsible railways
-pub record IsInOrder (s : Standing) : Type 0 where
+pub record IsInOrder (s : HubState) : Type 0 where
   pub one_offer : OneOpenOffer s
   pub offered : OpenIsOffered s
   pub responsible : OneResponsible s
 
 -- it holds after every legal history
 abbrev pub AlwaysInOrder : Type 0
-AlwaysInOrder = (history : List Entry) → IsLegal history → IsInOrder (standing_of history)
+AlwaysInOrder = (history : List Entry) → IsLegal history → IsInOrder (state_of history)
 
 -- a moment, if there is one, is of the calendar
 abbrev pub IsMoment : Option ℕ → Type 0
@@ -61,7 +61,7 @@ AreDated history = EachSend (λ m. IsMoment (moment_in m.body)) history
 
 -- no estimate of a wagon passes the calendar (4.2.6)
 abbrev pub EstimatesFit : Type 0
-EstimatesFit = (history : List Entry) → IsLegal history → AreDated history → (w : ℕ) → fits ((standing_of history).journey w) ≡ true
+EstimatesFit = (history : List Entry) → IsLegal history → AreDated history → (w : ℕ) → fits ((state_of history).journey w) ≡ true
 
 -- the replies of a history are those that its calls get, one after another
 abbrev pub RepliesAreTheRun : Type 0
@@ -69,7 +69,7 @@ RepliesAreTheRun = (history : List Entry) → IsLegal history → map (λ e. e.r
 
 -- what is known after a history is what is known after its calls
 abbrev pub KnownByTheCalls : Type 0
-KnownByTheCalls = (history : List Entry) → IsLegal history → standing_of history ≡ standing_after (map (λ e. e.call) history)
+KnownByTheCalls = (history : List Entry) → IsLegal history → state_of history ≡ state_after (map (λ e. e.call) history)
 
 -- a history with one more entry is legal if it was, and the reply is the answer
 abbrev pub OneMoreEntry : Type 0

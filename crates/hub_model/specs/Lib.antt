@@ -1,10 +1,12 @@
-pub mod Standing
+pub mod HubState
 pub mod Units
 pub mod Faults
 pub mod Items
-pub mod Answers
-pub mod Accepted
-pub mod Accepting
+pub mod Replies
+pub mod Updates
+pub mod Histories
+pub mod AcceptedMessages
+pub mod Changes
 pub mod Overtaking
 pub mod Laws
 pub mod Bounds

@@ -13,14 +13,15 @@ use Rattle.taf_messages.specs.declared.message.Body.{Body}
 use Rattle.taf_messages.specs.declared.message.Body.TheVariants as body
 use Rattle.interchange.specs.Offers.{wagons_of}
 use Rattle.replay_numbers.specs.Names.{same_name}
-use Rattle.hub_model.specs.Standing.{Standing, named}
+use Rattle.hub_model.specs.HubState.{HubState, named_wagons}
 use Rattle.hub_model.specs.Units.{unit_wagon, units_in}
-use Rattle.hub_model.specs.Answers.{standing_after, reply_to}
+use Rattle.hub_model.specs.Replies.{reply_to}
+use Rattle.hub_model.specs.Histories.{state_after}
 
 -- the wagons that a message counts with
-abbrev pub counted : Standing → Message → Body → List ℕ
-counted s m (body.Answer a) = named s.offer m ++ wagons_of (s.offer a.offerer a.offer)
-counted s m _ = named s.offer m
+abbrev pub affected_wagons : HubState → Message → Body → List ℕ
+affected_wagons s m (body.Answer a) = named_wagons s.offer m ++ wagons_of (s.offer a.offerer a.offer)
+affected_wagons s m _ = named_wagons s.offer m
 
 -- the consignment of a plan
 abbrev pub consignment_in : Body → Option ConsignmentId
@@ -35,50 +36,50 @@ offer_named m (body.Withdraw at n) = Some (m.by, n)
 offer_named m _ = None
 
 -- a message counts with the units that it loads, and with those whose wagon it counts with
-abbrev pub counts_unit : Standing → Message → UnitCode → Bool
-counts_unit s m u = loads (units_in m.body) u || option_map_or (λ w. has (counted s m m.body) w) (unit_wagon s u) false
+abbrev pub affects_unit : HubState → Message → UnitCode → Bool
+affects_unit s m u = loads (units_in m.body) u || option_map_or (λ w. has (affected_wagons s m m.body) w) (unit_wagon s u) false
 
 -- both are there, and are the same
-abbrev pub shares : {A : Type 0} → (A → A → Bool) → Option A → Option A → Bool
-shares same (Some a) (Some b) = same a b
-shares same _ _ = false
+abbrev pub both_same : {A : Type 0} → (A → A → Bool) → Option A → Option A → Bool
+both_same same (Some a) (Some b) = same a b
+both_same same _ _ = false
 
 -- a wagon is in both lists
-abbrev pub share_wagon : List ℕ → List ℕ → Bool
-share_wagon ws vs = list_any (has vs) ws
+abbrev pub have_common_wagon : List ℕ → List ℕ → Bool
+have_common_wagon ws vs = list_any (has vs) ws
 
 -- the first loads a unit that the second counts with
-abbrev pub loads_counted : Standing → Message → Message → Bool
-loads_counted s m n = list_any (λ l. counts_unit s n l.unit) (units_in m.body)
+abbrev pub loads_affected : HubState → Message → Message → Bool
+loads_affected s m n = list_any (λ l. affects_unit s n l.unit) (units_in m.body)
 
 -- two names are the same
-abbrev pub same_pair : Railway × ℕ → Railway × ℕ → Bool
-same_pair a b = same_name a.0 a.1 b.0 b.1
+abbrev pub same_offer_name : Railway × ℕ → Railway × ℕ → Bool
+same_offer_name a b = same_name a.0 a.1 b.0 b.1
 
 -- they share no wagon, unit, consignment, offer or name
-pub record AreApart (s : Standing) (m n : Message) : Type 0 where
-  pub wagons : (w : ℕ) → has (counted s m m.body) w ≡ true → has (counted s n n.body) w ≡ true → ⊥
-  pub units : (u : UnitCode) → counts_unit s m u ≡ true → counts_unit s n u ≡ true → ⊥
+pub record AreApart (s : HubState) (m n : Message) : Type 0 where
+  pub wagons : (w : ℕ) → has (affected_wagons s m m.body) w ≡ true → has (affected_wagons s n n.body) w ≡ true → ⊥
+  pub units : (u : UnitCode) → affects_unit s m u ≡ true → affects_unit s n u ≡ true → ⊥
   pub consignments : (c : ConsignmentId) → Path (Option ConsignmentId) (consignment_in m.body) (Some c) → Path (Option ConsignmentId) (consignment_in n.body) (Some c) → ⊥
   pub offers : (by : Railway) (k : ℕ) → Path (Option (Railway × ℕ)) (offer_named m m.body) (Some (by, k)) → Path (Option (Railway × ℕ)) (offer_named n n.body) (Some (by, k)) → ⊥
   pub names : m.by ≡ n.by → m.no ≡ n.no → ⊥
 
 -- the same as a test; without a wagon in common, a unit in common is one that either loads
-abbrev pub is_apart : Standing → Message → Message → Bool
+abbrev pub is_apart : HubState → Message → Message → Bool
 is_apart s m n =
-    not (share_wagon (counted s m m.body) (counted s n n.body)) &&
-    (not (loads_counted s m n) &&
-    (not (loads_counted s n m) &&
-    (not (shares bytes_eq (consignment_in m.body) (consignment_in n.body)) &&
-    (not (shares same_pair (offer_named m m.body) (offer_named n n.body)) &&
+    not (have_common_wagon (affected_wagons s m m.body) (affected_wagons s n n.body)) &&
+    (not (loads_affected s m n) &&
+    (not (loads_affected s n m) &&
+    (not (both_same bytes_eq (consignment_in m.body) (consignment_in n.body)) &&
+    (not (both_same same_offer_name (offer_named m m.body) (offer_named n n.body)) &&
     not (same_name m.by m.no n.by n.no)))))
 
 -- the test finds exactly the messages that are apart
 abbrev pub ApartIsExact : Type 0
-ApartIsExact = (s : Standing) (m n : Message) → IsTrue (is_apart s m n) ↔ AreApart s m n
+ApartIsExact = (s : HubState) (m n : Message) → IsTrue (is_apart s m n) ↔ AreApart s m n
 
 -- the same is looked up, but for the order of a railway's items
-pub record AreAlike (s t : Standing) : Type 0 where
+pub record AreAlike (s t : HubState) : Type 0 where
   pub journey : (w : ℕ) → s.journey w ≡ t.journey w
   pub plan_of : (c : ConsignmentId) → s.plan_of c ≡ t.plan_of c
   pub unit_plan : (u : UnitCode) → s.unit_plan u ≡ t.unit_plan u
@@ -95,18 +96,18 @@ IsFetch _ = ⊥
 
 -- whichever of two messages comes first, each gets the same reply, and the two lists are alike
 abbrev pub MayOvertake : Type 0
-MayOvertake = (calls : List Call) (m n : Message) → IsTrue (is_apart (standing_after calls) m n) →
-    (reply_to (standing_after (calls ++ Send m ∷ [])) (Send n) ≡ reply_to (standing_after calls) (Send n)) ×
-    (reply_to (standing_after (calls ++ Send n ∷ [])) (Send m) ≡ reply_to (standing_after calls) (Send m)) ×
-    AreAlike (standing_after (calls ++ Send m ∷ Send n ∷ [])) (standing_after (calls ++ Send n ∷ Send m ∷ []))
+MayOvertake = (calls : List Call) (m n : Message) → IsTrue (is_apart (state_after calls) m n) →
+    (reply_to (state_after (calls ++ Send m ∷ [])) (Send n) ≡ reply_to (state_after calls) (Send n)) ×
+    (reply_to (state_after (calls ++ Send n ∷ [])) (Send m) ≡ reply_to (state_after calls) (Send m)) ×
+    AreAlike (state_after (calls ++ Send m ∷ Send n ∷ [])) (state_after (calls ++ Send n ∷ Send m ∷ []))
 
 -- alike lists stay alike under any call, and reply alike to each that is no fetch
 abbrev pub StayAlike : Type 0
-StayAlike = (before after : List Call) (call : Call) → AreAlike (standing_after before) (standing_after after) →
-    AreAlike (standing_after (before ++ call ∷ [])) (standing_after (after ++ call ∷ [])) ×
-    ((IsFetch call → ⊥) → reply_to (standing_after before) call ≡ reply_to (standing_after after) call)
+StayAlike = (before after : List Call) (call : Call) → AreAlike (state_after before) (state_after after) →
+    AreAlike (state_after (before ++ call ∷ [])) (state_after (after ++ call ∷ [])) ×
+    ((IsFetch call → ⊥) → reply_to (state_after before) call ≡ reply_to (state_after after) call)
 
 -- and through any calls that follow
 abbrev pub StayAlikeThrough : Type 0
-StayAlikeThrough = (before after calls : List Call) → AreAlike (standing_after before) (standing_after after) →
-    AreAlike (standing_after (before ++ calls)) (standing_after (after ++ calls))
+StayAlikeThrough = (before after calls : List Call) → AreAlike (state_after before) (state_after after) →
+    AreAlike (state_after (before ++ calls)) (state_after (after ++ calls))

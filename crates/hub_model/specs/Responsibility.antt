@@ -9,8 +9,8 @@ use Rattle.taf_messages.specs.declared.message.Body.TheVariants as body
 use Rattle.journey.specs.declared.event.EventBody.TheVariants.{Moved}
 use Rattle.journey.specs.Words.{newest}
 use Rattle.journey.specs.Stages.{is_departure, is_on_its_way, responsible}
-use Rattle.hub_model.specs.Answers.{standing_after}
-use Rattle.hub_model.specs.Accepted.{accepted_in}
+use Rattle.hub_model.specs.Histories.{state_after}
+use Rattle.hub_model.specs.AcceptedMessages.{accepted_in}
 
 -- the railway that a message hands the wagon to: the sender of its departure notice, or of an answer that received it
 abbrev pub receiver_in : Railway → Body → ℕ → Option Railway
@@ -25,5 +25,5 @@ last_receiver messages w = newest (λ m. receiver_in m.by m.body w) messages
 -- the railway that answers for a wagon is the last that received it while the wagon is on its way, and there is none before and after
 abbrev pub LastReceiverAnswers : Type 0
 LastReceiverAnswers = (calls : List Call) (w : ℕ) →
-    responsible ((standing_after calls).journey w) ≡
-    (if is_on_its_way ((standing_after calls).journey w) then last_receiver (accepted_in calls) w else None)
+    responsible ((state_after calls).journey w) ≡
+    (if is_on_its_way ((state_after calls).journey w) then last_receiver (accepted_in calls) w else None)

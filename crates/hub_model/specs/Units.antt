@@ -9,7 +9,7 @@ use Rattle.taf_messages.specs.declared.message.Body.{Body}
 use Rattle.taf_messages.specs.declared.message.Body.TheVariants as body
 use Rattle.journey.specs.declared.event.Event.{Event}
 use Rattle.journey.specs.Stages.{plan, is_delivered}
-use Rattle.hub_model.specs.Standing.{Standing}
+use Rattle.hub_model.specs.HubState.{HubState}
 
 -- the journey begins with this plan; a consignment has one accepted plan
 abbrev pub is_on_plan : List Event → Trip → Bool
@@ -25,11 +25,11 @@ wagon_by journey p (Some w) = if is_on_plan (journey w) p then Some w else None
 wagon_by journey p None = None
 
 -- the wagon of a unit, by the last accepted plan that loads it
-abbrev pub unit_wagon : Standing → UnitCode → Option ℕ
+abbrev pub unit_wagon : HubState → UnitCode → Option ℕ
 unit_wagon s u = option_and_then (λ p. wagon_by s.journey p (loaded_on p u)) (s.unit_plan u)
 
 -- it has a wagon whose journey has no delivery
-abbrev pub is_unit_busy : Standing → UnitCode → Bool
+abbrev pub is_unit_busy : HubState → UnitCode → Bool
 is_unit_busy s u = option_map_or (λ w. not (is_delivered (s.journey w))) (unit_wagon s u) false
 
 -- the units that a message loads

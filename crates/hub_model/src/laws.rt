@@ -1,6 +1,6 @@
 //! The laws of the definitions. Each is the contract of a function that does nothing.
-ghost use Rattle.hub_model.specs.Accepted.{LookupsAreTheLists};
-ghost use Rattle.hub_model.specs.Accepting.{
+ghost use Rattle.hub_model.specs.AcceptedMessages.{LookupsAreTheLists};
+ghost use Rattle.hub_model.specs.Changes.{
   OthersChangeNothing,
   TakenOnce,
   AnsweredAsAtFirst,

@@ -4,7 +4,7 @@
 //! 1305/2014, Annex, 4.2.6, 4.2.7, 4.2.8, 4.2.11). From the list of their calls alone, oldest first,
 //! the definitions in `specs/` say what each call is answered and what each railway is told:
 //!
-//! - `Standing`: what is looked up after calls (journeys, plans, offers, first sends, outboxes,
+//! - `HubState`: what is looked up after calls (journeys, plans, offers, first sends, outboxes,
 //!   the fleet), the wagons that a message names, and a wagon's share of it;
 //! - `Faults`: why a new message is refused; `Units`: where the intermodal units are;
 //! - `Items`: what an accepted message has the railways told;
@@ -17,17 +17,17 @@
 //! these words.
 //!
 //! There is no code here but three types: [`Entry`] is a call with its reply, [`Fault`] why a message
-//! is refused and at which wagon, [`Addressed`] an item with the railway that it goes to. The
+//! is refused and at which wagon, [`AddressedItem`] an item with the railway that it goes to. The
 //! functions do nothing when they are called: the contract of each is a law of the definitions, for
 //! all calls that can come.
 #![tactic(auto)]
 
-mod addressed;
+mod addressed_item;
 mod entry;
 mod fault;
 mod laws;
 
-pub use addressed::Addressed;
+pub use addressed_item::AddressedItem;
 pub use entry::Entry;
 pub use fault::Fault;
 pub use laws::{

@@ -3,7 +3,7 @@ use Rattle.std.specs.Prelude.{◌≡◌, ℕ, ◌+◌, ◌^◌, ◌<◌, min, Li
 use Rattle.taf_messages.specs.declared.call.Call.{Call}
 use Rattle.taf_messages.specs.declared.reply.Reply.{Reply}
 use Rattle.hub_model.specs.declared.entry.Entry.{Entry}
-use Rattle.hub_model.specs.Answers.{answer, run}
+use Rattle.hub_model.specs.Histories.{answer, run}
 use Rattle.hub_core.specs.declared.fault.HubFault.{HubFault}
 use Rattle.hub_core.specs.Faults.{IsFault}
 

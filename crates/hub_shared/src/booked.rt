@@ -1,7 +1,7 @@
 //! The value behind the hub's lock.
 ghost use Rattle.std.specs.Prelude.{◌≡◌, ◌+◌, length, sum_by, IfOk, IfErr, OnOk, OnErr, Err};
 ghost use Rattle.hub_core.specs.Faults.{IsFault};
-ghost use Rattle.hub_model.specs.Answers.{IsLegal};
+ghost use Rattle.hub_model.specs.Histories.{IsLegal};
 ghost use Rattle.hub_shared.specs.Seats.{IsRun, IsAnswer, with_call, after_answer, after_fault};
 
 use crate::seat::{MAX_REFUSED, Seat};

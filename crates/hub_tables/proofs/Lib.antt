@@ -1,6 +1,6 @@
-pub mod Entering
-pub mod Going
-pub mod Fleet
-pub mod Beginning
-pub mod Taken
-pub mod Made
+pub mod EntryLemmas
+pub mod NextEventLemmas
+pub mod FleetLemmas
+pub mod NewJourneyLemmas
+pub mod AcceptanceLemmas
+pub mod OfferLemmas

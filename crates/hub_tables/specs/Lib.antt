@@ -1,2 +1,2 @@
-pub mod Tabled
-pub mod Taking
+pub mod TableStates
+pub mod Acceptance

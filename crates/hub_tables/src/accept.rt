@@ -5,12 +5,12 @@ ghost use Rattle.trip_plan.specs.Rules.{all_differ};
 ghost use Rattle.taf_messages.specs.declared.message.Body.TheVariants as says;
 ghost use Rattle.replay_numbers.specs.Names.{same_name};
 ghost use Rattle.interchange.specs.declared.offer.Offer.{Offer};
-ghost use Rattle.interchange.specs.Made.{offer_of, stands};
+ghost use Rattle.interchange.specs.OfferTable.{offer_of, is_standing};
 ghost use Rattle.interchange.specs.Offers.{wagons_of};
-ghost use Rattle.hub_model.specs.Standing.{named};
-ghost use Rattle.hub_model.specs.Answers.{accepted};
-ghost use Rattle.hub_tables.specs.Tabled.{IsAcceptable, goes_on, known, tabled};
-ghost use Rattle.hub_tables.specs.Taking.{GoesOn, Takes};
+ghost use Rattle.hub_model.specs.HubState.{named_wagons};
+ghost use Rattle.hub_model.specs.Updates.{after_acceptance};
+ghost use Rattle.hub_tables.specs.TableStates.{IsAcceptable, continues_journeys, table_state, table_part};
+ghost use Rattle.hub_tables.specs.Acceptance.{ContinuesJourneys, HasAccepted};
 
 use crate::enter::{add, enter, put_all};
 use crate::tables::Tables;
@@ -25,13 +25,13 @@ impl Tables {
     /// Takes a message that may be accepted: what is known then is what is known once the message is accepted. `Memory`
     /// where memory is refused, and where a journey that is to go on has 2^62 events or more: then all is as it was.
     pub fn accept(&mut self, alloc: Global, message: &Message) -> Result<(), Memory>
-        requires { IsAcceptable (known self.old) message.now }
-        ensures ok { OnOk result (known self.new ≡ tabled (accepted (known self.old) message.now)) }
-        ensures err { OnErr result (known self.new ≡ known self.old) }
+        requires { IsAcceptable (table_state self.old) message.now }
+        ensures ok { OnOk result (table_state self.new ≡ table_part (after_acceptance (table_state self.old) message.now)) }
+        ensures err { OnErr result (table_state self.new ≡ table_state self.old) }
     {
         match message.body() {
-            Body::Plan(plan) => self.take_plan(alloc, message, plan),
-            Body::Offer(offer) => self.take_offer(alloc, message, offer.get()),
+            Body::Plan(plan) => self.accept_plan(alloc, message, plan),
+            Body::Offer(offer) => self.accept_offer(alloc, message, offer.get()),
             Body::Answer(answer) => {
                 let TrainAnswer { offerer, offer, .. } = answer.get();
                 self.settle(alloc, message, *offerer, *offer)
@@ -40,15 +40,15 @@ impl Tables {
                 self.offered_differ(message.by(), *offer);
                 self.settle(alloc, message, message.by(), *offer)
             }
-            _ => self.take_events(alloc, message),
+            _ => self.accept_events(alloc, message),
         }
     }
 
     /// A plan: its journeys begin, and it is found by its consignment and by its units.
-    fn take_plan(&mut self, alloc: Global, message: &Message, plan: &Plan) -> Result<(), Memory>
-        requires acceptable { IsAcceptable (known self.old) message.now }
+    fn accept_plan(&mut self, alloc: Global, message: &Message, plan: &Plan) -> Result<(), Memory>
+        requires acceptable { IsAcceptable (table_state self.old) message.now }
         requires plan { message.now.body ≡ says.Plan plan.now }
-        ensures ok { OnOk result (Takes self.old self.new message.now) }
+        ensures ok { OnOk result (HasAccepted self.old self.new message.now) }
         ensures err { OnErr result (self.new ≡ self.old) }
     {
         let begun = self.begun(alloc, message, plan.wagons())?;
@@ -64,21 +64,21 @@ impl Tables {
     }
 
     /// An offer: its wagons' journeys go on, and it is open.
-    fn take_offer(
+    fn accept_offer(
         &mut self,
         alloc: Global,
         message: &Message,
         offer: &TrainOffer,
     ) -> Result<(), Memory>
-        requires acceptable { IsAcceptable (known self.old) message.now }
+        requires acceptable { IsAcceptable (table_state self.old) message.now }
         requires offer { message.now.body ≡ says.Offer offer.now }
-        ensures ok { OnOk result (Takes self.old self.new message.now) }
-        ensures err { OnErr result (known self.new ≡ known self.old) }
+        ensures ok { OnOk result (HasAccepted self.old self.new message.now) }
+        ensures err { OnErr result (table_state self.new ≡ table_state self.old) }
     {
         let made = made_by(message, offer)?;
         differ(&offer.wagons);
         self.offers.reserve()?;
-        self.take_events(alloc, message)?;
+        self.accept_events(alloc, message)?;
         self.offers.open_reserved(made);
         Ok(())
     }
@@ -91,56 +91,56 @@ impl Tables {
         by: Railway,
         offer: MessageNumber,
     ) -> Result<(), Memory>
-        requires acceptable { IsAcceptable (known self.old) message.now }
-        requires goes_on { goes_on message.now.body ≡ true }
-        requires differ { all_differ (named (known self.old).offer message.now) ≡ true }
-        requires open { stands self.old.offers by offer ≡ true }
-        ensures ok { OnOk result (GoesOn self.old self.new message.now) }
+        requires acceptable { IsAcceptable (table_state self.old) message.now }
+        requires continues_journeys { continues_journeys message.now.body ≡ true }
+        requires differ { all_differ (named_wagons (table_state self.old).offer message.now) ≡ true }
+        requires open { is_standing self.old.offers by offer ≡ true }
+        ensures ok { OnOk result (ContinuesJourneys self.old self.new message.now) }
         ensures finds { OnOk result ((also : Railway) (other : ℕ) → offer_of self.new.offers also other ≡ offer_of self.old.offers also other) }
-        ensures closes { OnOk result ((also : Railway) (other : ℕ) → stands self.new.offers also other ≡ (if same_name by offer also other then false else stands self.old.offers also other)) }
+        ensures closes { OnOk result ((also : Railway) (other : ℕ) → is_standing self.new.offers also other ≡ (if same_name by offer also other then false else is_standing self.old.offers also other)) }
         ensures err { OnErr result (self.new ≡ self.old) }
     {
-        self.take_events(alloc, message)?;
+        self.accept_events(alloc, message)?;
         self.offers.close_offer(by, offer);
         Ok(())
     }
 
     /// The journeys of the named wagons go on.
-    fn take_events(&mut self, alloc: Global, message: &Message) -> Result<(), Memory>
-        requires acceptable { IsAcceptable (known self.old) message.now }
-        requires goes_on { goes_on message.now.body ≡ true }
-        requires differ { all_differ (named (known self.old).offer message.now) ≡ true }
-        ensures ok { OnOk result (GoesOn self.old self.new message.now) }
+    fn accept_events(&mut self, alloc: Global, message: &Message) -> Result<(), Memory>
+        requires acceptable { IsAcceptable (table_state self.old) message.now }
+        requires continues_journeys { continues_journeys message.now.body ≡ true }
+        requires differ { all_differ (named_wagons (table_state self.old).offer message.now) ≡ true }
+        ensures ok { OnOk result (ContinuesJourneys self.old self.new message.now) }
         ensures offers { self.new.offers ≡ self.old.offers }
         ensures err { OnErr result (self.new ≡ self.old) }
     {
         match alone(message) {
-            Some(wagon) => self.take_event(message, wagon),
+            Some(wagon) => self.accept_event(message, wagon),
             None => {
-                let shares = self.next_shares(alloc, message)?;
-                put_all(&mut self.wagons, shares);
+                let events = self.next_events(alloc, message)?;
+                put_all(&mut self.wagons, events);
                 Ok(())
             }
         }
     }
 
     /// The journey of the one wagon that the message names goes on.
-    fn take_event(&mut self, message: &Message, wagon: WagonNumber) -> Result<(), Memory>
-        requires acceptable { IsAcceptable (known self.old) message.now }
-        requires goes_on { goes_on message.now.body ≡ true }
-        requires alone { named (known self.old).offer message.now ≡ wagon ∷ [] }
-        ensures ok { OnOk result (GoesOn self.old self.new message.now) }
+    fn accept_event(&mut self, message: &Message, wagon: WagonNumber) -> Result<(), Memory>
+        requires acceptable { IsAcceptable (table_state self.old) message.now }
+        requires continues_journeys { continues_journeys message.now.body ≡ true }
+        requires alone { named_wagons (table_state self.old).offer message.now ≡ wagon ∷ [] }
+        ensures ok { OnOk result (ContinuesJourneys self.old self.new message.now) }
         ensures offers { self.new.offers ≡ self.old.offers }
         ensures err { OnErr result (self.new ≡ self.old) }
     {
-        let share = self.next_share(message, wagon)?;
-        add(&mut self.wagons, wagon, share)?;
+        let event = self.next_event_for(message, wagon)?;
+        add(&mut self.wagons, wagon, event)?;
         Ok(())
     }
 
     /// The wagons of an offer that was made are all different.
     fn offered_differ(&self, by: Railway, offer: MessageNumber)
-        ensures { all_differ (wagons_of ((known self.now).offer by offer)) ≡ true }
+        ensures { all_differ (wagons_of ((table_state self.now).offer by offer)) ≡ true }
     {
         if let Some(offer) = self.offer(by, offer) {
             differ(&offer.wagons);
@@ -150,7 +150,7 @@ impl Tables {
 
 /// The wagon of a message that names one.
 fn alone(message: &Message) -> Option<WagonNumber>
-    ensures { IfSome result (λ w. (offer : Railway → ℕ → Option Offer) → named offer message.now ≡ w ∷ []) }
+    ensures { IfSome result (λ w. (offer : Railway → ℕ → Option Offer) → named_wagons offer message.now ≡ w ∷ []) }
 {
     match message.body() {
         Body::Movement(movement) => Some(movement.wagon),

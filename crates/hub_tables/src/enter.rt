@@ -2,12 +2,12 @@
 ghost use Rattle.std.specs.Prelude.{◌≡◌, ℕ, ◌≤◌, OnErr, OnOk, fold, length};
 ghost use Rattle.std.specs.Map.{keys_of, update_all};
 ghost use Rattle.indexmap.specs.IndexMap.{get, insert_all, spare};
-ghost use Rattle.hub_tables.specs.Tabled.{AreFiled, events_in};
-ghost use Rattle.hub_tables.specs.Taking.{AreAdmitted, IsAdmitted, MayComeNext, put_on};
+ghost use Rattle.hub_tables.specs.TableStates.{AreJourneyEntries, events_in};
+ghost use Rattle.hub_tables.specs.Acceptance.{AreAdmitted, IsAdmitted, MayComeNext, with_event_on};
 
 use crate::wagon::Wagon;
 use indexmap::IndexMap;
-use journey::{Event, Prepared};
+use journey::{Event, PreparedEvent};
 use std::hash::Hash;
 use taf_codes::Memory;
 use wagon_number::WagonNumber;
@@ -26,29 +26,29 @@ pub(crate) fn enter<K: Eq + Hash + Drop, V: Drop>(table: &mut IndexMap<K, V>, en
 /// Puts each share at the end of its wagon's journey, in turn.
 pub(crate) fn put_all(
     wagons: &mut IndexMap<WagonNumber, Wagon>,
-    shares: Vec<(WagonNumber, Prepared)>,
+    events: Vec<(WagonNumber, PreparedEvent)>,
 )
-    requires filed { AreFiled wagons.old.entries }
-    requires admitted { AreAdmitted (events_in wagons.old.entries) shares.items }
-    ensures events { (w : ℕ) → events_in wagons.new.entries w ≡ fold put_on (events_in wagons.old.entries) shares.items w }
+    requires filed { AreJourneyEntries wagons.old.entries }
+    requires admitted { AreAdmitted (events_in wagons.old.entries) events.items }
+    ensures events { (w : ℕ) → events_in wagons.new.entries w ≡ fold with_event_on (events_in wagons.old.entries) events.items w }
     ensures keys { keys_of wagons.new.entries ≡ keys_of wagons.old.entries }
-    ensures filed { AreFiled wagons.new.entries }
+    ensures filed { AreJourneyEntries wagons.new.entries }
 {
-    for (wagon, share) in shares {
-        put(wagons, wagon, share);
+    for (wagon, event) in events {
+        put(wagons, wagon, event);
     }
 }
 
 /// Puts a share at the end of its wagon's journey.
-pub(crate) fn put(wagons: &mut IndexMap<WagonNumber, Wagon>, wagon: WagonNumber, share: Prepared)
-    requires filed { AreFiled wagons.old.entries }
-    requires admitted { IsAdmitted (events_in wagons.old.entries wagon) share }
-    ensures events { (w : ℕ) → events_in wagons.new.entries w ≡ put_on (events_in wagons.old.entries) (wagon, share) w }
+pub(crate) fn put(wagons: &mut IndexMap<WagonNumber, Wagon>, wagon: WagonNumber, event: PreparedEvent)
+    requires filed { AreJourneyEntries wagons.old.entries }
+    requires admitted { IsAdmitted (events_in wagons.old.entries wagon) event }
+    ensures events { (w : ℕ) → events_in wagons.new.entries w ≡ with_event_on (events_in wagons.old.entries) (wagon, event) w }
     ensures keys { keys_of wagons.new.entries ≡ keys_of wagons.old.entries }
-    ensures filed { AreFiled wagons.new.entries }
+    ensures filed { AreJourneyEntries wagons.new.entries }
 {
     match wagons.get_mut(&wagon) {
-        Some(found) => found.put(share),
+        Some(found) => found.put(event),
         None => unreachable!(),
     }
 }
@@ -57,18 +57,18 @@ pub(crate) fn put(wagons: &mut IndexMap<WagonNumber, Wagon>, wagon: WagonNumber,
 pub(crate) fn add(
     wagons: &mut IndexMap<WagonNumber, Wagon>,
     wagon: WagonNumber,
-    share: Event,
+    event: Event,
 ) -> Result<(), Memory>
-    requires filed { AreFiled wagons.old.entries }
-    requires next { MayComeNext (events_in wagons.old.entries wagon) share }
-    ensures ok { OnOk result ((w : ℕ) → events_in wagons.new.entries w ≡ put_on (events_in wagons.old.entries) (wagon, share) w) }
+    requires filed { AreJourneyEntries wagons.old.entries }
+    requires next { MayComeNext (events_in wagons.old.entries wagon) event }
+    ensures ok { OnOk result ((w : ℕ) → events_in wagons.new.entries w ≡ with_event_on (events_in wagons.old.entries) (wagon, event) w) }
     ensures err { OnErr result (wagons.new.entries ≡ wagons.old.entries) }
     ensures keys { keys_of wagons.new.entries ≡ keys_of wagons.old.entries }
-    ensures filed { AreFiled wagons.new.entries }
+    ensures filed { AreJourneyEntries wagons.new.entries }
 {
     match wagons.get_mut(&wagon) {
         Some(found) => {
-            let Ok(()) = found.add(share) else {
+            let Ok(()) = found.add(event) else {
                 return Err(Memory);
             };
             Ok(())

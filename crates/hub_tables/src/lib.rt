@@ -1,11 +1,11 @@
 //! The tables by which the hub looks things up, to judge a message and to answer a question: wagons with their journeys
 //! and estimates (4.2.6, 4.2.7), plans by consignment and by intermodal unit, and offers at interchange (4.2.8).
 //!
-//! In contracts [`Tables`] is the record of its entries, `Filings`, and `known` is what is known by them: a `Standing` of
+//! In contracts [`Tables`] is the record of its entries, `TableEntries`, and `table_state` is what is known by them: a `HubState` of
 //! the crate `hub_model` but for first sends and outboxes, which are kept elsewhere. Each look-up answers what the standing
-//! says, and [`Tables::share`] what a message says of one of its wagons.
+//! says, and [`Tables::event`] what a message says of one of its wagons.
 //!
-//! [`Tables::accept`] takes a message that may be accepted (`IsAcceptable`), and what is known then is what `accepted` of
+//! [`Tables::accept`] takes a message that may be accepted (`IsAcceptable`), and what is known then is what `after_acceptance` of
 //! `hub_model` says. First comes all that may be refused memory: of several wagons each one's share in a node of its own,
 //! copies of a plan, room in each table. Then come steps that cannot fail, or the one step of a single wagon's journey, which
 //! changes nothing where it fails. So where it answers [`Memory`](taf_codes::Memory), all is as it was.
@@ -13,7 +13,7 @@
 
 mod accept;
 mod enter;
-mod shares;
+mod wagon_events;
 mod tables;
 mod units;
 mod wagon;

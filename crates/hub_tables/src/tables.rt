@@ -1,9 +1,9 @@
 ghost use Rattle.std.specs.Prelude.{◌≡◌, [], ◌∷◌, ◌++◌, IfSome, IfNone, OnOk, OnErr, IfOk, is_none, slice_get, Some, length, ◌≤◌};
 ghost use Rattle.std.specs.Option.{option_copied};
-ghost use Rattle.hub_model.specs.Standing.{nothing};
+ghost use Rattle.hub_model.specs.HubState.{new_state};
 ghost use Rattle.hub_model.specs.Faults.{is_unknown};
-ghost use Rattle.hub_model.specs.Answers.{accepted};
-ghost use Rattle.hub_tables.specs.Tabled.{IsAcceptable, known, tabled};
+ghost use Rattle.hub_model.specs.Updates.{after_acceptance};
+ghost use Rattle.hub_tables.specs.TableStates.{IsAcceptable, table_state, table_part};
 
 use crate::wagon::Wagon;
 use indexmap::IndexMap;
@@ -15,7 +15,7 @@ use taf_messages::{Message, MessageNumber};
 use trip_plan::Plan;
 use wagon_number::WagonNumber;
 
-/// What the hub looks up: wagons, plans and offers. All but [`Tables::named`], [`Tables::said`], [`Tables::share`] and
+/// What the hub looks up: wagons, plans and offers. All but [`Tables::named_wagons`], [`Tables::event_body`], [`Tables::event`] and
 /// [`Tables::accept`] takes no memory.
 #[derive(Drop)]
 pub struct Tables {
@@ -27,19 +27,19 @@ pub struct Tables {
 }
 
 impl Model for Tables {
-    ghost use Rattle.hub_tables.specs.Tabled.{Filings, AreFiled};
+    ghost use Rattle.hub_tables.specs.TableStates.{TableEntries, AreJourneyEntries};
 
-    ghost Value = { Filings };
+    ghost Value = { TableEntries };
 
     ghost view = { λ t. record { wagons = t.wagons.entries; plans = t.plans.entries; units = t.units.entries; offers = t.offers } };
 
-    ghost invariant = { λ t. AreFiled t.wagons.entries };
+    ghost invariant = { λ t. AreJourneyEntries t.wagons.entries };
 }
 
 impl Tables {
     /// No wagon, no plan and no offer. Takes no memory.
     pub fn new(alloc: Global) -> Tables
-        ensures { known result ≡ nothing }
+        ensures { table_state result ≡ new_state }
     {
         Tables {
             wagons: IndexMap::new(alloc),
@@ -51,53 +51,53 @@ impl Tables {
 
     /// The wagon of this number with its journey, if an accepted plan names it.
     pub fn wagon(&self, wagon: WagonNumber) -> Option<&Wagon>
-        ensures found { IfSome result (λ w. w.now ≡ record { wagon = wagon; events = (known self.now).journey wagon }) }
-        ensures none { IfNone result ((known self.now).journey wagon ≡ []) }
-        ensures known { is_unknown ((known self.now).journey wagon) ≡ is_none result }
+        ensures found { IfSome result (λ w. w.now ≡ record { wagon = wagon; events = (table_state self.now).journey wagon }) }
+        ensures none { IfNone result ((table_state self.now).journey wagon ≡ []) }
+        ensures known { is_unknown ((table_state self.now).journey wagon) ≡ is_none result }
     {
         self.wagons.get(&wagon)
     }
 
     /// The accepted plan of a consignment.
     pub fn plan(&self, consignment: ConsignmentId) -> Option<&Plan>
-        ensures { option_copied result ≡ (known self.now).plan_of consignment }
+        ensures { option_copied result ≡ (table_state self.now).plan_of consignment }
     {
         self.plans.get(&consignment)
     }
 
     /// The last accepted plan that loads the intermodal unit.
     pub fn unit_plan(&self, unit: UnitCode) -> Option<&Plan>
-        ensures { option_copied result ≡ (known self.now).unit_plan unit }
+        ensures { option_copied result ≡ (table_state self.now).unit_plan unit }
     {
         self.units.get(&unit)
     }
 
     /// The accepted offer of this name.
     pub fn offer(&self, by: Railway, no: MessageNumber) -> Option<&Offer>
-        ensures { option_copied result ≡ (known self.now).offer by no }
+        ensures { option_copied result ≡ (table_state self.now).offer by no }
     {
         self.offers.find(by, no)
     }
 
     /// Whether there is an offer of this name that is neither answered nor withdrawn.
     pub fn is_open(&self, by: Railway, no: MessageNumber) -> bool
-        ensures { result ≡ (known self.now).is_open by no }
+        ensures { result ≡ (table_state self.now).is_open by no }
     {
         self.offers.is_open(by, no)
     }
 
     /// How many wagons were planned, each counted once.
     pub fn fleet_len(&self) -> usize
-        ensures { result ≡ length (known self.now).fleet }
+        ensures { result ≡ length (table_state self.now).fleet }
     {
         self.wagons.len()
     }
 
     /// The wagon at this place of the fleet, from 0, in the order of first plans.
     pub fn at(&self, i: usize) -> Option<(WagonNumber, &Wagon)>
-        ensures found { IfSome result (λ p. slice_get (known self.now).fleet i ≡ Some p.0) }
-        ensures journey { IfSome result (λ p. p.1.now ≡ record { wagon = p.0; events = (known self.now).journey p.0 }) }
-        ensures none { IfNone result (length (known self.now).fleet ≤ i) }
+        ensures found { IfSome result (λ p. slice_get (table_state self.now).fleet i ≡ Some p.0) }
+        ensures journey { IfSome result (λ p. p.1.now ≡ record { wagon = p.0; events = (table_state self.now).journey p.0 }) }
+        ensures none { IfNone result (length (table_state self.now).fleet ≤ i) }
     {
         match self.wagons.get_index(i) {
             Some((number, wagon)) => Some((*number, wagon)),

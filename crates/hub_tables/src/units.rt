@@ -1,7 +1,7 @@
 //! Where the intermodal units are (4.2.11).
 ghost use Rattle.std.specs.Prelude.{◌≡◌};
 ghost use Rattle.hub_model.specs.Units as of;
-ghost use Rattle.hub_tables.specs.Tabled.{known};
+ghost use Rattle.hub_tables.specs.TableStates.{table_state};
 
 use crate::tables::Tables;
 use taf_codes::UnitCode;
@@ -33,7 +33,7 @@ impl Tables {
     /// The wagon of an intermodal unit: the one that the last accepted plan with the unit loads it on, while the wagon's
     /// journey begins with this plan. None where no plan loads the unit, and once its wagon has another plan.
     pub fn unit_wagon(&self, unit: UnitCode) -> Option<WagonNumber>
-        ensures { result ≡ of.unit_wagon (known self.now) unit }
+        ensures { result ≡ of.unit_wagon (table_state self.now) unit }
     {
         let plan = self.unit_plan(unit)?;
         self.wagon_by(plan, loaded_on(plan, unit))
@@ -41,7 +41,7 @@ impl Tables {
 
     // That wagon, if its journey begins with the plan.
     fn wagon_by(&self, plan: &Plan, wagon: Option<WagonNumber>) -> Option<WagonNumber>
-        ensures { result ≡ of.wagon_by (known self.now).journey plan.now wagon }
+        ensures { result ≡ of.wagon_by (table_state self.now).journey plan.now wagon }
     {
         let wagon = wagon?;
         match self.wagon(wagon) {

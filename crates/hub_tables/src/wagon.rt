@@ -2,11 +2,11 @@ ghost use Rattle.std.specs.Prelude.{◌≡◌, ◌<◌, ◌+◌, ◌^◌, [], �
 ghost use Rattle.journey.specs.Stages.{is_plan};
 ghost use Rattle.journey.specs.Checks.{refusal};
 ghost use Rattle.eti_chain.specs.Estimates.{fits};
-ghost use Rattle.eti_chain.specs.Chains.{chain};
+ghost use Rattle.eti_chain.specs.EstimateStates.{estimates_state};
 ghost use Rattle.hub_model.specs.Units.{is_on_plan};
 
-use eti_chain::{Anchored, Estimates};
-use journey::{Event, Prepared, Track};
+use eti_chain::{EstimateAnchor, Estimates};
+use journey::{Event, PreparedEvent, Track};
 use std::marker::Model;
 use taf_codes::Memory;
 use trip_plan::Plan;
@@ -20,7 +20,7 @@ const MOST_EVENTS: usize = 1 << 62;
 pub struct Wagon {
     track: Track,
     // What is kept for the estimates of the track.
-    kept: Anchored,
+    kept: EstimateAnchor,
 }
 
 impl Model for Wagon {
@@ -29,23 +29,23 @@ impl Model for Wagon {
     ghost Value = { Journey };
 
     ghost use Rattle.std.specs.Prelude.{◌≡◌, true};
-    ghost use Rattle.eti_chain.specs.Chains.{anchored};
+    ghost use Rattle.eti_chain.specs.EstimateStates.{estimate_anchor};
     ghost use Rattle.eti_chain.specs.Estimates.{fits};
 
     ghost view = { λ w. w.track };
 
-    ghost invariant = { λ w. (w.kept ≡ anchored w.track.events) × (fits w.track.events ≡ true) };
+    ghost invariant = { λ w. (w.kept ≡ estimate_anchor w.track.events) × (fits w.track.events ≡ true) };
 }
 
 impl Wagon {
     /// A journey that begins with this plan. It takes no memory.
-    pub(crate) fn begin(wagon: WagonNumber, plan: Prepared) -> Wagon
+    pub(crate) fn begin(wagon: WagonNumber, plan: PreparedEvent) -> Wagon
         requires plan { is_plan plan.body ≡ true }
         requires fits { fits (plan ∷ []) ≡ true }
         ensures { result ≡ record { wagon = wagon; events = plan ∷ [] } }
     {
         let track = Track::begin(wagon, plan);
-        let kept = Anchored::of(&track);
+        let kept = EstimateAnchor::of(&track);
         Wagon { track, kept }
     }
 
@@ -58,7 +58,7 @@ impl Wagon {
 
     /// When the wagon is expected.
     pub fn estimates(&self) -> Estimates<'_>
-        ensures { result ≡ chain self.now.events }
+        ensures { result ≡ estimates_state self.now.events }
     {
         self.kept.estimates(&self.track)
     }
@@ -88,7 +88,7 @@ impl Wagon {
     }
 
     /// Goes on with the journey by a prepared event that it admits. It takes no memory.
-    pub(crate) fn put(&mut self, event: Prepared)
+    pub(crate) fn put(&mut self, event: PreparedEvent)
         requires admitted { refusal self.old.events event.by event.body ≡ None }
         requires fits { fits (self.old.events ++ event ∷ []) ≡ true }
         requires room { length self.old.events + 1 < 2 ^ 63 }

@@ -1,4 +1,4 @@
 pub mod ListLemmas
 pub mod StepLemmas
 pub mod CloseLemmas
-pub mod Lanes
+pub mod LaneLemmas

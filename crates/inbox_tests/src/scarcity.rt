@@ -3,7 +3,7 @@ ghost use Rattle.std.specs.Prelude.{◌≡◌};
 ghost use Rattle.inbox.specs.Rules.{ALL_PARTS};
 
 use crate::jobs::Question;
-use ballast::Ballast;
+use memory_limit::MemoryLimit;
 use inbox::{Inbox, Pass};
 use std::alloc::{AllocError, Global};
 use std::sync::Wait;
@@ -11,21 +11,21 @@ use std::test::Fail;
 
 // Whether so many bytes are enough for a new inbox of sixteen places.
 fn is_enough(
-    ballast: &mut Ballast,
+    memory_limit: &mut MemoryLimit,
     rt: &impl Wait,
     alloc: Global,
     left: usize,
 ) -> Result<bool, AllocError> {
-    ballast.leave(left)?;
+    memory_limit.leave(left)?;
     let is_made = Inbox::new(rt, alloc, 16).is_ok();
-    ballast.ease();
+    memory_limit.ease();
     Ok(is_made)
 }
 
 // How many budgets are not enough, each of sixteen bytes more than the one before.
-fn refused_budgets(ballast: &mut Ballast, rt: &impl Wait, alloc: Global) -> Result<usize, Fail> {
+fn refused_budgets(memory_limit: &mut MemoryLimit, rt: &impl Wait, alloc: Global) -> Result<usize, Fail> {
     for step in 0..100_000usize {
-        if is_enough(ballast, rt, alloc, step * 16)? {
+        if is_enough(memory_limit, rt, alloc, step * 16)? {
             return Ok(step);
         }
     }
@@ -34,7 +34,7 @@ fn refused_budgets(ballast: &mut Ballast, rt: &impl Wait, alloc: Global) -> Resu
 
 // With no memory left, puts a job by one pass, takes it by another and closes the inbox. Whether it came, and none is left.
 fn passes_a_job_on(
-    ballast: &mut Ballast,
+    memory_limit: &mut MemoryLimit,
     rt: &impl Wait,
     alloc: Global,
     inbox: Inbox,
@@ -46,23 +46,23 @@ fn passes_a_job_on(
     let question = Question::new()?;
     let mut pass = pass;
     let mut passes = Vec::with_capacity(alloc, 2)?;
-    ballast.leave(0)?;
+    memory_limit.leave(0)?;
     let mut other = inbox.split_pass(rt, &mut pass)?;
     let is_put = inbox.put(rt, &mut pass, question.job(0, 0)).is_ok();
     let taken = inbox.take(rt, &mut other);
     passes.push_reserved(pass);
     passes.push_reserved(other);
     let is_empty = inbox.close(rt, passes).next(rt).is_none();
-    ballast.ease();
+    memory_limit.ease();
     Ok(is_put && taken == Some(question.job(0, 0)) && is_empty)
 }
 
 #[test]
 fn only_a_new_inbox_takes_memory(rt: HostRuntime) -> Result<(), Fail> {
     let alloc = rt.alloc();
-    let mut ballast = Ballast::new(alloc)?;
-    assert!(rt; refused_budgets(&mut ballast, &rt, alloc)? > 16);
+    let mut memory_limit = MemoryLimit::new(alloc)?;
+    assert!(rt; refused_budgets(&mut memory_limit, &rt, alloc)? > 16);
     let (inbox, pass) = Inbox::new(&rt, alloc, 16)?;
-    assert!(rt; passes_a_job_on(&mut ballast, &rt, alloc, inbox, pass)?);
+    assert!(rt; passes_a_job_on(&mut memory_limit, &rt, alloc, inbox, pass)?);
     Ok(())
 }

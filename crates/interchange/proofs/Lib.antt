@@ -1,2 +1,2 @@
 pub mod AnswerLemmas
-pub mod MadeLemmas
+pub mod OfferTableLemmas

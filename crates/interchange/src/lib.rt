@@ -5,12 +5,12 @@
 //! once and no other ([`Offer::matches`]). A closed offer is still found, since messages go on to name it.
 //!
 //! In contracts [`Offers`] is the list of the offers that were made, each under its name and open or closed, and `spare`,
-//! the number of offers that can be made without memory (`specs/Made.antt`). What must not fail is done in two steps:
+//! the number of offers that can be made without memory (`specs/OfferTable.antt`). What must not fail is done in two steps:
 //! [`Offers::reserve`] first, which may be refused, and [`Offers::open_reserved`], which may not.
 #![tactic(auto)]
 
 mod answered;
-mod made;
+mod closing;
 mod offer;
 mod offers;
 

@@ -17,7 +17,7 @@ pub struct Offer {
 
 /// An offer that was made.
 #[derive(Drop)]
-pub struct Made {
+pub struct OfferEntry {
     pub offer: Offer,
     pub is_open: bool,
 }

@@ -2,10 +2,10 @@ ghost use Rattle.std.specs.Prelude.{◌≡◌, ℕ, ◌+◌, ◌<◌, ◌≤◌,
 ghost use Rattle.std.specs.Option.{option_copied};
 ghost use Rattle.taf_codes.specs.declared.code.Railway.{Railway};
 ghost use Rattle.replay_numbers.specs.Names.{same_name};
-ghost use Rattle.interchange.specs.Made.{offer_of, stands, closed_in};
+ghost use Rattle.interchange.specs.OfferTable.{offer_of, is_standing, with_closed};
 
-use crate::made::close;
-use crate::offer::{Made, Offer};
+use crate::closing::close;
+use crate::offer::{OfferEntry, Offer};
 use indexmap::IndexMap;
 use std::alloc::Global;
 use std::marker::Model;
@@ -15,16 +15,16 @@ use taf_messages::MessageNumber;
 /// The offers that were made, by their names.
 #[derive(Drop)]
 pub struct Offers {
-    made: IndexMap<(Railway, MessageNumber), Made>,
+    table: IndexMap<(Railway, MessageNumber), OfferEntry>,
 }
 
 impl Model for Offers {
     ghost use Rattle.indexmap.specs.IndexMap.{spare};
-    ghost use Rattle.interchange.specs.Made.{Table};
+    ghost use Rattle.interchange.specs.OfferTable.{OfferTable};
 
-    ghost Value = { Table };
+    ghost Value = { OfferTable };
 
-    ghost view = { λ offers. record { offers = offers.made.entries; spare = spare offers.made } };
+    ghost view = { λ offers. record { offers = offers.table.entries; spare = spare offers.table } };
 }
 
 impl Offers {
@@ -33,7 +33,7 @@ impl Offers {
         ensures { result.offers ≡ [] }
     {
         Offers {
-            made: IndexMap::new(alloc),
+            table: IndexMap::new(alloc),
         }
     }
 
@@ -41,18 +41,18 @@ impl Offers {
     pub fn find(&self, by: Railway, number: MessageNumber) -> Option<&Offer>
         ensures { option_copied result ≡ offer_of self.now by number }
     {
-        match self.made.get(&(by, number)) {
-            Some(made) => Some(&made.offer),
+        match self.table.get(&(by, number)) {
+            Some(entry) => Some(&entry.offer),
             None => None,
         }
     }
 
     /// Whether the offer of a name is open: false where there is none.
     pub fn is_open(&self, by: Railway, number: MessageNumber) -> bool
-        ensures { result ≡ stands self.now by number }
+        ensures { result ≡ is_standing self.now by number }
     {
-        match self.made.get(&(by, number)) {
-            Some(made) => made.is_open,
+        match self.table.get(&(by, number)) {
+            Some(entry) => entry.is_open,
             None => false,
         }
     }
@@ -64,7 +64,7 @@ impl Offers {
         ensures ok { OnOk result (0 < self.new.spare) }
         ensures succeeds { 0 < self.old.spare → IsOk result }
     {
-        self.made.reserve(1)?;
+        self.table.reserve(1)?;
         Ok(())
     }
 
@@ -74,15 +74,15 @@ impl Offers {
         requires new { offer_of self.old offer.by offer.no ≡ None }
         ensures offers { self.new.offers ≡ self.old.offers ++ ((offer.by, offer.no), record { offer = offer; is_open = true }) ∷ [] }
         ensures finds { (by : Railway) (number : ℕ) → offer_of self.new by number ≡ (if same_name offer.by offer.no by number then Some offer else offer_of self.old by number) }
-        ensures opens { (by : Railway) (number : ℕ) → stands self.new by number ≡ (if same_name offer.by offer.no by number then true else stands self.old by number) }
+        ensures opens { (by : Railway) (number : ℕ) → is_standing self.new by number ≡ (if same_name offer.by offer.no by number then true else is_standing self.old by number) }
         ensures room_left { self.old.spare ≤ self.new.spare + 1 }
     {
         let name = (offer.by, offer.no);
-        let made = Made {
+        let entry = OfferEntry {
             offer,
             is_open: true,
         };
-        let _before = self.made.insert(name, made).unwrap();
+        let _before = self.table.insert(name, entry).unwrap();
     }
 
     /// Makes an offer whose name is new. It is open. Where memory is refused, the offers stay.
@@ -90,7 +90,7 @@ impl Offers {
         requires { offer_of self.old offer.by offer.no ≡ None }
         ensures offers { OnOk result (self.new.offers ≡ self.old.offers ++ ((offer.by, offer.no), record { offer = offer; is_open = true }) ∷ []) }
         ensures finds { OnOk result ((by : Railway) (number : ℕ) → offer_of self.new by number ≡ (if same_name offer.by offer.no by number then Some offer else offer_of self.old by number)) }
-        ensures opens { OnOk result ((by : Railway) (number : ℕ) → stands self.new by number ≡ (if same_name offer.by offer.no by number then true else stands self.old by number)) }
+        ensures opens { OnOk result ((by : Railway) (number : ℕ) → is_standing self.new by number ≡ (if same_name offer.by offer.no by number then true else is_standing self.old by number)) }
         ensures room_left { self.old.spare ≤ self.new.spare + 1 }
         ensures succeeds { 0 < self.old.spare → IsOk result }
         ensures err { OnErr result (self.new.offers ≡ self.old.offers) }
@@ -102,12 +102,12 @@ impl Offers {
 
     /// Closes an open offer, which keeps its place among the offers and is still found. Takes no memory.
     pub fn close_offer(&mut self, by: Railway, number: MessageNumber)
-        requires { stands self.old by number ≡ true }
-        ensures offers { self.new.offers ≡ closed_in self.old.offers by number }
+        requires { is_standing self.old by number ≡ true }
+        ensures offers { self.new.offers ≡ with_closed self.old.offers by number }
         ensures finds { (also : Railway) (other : ℕ) → offer_of self.new also other ≡ offer_of self.old also other }
-        ensures closes { (also : Railway) (other : ℕ) → stands self.new also other ≡ (if same_name by number also other then false else stands self.old also other) }
+        ensures closes { (also : Railway) (other : ℕ) → is_standing self.new also other ≡ (if same_name by number also other then false else is_standing self.old also other) }
         ensures room { self.old.spare ≤ self.new.spare }
     {
-        close(&mut self.made, by, number);
+        close(&mut self.table, by, number);
     }
 }

@@ -1,7 +1,7 @@
-pub mod Newest
-pub mod Coursing
-pub mod Timing
-pub mod Sounding
-pub mod Offering
-pub mod OnItsWay
-pub mod LegsByNewest
+pub mod NewestLemmas
+pub mod LegPositionLemmas
+pub mod LegTimeLemmas
+pub mod SoundStateLemmas
+pub mod OfferStageLemmas
+pub mod OnItsWayLemmas
+pub mod NewestLegLemmas

@@ -15,8 +15,8 @@ use Rattle.taf_messages.specs.declared.record.Stage.TheVariants as stage_is
 use Rattle.journey.specs.declared.event.Event.{Event}
 use Rattle.journey.specs.declared.event.EventBody.{EventBody}
 use Rattle.journey.specs.declared.event.EventBody.TheVariants.{Planned, Moved, EstimateAsked, LegTimed, Offered, Answered, Withdrawn, Rerouted}
-use Rattle.journey.specs.declared.situation.Situation.{Situation}
-use Rattle.journey.specs.Situations.{situation, on_its_way, responsible_in, runner_in, target_in}
+use Rattle.journey.specs.declared.journey_state.JourneyState.{JourneyState}
+use Rattle.journey.specs.JourneyStates.{journey_state, on_its_way, responsible_in, runner_in, target_in}
 
 -- the test of equal stages
 abbrev pub same_stage : Stage → Stage → Bool
@@ -30,35 +30,35 @@ same_stage stage_is.Delivered stage_is.Delivered = true
 same_stage _ _ = false
 
 -- the wagon is in one of these stages
-abbrev pub is_in : Situation → List Stage → Bool
+abbrev pub is_in : JourneyState → List Stage → Bool
 is_in s stages = list_any (λ other. option_eq same_stage s.stage (Some other)) stages
 
 -- the railway is the lead of the plan
-abbrev pub is_lead : Situation → Railway → Bool
+abbrev pub is_lead : JourneyState → Railway → Bool
 is_lead s by = is_text s.lead by
 
 -- the railway answers for the wagon
-abbrev pub is_responsible : Situation → Railway → Bool
+abbrev pub is_responsible : JourneyState → Railway → Bool
 is_responsible s by = is_text (responsible_in s) by
 
 -- the railway runs leg i
-abbrev pub runs_leg : Situation → ℕ → Railway → Bool
+abbrev pub runs_leg : JourneyState → ℕ → Railway → Bool
 runs_leg s i by = is_text (runner_in s i) by
 
 -- the wagon has departed, and is on the leg or past it
-abbrev pub is_leg_started : Situation → ℕ → Bool
+abbrev pub is_leg_started : JourneyState → ℕ → Bool
 is_leg_started s i = s.has_departed && nat_le i s.leg_index
 
 -- the current leg is the last one
-abbrev pub is_on_last_leg : Situation → Bool
+abbrev pub is_on_last_leg : JourneyState → Bool
 is_on_last_leg s = s.leg_index + 1 == length s.legs
 
 -- the wagon has not arrived, and is in no offer
-abbrev pub may_be_rerouted : Situation → Bool
+abbrev pub may_be_rerouted : JourneyState → Bool
 may_be_rerouted s = is_in s (stage_is.Planned ∷ stage_is.Released ∷ stage_is.Running ∷ stage_is.InYard ∷ [])
 
 -- the wagon stands in the yard of this place, where its current leg ends (4.2.8)
-abbrev pub may_be_offered_at : Situation → Place → Bool
+abbrev pub may_be_offered_at : JourneyState → Place → Bool
 may_be_offered_at s place = is_text s.yard place && is_text (target_in s) place
 
 -- where a route begins
@@ -70,7 +70,7 @@ abbrev pub first_runner : List Leg → Option Railway
 first_runner route = option_map (λ l. l.ru) (slice_get route 0)
 
 -- what may be wrong where a railway reports this movement, in the order of the checks (4.2.7)
-abbrev pub movement_checks : Situation → Railway → MovementKind → List (Bool × Why)
+abbrev pub movement_checks : JourneyState → Railway → MovementKind → List (Bool × Why)
 movement_checks s by Release =
     (not (is_in s (stage_is.Planned ∷ [])), WrongStage) ∷
     (not (is_lead s by), NotYours) ∷ []
@@ -99,7 +99,7 @@ movement_checks s by Delivery =
     (not (is_responsible s by), NotYours) ∷ []
 
 -- the same for new legs after the current one
-abbrev pub route_checks : Situation → Railway → List Leg → List (Bool × Why)
+abbrev pub route_checks : JourneyState → Railway → List Leg → List (Bool × Why)
 route_checks s by route =
     (not (may_be_rerouted s), WrongStage) ∷
     (not (is_lead s by), NotYours) ∷
@@ -108,14 +108,14 @@ route_checks s by route =
     (nat_lt 8 (s.leg_index + 1 + length route), TooManyLegs) ∷ []
 
 -- the same for the minutes of leg i
-abbrev pub time_checks : Situation → Railway → ℕ → List (Bool × Why)
+abbrev pub time_checks : JourneyState → Railway → ℕ → List (Bool × Why)
 time_checks s by i =
     (is_none (slice_get s.legs i), NoSuchLeg) ∷
     (not (runs_leg s i by), NotYours) ∷
     (is_leg_started s i, LegStarted) ∷ []
 
 -- the same for any event; no plan comes after the first event
-abbrev pub checks : Situation → Railway → EventBody → List (Bool × Why)
+abbrev pub checks : JourneyState → Railway → EventBody → List (Bool × Why)
 checks s by (Planned plan) = (true, WrongStage) ∷ []
 checks s by (Moved what) = movement_checks s by what
 checks s by EstimateAsked =
@@ -133,4 +133,4 @@ checks s by (Rerouted route) = route_checks s by route
 
 -- why a railway may not add it to the events of a journey, if it may not: the first check that applies
 abbrev pub refusal : List Event → Railway → EventBody → Option Why
-refusal events by body = first_of (checks (situation events) by body)
+refusal events by body = first_of (checks (journey_state events) by body)

@@ -8,15 +8,15 @@ pub record Journey : Type 0 where
   pub events : List Event
 
 -- a wagon, the events of its journey, and the one that comes next
-pub record Onward : Type 0 where
+pub record NextEvent : Type 0 where
   pub wagon : ℕ
   pub before : List Event
   pub event : Event
 
 -- the journey, and the event that comes next
-abbrev pub onward : Journey → Event → Onward
-onward j e = record { wagon = j.wagon; before = j.events; event = e }
+abbrev pub next_event : Journey → Event → NextEvent
+next_event j e = record { wagon = j.wagon; before = j.events; event = e }
 
 -- the events with the next one
-abbrev pub after : Onward → List Event
+abbrev pub after : NextEvent → List Event
 after o = o.before ++ o.event ∷ []

@@ -13,7 +13,7 @@ use Rattle.journey.specs.Words.{newest}
 use Rattle.journey.specs.Stages.{stage, leg_index, is_reception, plan, plan_in}
 
 -- the leg that the wagon is on, and all its legs
-pub record Course : Type 0 where
+pub record LegPosition : Type 0 where
   pub index : ℕ
   pub legs : List Leg
 
@@ -45,16 +45,16 @@ HaveRoom c [] = Unit {0}
 HaveRoom c (e ∷ events) = HasRoom c e.body × HaveRoom (index_after c e.body) events
 
 -- the course after an event
-abbrev pub course_after : Course → Event → Course
-course_after course e = record { index = index_after course.index e.body; legs = legs_after course.index course.legs e.body }
+abbrev pub leg_position_after : LegPosition → Event → LegPosition
+leg_position_after leg_position e = record { index = index_after leg_position.index e.body; legs = legs_after leg_position.index leg_position.legs e.body }
 
 -- the course of a journey
-abbrev pub course : List Event → Course
-course events = fold course_after (record { index = 0; legs = [] }) events
+abbrev pub leg_position : List Event → LegPosition
+leg_position events = fold leg_position_after (record { index = 0; legs = [] }) events
 
 -- all legs of the wagon
 abbrev pub legs : List Event → List Leg
-legs events = (course events).legs
+legs events = (leg_position events).legs
 
 -- leg i of the wagon
 abbrev pub leg : List Event → ℕ → Option Leg

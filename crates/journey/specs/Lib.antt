@@ -1,8 +1,8 @@
 pub mod Words
 pub mod Stages
 pub mod Legs
-pub mod Situations
+pub mod JourneyStates
 pub mod Checks
 pub mod Journey
-pub mod Kept
+pub mod TrackStates
 pub mod NewestLegs

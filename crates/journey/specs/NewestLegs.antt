@@ -11,18 +11,18 @@ use Rattle.journey.specs.Legs.{leg, legs, index_after}
 use Rattle.journey.specs.Checks.{refusal}
 
 -- what an event says, and the leg on which it comes: how many railways received the wagon before
-pub record Placed : Type 0 where
+pub record EventOnLeg : Type 0 where
   pub on : ℕ
   pub says : EventBody
 
 -- the events of a wagon that is on leg c
-abbrev pub placed_from : ℕ → List Event → List Placed
-placed_from c [] = []
-placed_from c (e ∷ events) = record { on = c; says = e.body } ∷ placed_from (index_after c e.body) events
+abbrev pub events_on_legs_from : ℕ → List Event → List EventOnLeg
+events_on_legs_from c [] = []
+events_on_legs_from c (e ∷ events) = record { on = c; says = e.body } ∷ events_on_legs_from (index_after c e.body) events
 
 -- the events of a journey
-abbrev pub placed : List Event → List Placed
-placed events = placed_from 0 events
+abbrev pub events_on_legs : List Event → List EventOnLeg
+events_on_legs events = events_on_legs_from 0 events
 
 -- leg i of a route that begins behind leg c
 abbrev pub route_leg : ℕ → List Leg → ℕ → Option Leg
@@ -46,7 +46,7 @@ count_set c (Rerouted route) = Some (c + 1 + length route)
 count_set c _ = None
 
 -- how many legs the newest event that says it gives a wagon
-abbrev pub count_by_newest : List Placed → ℕ
+abbrev pub count_by_newest : List EventOnLeg → ℕ
 count_by_newest events = unwrap_or (newest (λ e. count_set e.on e.says) events) 0
 
 -- the same leg with these minutes
@@ -54,7 +54,7 @@ abbrev pub with_minutes : ℕ → Leg → Leg
 with_minutes minutes leg = record leg { minutes = minutes }
 
 -- leg i as the newest event that sets it says, with the minutes of the newest event that says them; none past the last one
-abbrev pub leg_by_newest : List Placed → ℕ → Option Leg
+abbrev pub leg_by_newest : List EventOnLeg → ℕ → Option Leg
 leg_by_newest events i =
     if nat_lt i (count_by_newest events)
     then option_map (λ (l : Leg). with_minutes (unwrap_or (newest (λ e. minutes_set e.on e.says i) events) l.minutes) l) (newest (λ e. leg_set e.on e.says i) events)
@@ -76,32 +76,32 @@ IsJourney [] = ⊥
 IsJourney (e ∷ events) = IsPlanOfLegs e.body × AllAdmitted (e ∷ []) events
 
 -- each event comes on the leg that is counted by those before it
-abbrev pub PlacedByCount : Type 0
-PlacedByCount = (before : List Event) (e : Event) → placed (before ++ e ∷ []) ≡ placed before ++ record { on = leg_index before; says = e.body } ∷ []
+abbrev pub OnLegsByCount : Type 0
+OnLegsByCount = (before : List Event) (e : Event) → events_on_legs (before ++ e ∷ []) ≡ events_on_legs before ++ record { on = leg_index before; says = e.body } ∷ []
 
 -- the legs of each journey are those that the newest events set
 abbrev pub LegsAreTheNewest : Type 0
-LegsAreTheNewest = (events : List Event) → IsJourney events → (i : ℕ) → leg events i ≡ leg_by_newest (placed events) i
+LegsAreTheNewest = (events : List Event) → IsJourney events → (i : ℕ) → leg events i ≡ leg_by_newest (events_on_legs events) i
 
 -- and they are as many
 abbrev pub AsManyLegs : Type 0
-AsManyLegs = (events : List Event) → IsJourney events → length (legs events) ≡ count_by_newest (placed events)
+AsManyLegs = (events : List Event) → IsJourney events → length (legs events) ≡ count_by_newest (events_on_legs events)
 
 -- a leg of this railway, from here to there
 abbrev leg_of : ℕ → ℕ → ℕ → ℕ → Leg
 leg_of ru origin target minutes = record { ru = ru ∷ []; origin = origin ∷ []; target = target ∷ []; minutes = minutes }
 
 -- what the lead, the railway 1, or another says
-abbrev said : ℕ → ℕ → EventBody → Event
-said by number body = record { by = by ∷ []; no = number; at = None; body = body }
+abbrev example_event : ℕ → ℕ → EventBody → Event
+example_event by number body = record { by = by ∷ []; no = number; at = None; body = body }
 
 -- a journey: a plan of two legs, a time for the second, a route that sets the second anew, and a time for it again
 abbrev pub rerouted_journey : List Event
 rerouted_journey =
-    said 1 1 (Planned (record { lead = 1 ∷ []; consignment = 7 ∷ []; load = Loaded; wagons = 5 ∷ []; legs = leg_of 2 1 2 100 ∷ leg_of 3 2 3 200 ∷ []; units = []; commit = 9000 })) ∷
-    said 3 1 (LegTimed 1 250) ∷
-    said 1 2 (Rerouted (leg_of 4 2 3 180 ∷ [])) ∷
-    said 4 1 (LegTimed 1 190) ∷ []
+    example_event 1 1 (Planned (record { lead = 1 ∷ []; consignment = 7 ∷ []; load = Loaded; wagons = 5 ∷ []; legs = leg_of 2 1 2 100 ∷ leg_of 3 2 3 200 ∷ []; units = []; commit = 9000 })) ∷
+    example_event 3 1 (LegTimed 1 250) ∷
+    example_event 1 2 (Rerouted (leg_of 4 2 3 180 ∷ [])) ∷
+    example_event 4 1 (LegTimed 1 190) ∷ []
 
 -- the minutes of its second leg after the first n events
 abbrev pub second_minutes : ℕ → Option ℕ

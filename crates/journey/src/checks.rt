@@ -4,12 +4,12 @@ ghost use Rattle.taf_codes.specs.Words as words;
 ghost use Rattle.journey.specs.Checks as of;
 
 use crate::event::{Event, EventBody};
-use crate::situation::Situation;
+use crate::journey_state::JourneyState;
 use taf_codes::{Place, Railway};
 use taf_messages::{MovementKind, Stage, Why};
 use trip_plan::Leg;
 
-impl Situation {
+impl JourneyState {
     /// The first check that refuses the event.
     pub(crate) fn refusal(&self, event: &Event) -> Option<Why>
         requires { self.now.leg_index < 8 }

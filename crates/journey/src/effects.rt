@@ -69,8 +69,8 @@ impl EventBody {
 
 impl Event {
     /// The railway that takes the wagon over by the event.
-    pub(crate) fn taker(&self) -> Option<Railway>
-        ensures { result ≡ of.taker self.now.by self.now.body }
+    pub(crate) fn new_responsible(&self) -> Option<Railway>
+        ensures { result ≡ of.new_responsible self.now.by self.now.body }
     {
         match self.body {
             EventBody::Moved(MovementKind::Departure) => Some(self.by),

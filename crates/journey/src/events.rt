@@ -1,11 +1,11 @@
 ghost use Rattle.std.specs.Prelude.{◌≡◌, ◌+◌, ◌<◌, ◌≤◌, ◌^◌, [], ◌∷◌, ◌++◌, length, OnOk, OnErr, slice_get};
 ghost use Rattle.std.specs.Option.{option_copied};
 ghost use Rattle.journey.specs.Legs.{HasRoom};
-ghost use Rattle.journey.specs.Situations.{situation_after};
+ghost use Rattle.journey.specs.JourneyStates.{journey_state_after};
 
 use crate::event::Event;
-use crate::prepared::Prepared;
-use crate::situation::Situation;
+use crate::prepared::PreparedEvent;
+use crate::journey_state::JourneyState;
 use std::collections::LinkedList;
 use std::marker::Model;
 use taf_codes::Memory;
@@ -31,7 +31,7 @@ impl Model for Events {
 
 impl Events {
     /// One event.
-    pub(crate) fn of(event: Prepared) -> Events
+    pub(crate) fn of(event: PreparedEvent) -> Events
         ensures { result ≡ event ∷ [] }
     {
         let joined = event.into_list();
@@ -66,24 +66,24 @@ impl Events {
     }
 
     /// Adds the next event, by which the situation goes on in place. Where memory is refused, both are as they were.
-    pub(crate) fn push(&mut self, next: Event, situation: &mut Situation) -> Result<(), Memory>
-        requires on_a_leg { situation.old.leg_index < length situation.old.legs }
-        requires few_legs { length situation.old.legs ≤ 8 }
-        requires room { HasRoom situation.old.leg_index next.body }
+    pub(crate) fn push(&mut self, next: Event, journey_state: &mut JourneyState) -> Result<(), Memory>
+        requires on_a_leg { journey_state.old.leg_index < length journey_state.old.legs }
+        requires few_legs { length journey_state.old.legs ≤ 8 }
+        requires room { HasRoom journey_state.old.leg_index next.body }
         ensures ok { OnOk result (self.new ≡ self.old ++ next ∷ []) }
-        ensures goes_on { OnOk result (situation.new ≡ situation_after situation.old next) }
+        ensures goes_on { OnOk result (journey_state.new ≡ journey_state_after journey_state.old next) }
         ensures err { OnErr result (self.new ≡ self.old) }
-        ensures stays { OnErr result (situation.new ≡ situation.old) }
+        ensures stays { OnErr result (journey_state.new ≡ journey_state.old) }
     {
         gather(&mut self.row, &mut self.joined)?;
         self.row.reserve(1)?;
-        situation.advance(&next);
+        journey_state.advance(&next);
         self.row.push_reserved(next);
         Ok(())
     }
 
     /// Adds an event that has memory of its own.
-    pub(crate) fn join(&mut self, event: Prepared)
+    pub(crate) fn join(&mut self, event: PreparedEvent)
         requires { length self.old + 1 < 2 ^ 63 }
         ensures { self.new ≡ self.old ++ event ∷ [] }
     {

@@ -2,7 +2,7 @@
 ghost use Rattle.journey.specs.NewestLegs.{
   AsManyLegs,
   LegsAreTheNewest,
-  PlacedByCount,
+  OnLegsByCount,
   RerouteUndoesTimes,
 };
 
@@ -15,7 +15,7 @@ ghost use Rattle.journey.specs.NewestLegs.{
 ///
 /// The leg on which an event comes is the number of receptions before it.
 pub fn legs_are_what_the_newest_event_sets()
-    ensures on_their_legs { PlacedByCount }
+    ensures on_their_legs { OnLegsByCount }
     ensures legs { LegsAreTheNewest }
     ensures as_many { AsManyLegs }
     ensures a_reroute { RerouteUndoesTimes }

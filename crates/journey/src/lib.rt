@@ -19,10 +19,10 @@
 //!   [`Track::add`] adds one that may. Where memory is refused, a track is as it was.
 //! - [`Event::prepared`] gives an event memory of its own. [`Track::begin`] and [`Track::put`] then take none.
 //! - [`Events`] lie in a row, and behind it in a list, where those are that came with memory of their own.
-//! - [`Situation`] is what the events come to. A track keeps it beside them, so that no call but
+//! - [`JourneyState`] is what the events come to. A track keeps it beside them, so that no call but
 //!   [`Track::events`] leads to a walk: stage, leg index, legs, responsible railway, place and checks take no more
 //!   than a look at it.
-//! - [`Step`] is a track with an event that it admits, and the situation that both lead to. [`Track::step`] makes it
+//! - [`Transition`] is a track with an event that it admits, and the situation that both lead to. [`Track::transition`] makes it
 //!   once, for all that is asked of the event.
 //! - [`Legs`] are the one to eight legs of a wagon, kept in place.
 //!
@@ -40,15 +40,15 @@ mod events;
 mod laws;
 mod legs;
 mod prepared;
-mod situation;
-mod step;
+mod journey_state;
+mod transition;
 mod track;
 
 pub use event::{Event, EventBody};
 pub use events::Events;
 pub use laws::legs_are_what_the_newest_event_sets;
 pub use legs::Legs;
-pub use prepared::Prepared;
-pub use situation::Situation;
-pub use step::Step;
+pub use prepared::PreparedEvent;
+pub use journey_state::JourneyState;
+pub use transition::Transition;
 pub use track::Track;

@@ -8,15 +8,15 @@ use taf_codes::Memory;
 
 /// An event in memory of its own. It joins a journey without taking any.
 #[derive(Debug, Drop)]
-pub struct Prepared {
+pub struct PreparedEvent {
     // The event alone.
     node: LinkedList<Event>,
 }
 
-impl Model for Prepared {
+impl Model for PreparedEvent {
     ghost use Rattle.std.specs.Prelude.{◌≡◌, length};
     ghost use Rattle.journey.specs.declared.event.Event.{Event};
-    ghost use Rattle.journey.specs.Kept.{only};
+    ghost use Rattle.journey.specs.TrackStates.{only};
 
     ghost Value = { Event };
 
@@ -27,16 +27,16 @@ impl Model for Prepared {
 
 impl Event {
     /// The event in memory of its own.
-    pub fn prepared(self, alloc: Global) -> Result<Prepared, Memory>
+    pub fn prepared(self, alloc: Global) -> Result<PreparedEvent, Memory>
         ensures { IfOk result (λ p. p ≡ self) }
     {
         let mut node = LinkedList::new(alloc);
         node.push_back(self)?;
-        Ok(Prepared { node })
+        Ok(PreparedEvent { node })
     }
 }
 
-impl Prepared {
+impl PreparedEvent {
     ghost use Rattle.std.specs.Prelude.{[], ◌∷◌};
 
     /// The event.
@@ -53,7 +53,7 @@ impl Prepared {
     pub(crate) fn into_list(self) -> LinkedList<Event>
         ensures { result ≡ self ∷ [] }
     {
-        let Prepared { node } = self;
+        let PreparedEvent { node } = self;
         node
     }
 }

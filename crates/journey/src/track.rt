@@ -2,9 +2,9 @@ ghost use Rattle.std.specs.Prelude.{◌≡◌, ◌+◌, ◌<◌, ◌≤◌, ◌^
 
 use crate::event::{Event, EventBody};
 use crate::events::Events;
-use crate::prepared::Prepared;
-use crate::situation::Situation;
-use crate::step::Step;
+use crate::prepared::PreparedEvent;
+use crate::journey_state::JourneyState;
+use crate::transition::Transition;
 use std::alloc::Global;
 use std::marker::Model;
 use taf_codes::{Memory, Place, Railway};
@@ -18,7 +18,7 @@ pub struct Track {
     wagon: WagonNumber,
     events: Events,
     // What the events come to.
-    situation: Situation,
+    journey_state: JourneyState,
 }
 
 impl Model for Track {
@@ -26,20 +26,20 @@ impl Model for Track {
 
     ghost Value = { Journey };
 
-    ghost use Rattle.journey.specs.Kept.{IsKept};
+    ghost use Rattle.journey.specs.TrackStates.{IsTrackState};
 
     ghost view = { λ t. record { wagon = t.wagon; events = t.events } };
 
-    ghost invariant = { λ t. IsKept t.events t.situation };
+    ghost invariant = { λ t. IsTrackState t.events t.journey_state };
 }
 
 impl Track {
     ghost use Rattle.std.specs.Prelude.{false, slice_get, option_map};
     ghost use Rattle.journey.specs.declared.event.EventBody.TheVariants.{Planned};
-    ghost use Rattle.journey.specs.Journey.{onward};
+    ghost use Rattle.journey.specs.Journey.{next_event};
     ghost use Rattle.journey.specs.Stages as of;
     ghost use Rattle.journey.specs.Legs as legs_of;
-    ghost use Rattle.journey.specs.Situations.{situation};
+    ghost use Rattle.journey.specs.JourneyStates.{journey_state};
     ghost use Rattle.journey.specs.Checks.{refusal};
 
     /// A journey that begins with this plan.
@@ -51,18 +51,18 @@ impl Track {
     }
 
     /// A journey that begins with this plan. It takes no memory.
-    pub fn begin(wagon: WagonNumber, event: Prepared) -> Track
+    pub fn begin(wagon: WagonNumber, event: PreparedEvent) -> Track
         requires { of.is_plan event.body ≡ true }
         ensures { result ≡ record { wagon = wagon; events = event ∷ [] } }
     {
-        let situation = match &event.event().body {
-            EventBody::Planned(plan) => Situation::planned(plan),
+        let journey_state = match &event.event().body {
+            EventBody::Planned(plan) => JourneyState::planned(plan),
             _ => unreachable!(),
         };
         Track {
             wagon,
             events: Events::of(event),
-            situation,
+            journey_state,
         }
     }
 
@@ -70,7 +70,7 @@ impl Track {
     pub fn admits(&self, event: &Event) -> Option<Why>
         ensures { result ≡ refusal self.now.events event.now.by event.now.body }
     {
-        self.situation.refusal(event)
+        self.journey_state.refusal(event)
     }
 
     /// Adds an event that may come next. Where memory is refused, the track is as it was.
@@ -80,18 +80,18 @@ impl Track {
         ensures on_a_leg { OnOk result (of.leg_index self.new.events < length (legs_of.legs self.new.events)) }
         ensures err { OnErr result (self.new ≡ self.old) }
     {
-        self.events.push(event, &mut self.situation)?;
+        self.events.push(event, &mut self.journey_state)?;
         Ok(())
     }
 
     /// Adds a prepared event that may come next. It takes no memory.
-    pub fn put(&mut self, event: Prepared)
+    pub fn put(&mut self, event: PreparedEvent)
         requires admitted { refusal self.old.events event.by event.body ≡ None }
         requires room { length self.old.events + 1 < 2 ^ 63 }
         ensures grows { self.new ≡ record self.old { events = self.old.events ++ event ∷ [] } }
         ensures on_a_leg { of.leg_index self.new.events < length (legs_of.legs self.new.events) }
     {
-        self.situation.advance(event.event());
+        self.journey_state.advance(event.event());
         self.events.join(event);
     }
 
@@ -128,7 +128,7 @@ impl Track {
     pub fn stage(&self) -> Stage
         ensures { of.stage self.now.events ≡ Some result }
     {
-        match self.situation.stage {
+        match self.journey_state.stage {
             Some(stage) => stage,
             None => unreachable!(),
         }
@@ -140,7 +140,7 @@ impl Track {
         ensures on_a_leg { result < length (legs_of.legs self.now.events) }
         ensures few { result < 8 }
     {
-        self.situation.leg_index
+        self.journey_state.leg_index
     }
 
     /// The legs in their order, with their minutes as they are now: 1 to 8.
@@ -149,46 +149,46 @@ impl Track {
         ensures some { 0 < length result.now }
         ensures few { length result.now ≤ 8 }
     {
-        self.situation.legs.as_slice()
+        self.journey_state.legs.as_slice()
     }
 
     /// The leg at this place, from 0 on.
     pub fn leg(&self, i: usize) -> Option<Leg>
         ensures { result ≡ legs_of.leg self.now.events i }
     {
-        self.situation.legs.leg(i)
+        self.journey_state.legs.leg(i)
     }
 
     /// The railway that answers for the wagon, while it is on its way (4.2.7).
     pub fn responsible(&self) -> Option<Railway>
         ensures { result ≡ of.responsible self.now.events }
     {
-        self.situation.responsible()
+        self.journey_state.responsible()
     }
 
     /// Where the wagon is, if it is at a place.
     pub fn place(&self) -> Option<Place>
         ensures { result ≡ legs_of.place self.now.events }
     {
-        self.situation.place()
+        self.journey_state.place()
     }
 
     /// What the events come to.
-    pub fn situation(&self) -> &Situation
-        ensures { result.now ≡ situation self.now.events }
+    pub fn journey_state(&self) -> &JourneyState
+        ensures { result.now ≡ journey_state self.now.events }
     {
-        &self.situation
+        &self.journey_state
     }
 
     /// The step that an event makes which may come next.
-    pub fn step<'a>(&'a self, event: &'a Event) -> Step<'a>
+    pub fn transition<'a>(&'a self, event: &'a Event) -> Transition<'a>
         requires { refusal self.now.events event.now.by event.now.body ≡ None }
-        ensures { result ≡ onward self.now event.now }
+        ensures { result ≡ next_event self.now event.now }
     {
-        Step {
+        Transition {
             track: self,
             event,
-            situation: self.situation.after(event),
+            journey_state: self.journey_state.after(event),
         }
     }
 }

@@ -18,9 +18,9 @@ use Rattle.serde_json.specs.Data.{Members, no_members, unsigned, object, put}
 use Rattle.serde_json.specs.Find.{get_member}
 use Rattle.serde_json.specs.Read.{number_of, is_integer, of_json, of_members, read, max_depth}
 use Rattle.serde_json.proofs.Views.{get_member-put, get_member-put_other}
-use Rattle.json_tokens.specs.Flat.{Member, plain_token, plain_json, plain_data, IsSpelt, AreSpelt, member_tokens, member_json, put_all, flat_data, under, last_under}
-use Rattle.json_tokens.specs.declared.flat.Plain.{Plain}
-use Rattle.json_tokens.specs.declared.flat.Plain.TheVariants.{Text, Whole}
+use Rattle.json_tokens.specs.Flat.{Member, scalar_token, scalar_json, scalar_data, IsSpelt, AreSpelt, member_tokens, member_json, put_all, flat_data, under, last_under}
+use Rattle.json_tokens.specs.declared.flat.Scalar.{Scalar}
+use Rattle.json_tokens.specs.declared.flat.Scalar.TheVariants.{Text, Whole}
 use Rattle.json_tokens.proofs.ReadLemmas.{whole_of}
 
 -- ---- whole numbers
@@ -44,15 +44,15 @@ whole_found s bytes p (Some n) b e sign h =
 
 -- ---- the members of a text
 
-plain_tokens : (p : Plain) (ts : List Token) → tree.json_tokens (plain_json p) ++ ts ≡ plain_token p ∷ ts
+plain_tokens : (p : Scalar) (ts : List Token) → tree.json_tokens (scalar_json p) ++ ts ≡ scalar_token p ∷ ts
 plain_tokens (Text s) ts = refl
 plain_tokens (Whole digits n) ts = refl
 
 members_tokens : (ms : List Member) → tree.members_tokens (member_json ms) ≡ member_tokens ms ++ token.end_object ∷ []
 members_tokens [] = refl
-members_tokens (m ∷ ms) = ap (λ ts. token.key m.0.now ∷ ts) (plain_tokens m.1 (tree.members_tokens (member_json ms)) ∙ ap (λ ts. plain_token m.1 ∷ ts) (members_tokens ms))
+members_tokens (m ∷ ms) = ap (λ ts. token.key m.0.now ∷ ts) (plain_tokens m.1 (tree.members_tokens (member_json ms)) ∙ ap (λ ts. scalar_token m.1 ∷ ts) (members_tokens ms))
 
-plain_depth : (p : Plain) → tree.depth (plain_json p) ≤ 0
+plain_depth : (p : Scalar) → tree.depth (scalar_json p) ≤ 0
 plain_depth (Text s) = omega arith
 plain_depth (Whole digits n) = omega arith
 
@@ -60,14 +60,14 @@ members_depth : (ms : List Member) → tree.members_depth (member_json ms) ≤ 0
 members_depth [] = omega arith
 members_depth (m ∷ ms) = omega (arith, plain_depth m.1, members_depth ms)
 
-plain_read : (p : Plain) → IsSpelt p → of_json (plain_json p) ≡ Some (plain_data p)
+plain_read : (p : Scalar) → IsSpelt p → of_json (scalar_json p) ≡ Some (scalar_data p)
 plain_read (Text s) h = refl
 plain_read (Whole digits n) h = ap (option_map _) h
 
 members_read : (ms : List Member) (before : Members) → AreSpelt ms → of_members (member_json ms) before ≡ Some (put_all ms before)
 members_read [] before h = refl
 members_read (m ∷ ms) before h =
-    ap (option_and_then (λ d. of_members (member_json ms) (put m.0.now d before))) (plain_read m.1 h.0) ∙ members_read ms (put m.0.now (plain_data m.1) before) h.1
+    ap (option_and_then (λ d. of_members (member_json ms) (put m.0.now d before))) (plain_read m.1 h.0) ∙ members_read ms (put m.0.now (scalar_data m.1) before) h.1
 
 -- a text of such tokens is read as these members
 pub flat_read : (text : List ℕ) (ms : List Member) → tokens text ≡ token.begin_object ∷ (member_tokens ms ++ token.end_object ∷ []) → AreSpelt ms → read text ≡ Some (flat_data ms)
@@ -78,9 +78,9 @@ flat_read text ms is h =
     ap (λ us. whole_of (json.value max_depth us)) all ∙ ap whole_of (value-json_tokens j max_depth [] shallow) ∙ ap (option_map object) (members_read ms no_members h)
 
 -- a member more
-pub tokens_more : (ms : List Member) (m : Member) (rest : List Token) → member_tokens ms ++ token.key m.0.now ∷ plain_token m.1 ∷ rest ≡ member_tokens (ms ++ m ∷ []) ++ rest
+pub tokens_more : (ms : List Member) (m : Member) (rest : List Token) → member_tokens ms ++ token.key m.0.now ∷ scalar_token m.1 ∷ rest ≡ member_tokens (ms ++ m ∷ []) ++ rest
 tokens_more [] m rest = refl
-tokens_more (x ∷ ms) m rest = ap (λ ts. token.key x.0.now ∷ plain_token x.1 ∷ ts) (tokens_more ms m rest)
+tokens_more (x ∷ ms) m rest = ap (λ ts. token.key x.0.now ∷ scalar_token x.1 ∷ ts) (tokens_more ms m rest)
 
 pub spelt_more : (ms : List Member) (m : Member) → AreSpelt ms → IsSpelt m.1 → AreSpelt (ms ++ m ∷ [])
 spelt_more [] m all h = (h, tt)
@@ -118,10 +118,10 @@ value_taken old new (Some x) t y h = y ∙ ap (λ o. unwrap_or o t ∷ new) h
 -- a key and a value are taken: a member more
 pub member_taken : (all : List Token) (ms : List Member) (m : Member) (before between after : List Token) (found : Option TokenRead) (now : List Member) →
     AreSpelt ms × (all ≡ member_tokens ms ++ before) → json.read_key before ≡ Some (Some m.0.now, between) → Yields between found after →
-    IsSpelt m.1 → option_map token_of found ≡ Some (plain_token m.1) → now ≡ ms ++ m ∷ [] → AreSpelt now × (all ≡ member_tokens now ++ after)
+    IsSpelt m.1 → option_map token_of found ≡ Some (scalar_token m.1) → now ≡ ms ++ m ∷ [] → AreSpelt now × (all ≡ member_tokens now ++ after)
 member_taken all ms m before between after found now inv k y spelt same n =
     let first = key_taken before between m.0.now k in
-    let second = value_taken between after found (plain_token m.1) y same in
+    let second = value_taken between after found (scalar_token m.1) y same in
     let ts = inv.1 ∙ ap (λ ts. member_tokens ms ++ ts) (first ∙ ap (λ ts. token.key m.0.now ∷ ts) second) ∙ tokens_more ms m after in
     (subst AreSpelt (sym n) (spelt_more ms m inv.0 spelt), ts ∙ ap (λ xs. member_tokens xs ++ after) (sym n))
 
@@ -134,13 +134,13 @@ or_or (Some x) b c = refl
 last_more : (name : List ℕ) (ms : List Member) (m : Member) → last_under name (ms ++ m ∷ []) ≡ option_or (under name m) (last_under name ms)
 last_more name [] m = none_behind (under name m)
   where
-    none_behind : (o : Option Plain) → option_or None o ≡ option_or o None
+    none_behind : (o : Option Scalar) → option_or None o ≡ option_or o None
     none_behind None = refl
     none_behind (Some x) = refl
 last_more name (x ∷ ms) m = ap (λ o. option_or o (under name x)) (last_more name ms m) ∙ or_or (under name m) (last_under name ms) (under name x)
 
 -- at the member that comes next, the last one under the name is this or the one before
-pub last_so_far : (name : List ℕ) (ms : List Member) (i : ℕ) (m d : Member) (before now : Option Plain) → i < length ms → m ≡ get_or ms i d → before ≡ last_under name (take i ms) →
+pub last_so_far : (name : List ℕ) (ms : List Member) (i : ℕ) (m d : Member) (before now : Option Scalar) → i < length ms → m ≡ get_or ms i d → before ≡ last_under name (take i ms) →
     now ≡ option_or (under name m) before → now ≡ last_under name (take (i + 1) ms)
 last_so_far name ms i m d before now lt is b n =
     n ∙ ap (option_or (under name m)) b ∙ sym (last_more name (take i ms) m) ∙ ap (λ y. last_under name (take i ms ++ y ∷ [])) is ∙ ap (last_under name) (sym (take_more ms i d lt))
@@ -156,26 +156,26 @@ found_later f (Some x) before = refl
 apart : (k name : List ℕ) → bytes_eq k name ≡ false → name ≡ k → ⊥
 apart k name other same = true≢false (sym ((bytes_eq-Decides k name).1 (sym same)) ∙ other)
 
-put_member : (name : List ℕ) (m : Member) (before : Members) (last : Option Plain) (b : Bool) → bytes_eq m.0.now name ≡ b →
-    option_or (option_map plain_data last) (get_member name (put m.0.now (plain_data m.1) before)) ≡ option_or (option_map plain_data (option_or last (cond b (Some m.1) None))) (get_member name before)
+put_member : (name : List ℕ) (m : Member) (before : Members) (last : Option Scalar) (b : Bool) → bytes_eq m.0.now name ≡ b →
+    option_or (option_map scalar_data last) (get_member name (put m.0.now (scalar_data m.1) before)) ≡ option_or (option_map scalar_data (option_or last (cond b (Some m.1) None))) (get_member name before)
 put_member name m before last true e =
     let same = (bytes_eq-Decides m.0.now name).0 e in
-    ap (λ k. option_or (option_map plain_data last) (get_member k (put m.0.now (plain_data m.1) before))) (sym same) ∙
-    ap (option_or (option_map plain_data last)) (get_member-put m.0.now (plain_data m.1) before) ∙
-    found_first plain_data last m.1 (get_member name before) (plain_data m.1) refl
+    ap (λ k. option_or (option_map scalar_data last) (get_member k (put m.0.now (scalar_data m.1) before))) (sym same) ∙
+    ap (option_or (option_map scalar_data last)) (get_member-put m.0.now (scalar_data m.1) before) ∙
+    found_first scalar_data last m.1 (get_member name before) (scalar_data m.1) refl
 put_member name m before last false e =
-    ap (option_or (option_map plain_data last)) (get_member-put_other name m.0.now (plain_data m.1) before (apart m.0.now name e)) ∙
-    found_later plain_data last (get_member name before)
+    ap (option_or (option_map scalar_data last)) (get_member-put_other name m.0.now (scalar_data m.1) before (apart m.0.now name e)) ∙
+    found_later scalar_data last (get_member name before)
 
-get_in : (name : List ℕ) (ms : List Member) (before : Members) → get_member name (put_all ms before) ≡ option_or (option_map plain_data (last_under name ms)) (get_member name before)
+get_in : (name : List ℕ) (ms : List Member) (before : Members) → get_member name (put_all ms before) ≡ option_or (option_map scalar_data (last_under name ms)) (get_member name before)
 get_in name [] before = refl
 get_in name (m ∷ ms) before =
-    get_in name ms (put m.0.now (plain_data m.1) before) ∙ put_member name m before (last_under name ms) (bytes_eq m.0.now name) refl
+    get_in name ms (put m.0.now (scalar_data m.1) before) ∙ put_member name m before (last_under name ms) (bytes_eq m.0.now name) refl
 
 or_none : {A : Type 0} (o : Option A) → option_or o None ≡ o
 or_none None = refl
 or_none (Some x) = refl
 
 -- what is found under a name
-pub flat_get : (name : List ℕ) (ms : List Member) → option_map plain_data (last_under name ms) ≡ get_member name (put_all ms no_members)
-flat_get name ms = sym (get_in name ms no_members ∙ or_none (option_map plain_data (last_under name ms)))
+pub flat_get : (name : List ℕ) (ms : List Member) → option_map scalar_data (last_under name ms) ≡ get_member name (put_all ms no_members)
+flat_get name ms = sym (get_in name ms no_members ∙ or_none (option_map scalar_data (last_under name ms)))

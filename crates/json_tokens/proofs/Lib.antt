@@ -1,4 +1,4 @@
-pub mod PlainLemmas
+pub mod ScalarLemmas
 pub mod TextLemmas
 pub mod ReadLemmas
 pub mod NumberLemmas

@@ -2,4 +2,4 @@ pub mod Texts
 pub mod SmallNumbers
 pub mod Writing
 pub mod Flat
-pub mod FoundIn
+pub mod JsonValues

@@ -6,7 +6,7 @@ ghost use Rattle.json.specs.Reads.{token_of};
 ghost use Rattle.serde_json.specs.Read.{number_of, read as read_text};
 ghost use Rattle.serde_json.specs.Data.{unsigned};
 ghost use Rattle.serde_json.specs.Find.{get};
-ghost use Rattle.json_tokens.specs.Flat.{AreSpelt, IsSpelt, flat_data, last_under, member_tokens, plain_data, plain_token, under};
+ghost use Rattle.json_tokens.specs.Flat.{AreSpelt, IsSpelt, flat_data, last_under, member_tokens, scalar_data, scalar_token, under};
 
 use fast_float::Numeral;
 use json::{Reader, Scratch, Token};
@@ -17,7 +17,7 @@ const MANY: usize = 12;
 
 /// A text, or a whole number with its digits.
 #[derive(Clone, Copy, Debug)]
-pub enum Plain<'a> {
+pub enum Scalar<'a> {
     Text(&'a str),
     Whole { digits: &'a str, number: u64 },
 }
@@ -25,7 +25,7 @@ pub enum Plain<'a> {
 /// An object of texts and whole numbers, as `serde_json` reads it.
 #[derive(Debug, Drop)]
 pub struct FlatRecord<'a> {
-    members: Vec<(&'a str, Plain<'a>)>,
+    members: Vec<(&'a str, Scalar<'a>)>,
 }
 
 impl<'a> FlatRecord<'a> {
@@ -50,8 +50,8 @@ impl<'a> FlatRecord<'a> {
     }
 
     /// The last value under a name.
-    pub fn get(&self, name: &str) -> Option<Plain<'a>>
-        ensures { option_map plain_data result ≡ get name.now (flat_data self.now.members.items) }
+    pub fn get(&self, name: &str) -> Option<Scalar<'a>>
+        ensures { option_map scalar_data result ≡ get name.now (flat_data self.now.members.items) }
     {
         last_of(self.members.as_slice(), name)
     }
@@ -60,7 +60,7 @@ impl<'a> FlatRecord<'a> {
 // Takes all that is to come, and says whether these are members, and the end of the object and of the text.
 fn take_members<'a>(
     reader: &mut Reader<'a>,
-    members: &mut Vec<(&'a str, Plain<'a>)>,
+    members: &mut Vec<(&'a str, Scalar<'a>)>,
 ) -> Result<bool, AllocError>
     requires none { members.old.items ≡ [] }
     ensures spelt { IfOk result (λ whole. whole ≡ true → AreSpelt members.new.items) }
@@ -80,15 +80,15 @@ fn take_members<'a>(
 }
 
 // The text or the whole number of a token.
-fn value_of(token: Option<Token<'_>>) -> Option<Plain<'_>>
+fn value_of(token: Option<Token<'_>>) -> Option<Scalar<'_>>
     ensures spelt { IfSome result IsSpelt }
-    ensures same { IfSome result (λ p. option_map token_of token.entry ≡ Some (plain_token p)) }
+    ensures same { IfSome result (λ p. option_map token_of token.entry ≡ Some (scalar_token p)) }
 {
     match token? {
-        Token::String(text) => Some(Plain::Text(text)),
+        Token::String(text) => Some(Scalar::Text(text)),
         Token::Number(digits) => {
             let number = whole(digits)?;
-            Some(Plain::Whole { digits, number })
+            Some(Scalar::Whole { digits, number })
         }
         _ => None,
     }
@@ -106,7 +106,7 @@ fn whole(digits: &str) -> Option<u64>
 }
 
 // The last value under a name.
-fn last_of<'a>(members: &[(&'a str, Plain<'a>)], name: &str) -> Option<Plain<'a>>
+fn last_of<'a>(members: &[(&'a str, Scalar<'a>)], name: &str) -> Option<Scalar<'a>>
     ensures { result ≡ last_under name.now members.now }
 {
     let mut found = None;
@@ -118,10 +118,10 @@ fn last_of<'a>(members: &[(&'a str, Plain<'a>)], name: &str) -> Option<Plain<'a>
 
 // The value of the member, if it stands under the name, else the one that was found.
 fn later<'a>(
-    found: Option<Plain<'a>>,
-    member: &(&'a str, Plain<'a>),
+    found: Option<Scalar<'a>>,
+    member: &(&'a str, Scalar<'a>),
     name: &str,
-) -> Option<Plain<'a>>
+) -> Option<Scalar<'a>>
     ensures { result ≡ option_or (under name.now member.now) found.entry }
 {
     if member.0 == name {

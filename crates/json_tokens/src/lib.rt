@@ -5,7 +5,7 @@
 //!   that was written (`specs/SmallNumbers.antt`).
 //! - [`FlatRecord`] reads an object of texts and whole numbers token by token, without a tree. It is proved to be the data
 //!   that `serde_json` reads of the text (`specs/Flat.antt`).
-//! - [`Found`] is what is found in a line: a text, a number, such a record, or any tree of `serde_json`. Contracts see its
+//! - [`JsonValue`] is what is found in a line: a text, a number, such a record, or any tree of `serde_json`. Contracts see its
 //!   data, so that what reads fields is written once.
 //!
 //! The writer takes memory for its buffer, and the reader for the members of a record. Where it is refused, what a buffer
@@ -14,9 +14,9 @@
 
 mod buffer;
 mod flat;
-mod found;
+mod json_value;
 mod writer;
 
-pub use flat::{FlatRecord, Plain};
-pub use found::Found;
+pub use flat::{FlatRecord, Scalar};
+pub use json_value::JsonValue;
 pub use writer::Writer;

@@ -3,7 +3,7 @@ use Rattle.std.proofs.Common.{◌≡◌, ◌≤◌, Bool, true, false, cond, Lis
 use Rattle.std.specs.Map.{lookup}
 use Rattle.taf_codes.specs.Equality.{texts}
 use Rattle.taf_codes.specs.declared.code.Railway.{Railway}
-use Rattle.outbox.specs.Kept.{BoxState, kept_for, kept_in, room_for, room_in, has_box}
+use Rattle.outbox.specs.OutboxStates.{BoxState, outbox_state_of, outbox_state_in, room_for, room_in, has_box}
 
 -- equal railways have the same box
 pub same_box : (boxes : List (Railway × BoxState)) (railway also : Railway) → bytes_eq railway also ≡ true → lookup (bytes_eq also) boxes ≡ lookup (bytes_eq railway) boxes
@@ -14,11 +14,11 @@ abbrev pub IsPutIn : List (Railway × BoxState) → Railway → BoxState → Lis
 IsPutIn old railway box new = (also : Railway) → lookup (bytes_eq also) new ≡ cond (bytes_eq railway also) (Some box) (lookup (bytes_eq also) old)
 
 -- where the box keeps what was kept, each railway has what it had
-pub kept_stays : (old new : List (Railway × BoxState)) (railway : Railway) (box : BoxState) → IsPutIn old railway box new → box.kept ≡ kept_for old railway → (also : Railway) → kept_for new also ≡ kept_for old also
-kept_stays old new railway box put kept also = ap kept_in (put also) ∙ by (bytes_eq railway also) refl
+pub kept_stays : (old new : List (Railway × BoxState)) (railway : Railway) (box : BoxState) → IsPutIn old railway box new → box.kept ≡ outbox_state_of old railway → (also : Railway) → outbox_state_of new also ≡ outbox_state_of old also
+kept_stays old new railway box put kept also = ap outbox_state_in (put also) ∙ by (bytes_eq railway also) refl
   where
-    by : (same : Bool) → bytes_eq railway also ≡ same → kept_in (cond same (Some box) (lookup (bytes_eq also) old)) ≡ kept_for old also
-    by true e = kept ∙ ap kept_in (sym (same_box old railway also e))
+    by : (same : Bool) → bytes_eq railway also ≡ same → outbox_state_in (cond same (Some box) (lookup (bytes_eq also) old)) ≡ outbox_state_of old also
+    by true e = kept ∙ ap outbox_state_in (sym (same_box old railway also e))
     by false e = refl
 
 -- no box is lost

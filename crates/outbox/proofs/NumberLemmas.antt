@@ -3,7 +3,7 @@ use Rattle.std.proofs.Common.{◌≡◌, ℕ, ◌+◌, ◌≤◌, List, [], ◌�
 use Rattle.std.proofs.lemmas.List.{append-nil, append_assoc, take_all, take-append-le}
 use Rattle.taf_messages.specs.declared.item.Item.{Item}
 use Rattle.taf_messages.specs.declared.item.ItemBody.{ItemBody}
-use Rattle.outbox.specs.Kept.{Kept, numbered_after, first_items}
+use Rattle.outbox.specs.OutboxStates.{OutboxState, numbered_after, first_items}
 use Rattle.outbox.specs.Keeping.{Keeps}
 use Rattle.outbox.specs.Numbering.{fetched}
 
@@ -41,7 +41,7 @@ drop-numbered n zero (b ∷ bodies) = let e : n ≡ n + 0 = omega arith in λ i.
 drop-numbered n (suc k) (b ∷ bodies) = let e : n + 1 + k ≡ n + suc k = omega arith in drop-numbered (n + 1) k bodies ∙ (λ i. numbered_after (e i) (drop k bodies))
 
 -- a fetch of what is kept
-pub first_items-kept : (kept : Kept) (bodies : List ItemBody) (n limit : ℕ) → Keeps kept bodies n → first_items kept limit ≡ fetched bodies n limit
+pub first_items-kept : (kept : OutboxState) (bodies : List ItemBody) (n limit : ℕ) → Keeps kept bodies n → first_items kept limit ≡ fetched bodies n limit
 first_items-kept kept bodies n limit keeps =
     let e : n ≡ 0 + n = omega arith in
     (λ i. numbered_after (keeps.number i) (take limit (keeps.rest i)))

@@ -1,35 +1,35 @@
 -- What is kept, beside all that a railway was ever told.
 use Rattle.std.specs.Prelude.{◌≡◌, ℕ, ◌≤◌, nat_lt, List, [], ◌++◌, length, drop, max}
 use Rattle.taf_messages.specs.declared.item.ItemBody.{ItemBody}
-use Rattle.outbox.specs.Kept.{Kept, nothing, last_of, pushed, acknowledged_to, first_items}
+use Rattle.outbox.specs.OutboxStates.{OutboxState, new_box, last_of, with_items, acknowledged_up_to, first_items}
 use Rattle.outbox.specs.Numbering.{fetched, is_ahead}
 
 -- of these bodies, oldest first, those after the acknowledged number are kept
-pub record Keeps (kept : Kept) (bodies : List ItemBody) (acknowledged : ℕ) : Type 0 where
+pub record Keeps (kept : OutboxState) (bodies : List ItemBody) (acknowledged : ℕ) : Type 0 where
   pub number : kept.acknowledged ≡ acknowledged
   pub told : acknowledged ≤ length bodies
   pub rest : kept.bodies ≡ drop acknowledged bodies
 
 -- the box of a railway that was told nothing
 abbrev pub StartsEmpty : Type 0
-StartsEmpty = Keeps nothing [] 0
+StartsEmpty = Keeps new_box [] 0
 
 -- the last number counts all bodies
 abbrev pub LastCounts : Type 0
-LastCounts = (kept : Kept) (bodies : List ItemBody) (n : ℕ) → Keeps kept bodies n → last_of kept ≡ length bodies
+LastCounts = (kept : OutboxState) (bodies : List ItemBody) (n : ℕ) → Keeps kept bodies n → last_of kept ≡ length bodies
 
 -- a fetch gives the first items after the acknowledged one
 abbrev pub FetchesFirst : Type 0
-FetchesFirst = (kept : Kept) (bodies : List ItemBody) (n limit : ℕ) → Keeps kept bodies n → first_items kept limit ≡ fetched bodies n limit
+FetchesFirst = (kept : OutboxState) (bodies : List ItemBody) (n limit : ℕ) → Keeps kept bodies n → first_items kept limit ≡ fetched bodies n limit
 
 -- a push adds at the end
 abbrev pub PushesLast : Type 0
-PushesLast = (kept : Kept) (bodies more : List ItemBody) (n : ℕ) → Keeps kept bodies n → Keeps (pushed kept more) (bodies ++ more) n
+PushesLast = (kept : OutboxState) (bodies more : List ItemBody) (n : ℕ) → Keeps kept bodies n → Keeps (with_items kept more) (bodies ++ more) n
 
 -- a number past the last is ahead
 abbrev pub TellsAhead : Type 0
-TellsAhead = (kept : Kept) (bodies : List ItemBody) (n number : ℕ) → Keeps kept bodies n → nat_lt (last_of kept) number ≡ is_ahead bodies number
+TellsAhead = (kept : OutboxState) (bodies : List ItemBody) (n number : ℕ) → Keeps kept bodies n → nat_lt (last_of kept) number ≡ is_ahead bodies number
 
 -- an acknowledgement that is not ahead moves the number on, never back
 abbrev pub Acknowledges : Type 0
-Acknowledges = (kept : Kept) (bodies : List ItemBody) (n number : ℕ) → Keeps kept bodies n → number ≤ length bodies → Keeps (acknowledged_to kept number) bodies (max n number)
+Acknowledges = (kept : OutboxState) (bodies : List ItemBody) (n number : ℕ) → Keeps kept bodies n → number ≤ length bodies → Keeps (acknowledged_up_to kept number) bodies (max n number)

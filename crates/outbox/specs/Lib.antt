@@ -1,3 +1,3 @@
 pub mod Keeping
-pub mod Kept
+pub mod OutboxStates
 pub mod Numbering

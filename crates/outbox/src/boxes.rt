@@ -1,7 +1,7 @@
 //! The table of the boxes.
 ghost use Rattle.std.specs.Prelude.{◌≡◌, ◌+◌, ◌<◌, ◌≤◌, ◌^◌, [], ◌∷◌, true, max, if◌then◌else◌, bytes_eq, OnOk, OnErr};
 ghost use Rattle.taf_codes.specs.declared.code.Railway.{Railway};
-ghost use Rattle.outbox.specs.Kept.{kept_for, has_box, room_for, last_of, pushed, acknowledged_to};
+ghost use Rattle.outbox.specs.OutboxStates.{outbox_state_of, has_box, room_for, last_of, with_items, acknowledged_up_to};
 
 use crate::outbox::Outbox;
 use indexmap::IndexMap;
@@ -13,12 +13,12 @@ pub type Boxes = IndexMap<Railway, Outbox>;
 /// Makes room for so many items in the box of a railway, and the box where there is none.
 #[tactic(auto, using(crate::proofs::KeyLemmas::same_box))]
 pub fn make_room(boxes: &mut Boxes, railway: Railway, count: usize) -> Result<(), Memory>
-    ensures kept { (also : Railway) → kept_for boxes.new.entries also ≡ kept_for boxes.old.entries also }
+    ensures kept { (also : Railway) → outbox_state_of boxes.new.entries also ≡ outbox_state_of boxes.old.entries also }
     ensures stay_open { (also : Railway) → has_box boxes.old.entries also ≡ true → has_box boxes.new.entries also ≡ true }
     ensures stay_roomy { (also : Railway) → room_for boxes.old.entries also ≤ room_for boxes.new.entries also }
     ensures open { OnOk result (has_box boxes.new.entries railway ≡ true) }
     ensures room { OnOk result (count ≤ room_for boxes.new.entries railway) }
-    ensures few { OnOk result (last_of (kept_for boxes.new.entries railway) < 2 ^ 62) }
+    ensures few { OnOk result (last_of (outbox_state_of boxes.new.entries railway) < 2 ^ 62) }
     ensures err { OnErr result ((also : Railway) → has_box boxes.new.entries also ≡ has_box boxes.old.entries also) }
 {
     if let Some(outbox) = boxes.get_mut(&railway) {
@@ -34,9 +34,9 @@ pub fn make_room(boxes: &mut Boxes, railway: Railway, count: usize) -> Result<()
 #[tactic(auto, using(crate::proofs::KeyLemmas::same_box))]
 pub fn put(boxes: &mut Boxes, railway: Railway, body: ItemBody) -> u64
     requires room { 0 < room_for boxes.old.entries railway }
-    requires few { last_of (kept_for boxes.old.entries railway) + 1 < 2 ^ 63 }
-    ensures number { result ≡ last_of (kept_for boxes.old.entries railway) + 1 }
-    ensures kept { (also : Railway) → kept_for boxes.new.entries also ≡ (if bytes_eq railway also then pushed (kept_for boxes.old.entries also) (body ∷ []) else kept_for boxes.old.entries also) }
+    requires few { last_of (outbox_state_of boxes.old.entries railway) + 1 < 2 ^ 63 }
+    ensures number { result ≡ last_of (outbox_state_of boxes.old.entries railway) + 1 }
+    ensures kept { (also : Railway) → outbox_state_of boxes.new.entries also ≡ (if bytes_eq railway also then with_items (outbox_state_of boxes.old.entries also) (body ∷ []) else outbox_state_of boxes.old.entries also) }
     ensures room { (also : Railway) → room_for boxes.new.entries also + (if bytes_eq railway also then 1 else 0) ≡ room_for boxes.old.entries also }
     ensures stay_open { (also : Railway) → has_box boxes.new.entries also ≡ has_box boxes.old.entries also }
 {
@@ -53,9 +53,9 @@ pub fn put(boxes: &mut Boxes, railway: Railway, body: ItemBody) -> u64
 /// Drops a railway's items up to a number that is not ahead, and gives the acknowledged number that now stands.
 #[tactic(auto, using(crate::proofs::KeyLemmas::same_box))]
 pub fn acknowledge(boxes: &mut Boxes, railway: Railway, number: u64) -> u64
-    requires { number ≤ last_of (kept_for boxes.old.entries railway) }
-    ensures stands { result ≡ max (kept_for boxes.old.entries railway).acknowledged number }
-    ensures kept { (also : Railway) → kept_for boxes.new.entries also ≡ (if bytes_eq railway also then acknowledged_to (kept_for boxes.old.entries also) number else kept_for boxes.old.entries also) }
+    requires { number ≤ last_of (outbox_state_of boxes.old.entries railway) }
+    ensures stands { result ≡ max (outbox_state_of boxes.old.entries railway).acknowledged number }
+    ensures kept { (also : Railway) → outbox_state_of boxes.new.entries also ≡ (if bytes_eq railway also then acknowledged_up_to (outbox_state_of boxes.old.entries also) number else outbox_state_of boxes.old.entries also) }
     ensures stay_open { (also : Railway) → has_box boxes.new.entries also ≡ has_box boxes.old.entries also }
 {
     match boxes.get_mut(&railway) {

@@ -7,9 +7,9 @@
 //!
 //! A box is a ring, in which items are added at the end and dropped at the front without memory while there is room.
 //!
-//! In contracts [`Outboxes`] is the list of its boxes. Of each, `kept_for` gives what is kept for the railway, the
+//! In contracts [`Outboxes`] is the list of its boxes. Of each, `outbox_state_of` gives what is kept for the railway, the
 //! acknowledged number and the bodies of the items after it, and `room_for` how many items more have room
-//! (`specs/Kept.antt`). [`boxes_keep_the_lists`] says that what is kept is all that one needs of the whole list of what a
+//! (`specs/OutboxStates.antt`). [`boxes_keep_the_lists`] says that what is kept is all that one needs of the whole list of what a
 //! railway was ever told (`specs/Keeping.antt`).
 //!
 //! What must not fail is done in two steps: [`Outboxes::make_room`] first, which may be refused memory, and

@@ -1,5 +1,5 @@
 ghost use Rattle.std.specs.Prelude.{◌≡◌, ◌+◌, ◌<◌, ◌≤◌, ◌^◌, [], ◌∷◌, length, take, drop, max, IfOk, OnOk};
-ghost use Rattle.outbox.specs.Kept.{last_of, nothing, pushed, acknowledged_to, first_items, numbered_after};
+ghost use Rattle.outbox.specs.OutboxStates.{last_of, new_box, with_items, acknowledged_up_to, first_items, numbered_after};
 
 use std::alloc::Global;
 use std::collections::VecDeque;
@@ -19,7 +19,7 @@ pub struct Outbox {
 impl Model for Outbox {
     ghost use Rattle.std.specs.Prelude.{◌+◌, ◌-◌, ◌≤◌, ◌^◌};
     ghost use Rattle.std.specs.VecDeque.{deque_capacity, deque_len};
-    ghost use Rattle.outbox.specs.Kept.{BoxState};
+    ghost use Rattle.outbox.specs.OutboxStates.{BoxState};
 
     ghost Value = { BoxState };
 
@@ -30,7 +30,7 @@ impl Model for Outbox {
 
 impl Outbox {
     pub fn new(alloc: Global) -> Outbox
-        ensures { result.kept ≡ nothing }
+        ensures { result.kept ≡ new_box }
     {
         Outbox {
             acknowledged: 0,
@@ -69,7 +69,7 @@ impl Outbox {
     pub fn put(&mut self, body: ItemBody)
         requires room { 0 < self.old.room }
         requires few { last_of self.old.kept + 1 < 2 ^ 63 }
-        ensures kept { self.new.kept ≡ pushed self.old.kept (body ∷ []) }
+        ensures kept { self.new.kept ≡ with_items self.old.kept (body ∷ []) }
         ensures room { self.new.room + 1 ≡ self.old.room }
     {
         self.bodies.push_back_reserved(body);
@@ -78,7 +78,7 @@ impl Outbox {
     /// Drops the items up to this number.
     pub fn acknowledge(&mut self, number: u64)
         requires { number ≤ last_of self.old.kept }
-        ensures { self.new.kept ≡ acknowledged_to self.old.kept number }
+        ensures { self.new.kept ≡ acknowledged_up_to self.old.kept number }
     {
         if number > self.acknowledged {
             drop_front(&mut self.bodies, number - self.acknowledged);

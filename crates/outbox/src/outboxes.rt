@@ -1,6 +1,6 @@
 ghost use Rattle.std.specs.Prelude.{◌≡◌, ◌+◌, ◌<◌, ◌≤◌, ◌^◌, ◌↔◌, [], ◌∷◌, true, max, if◌then◌else◌, bytes_eq, IfOk, IfErr, OnOk, OnErr, IsOk};
 ghost use Rattle.taf_codes.specs.declared.code.Railway.{Railway};
-ghost use Rattle.outbox.specs.Kept.{kept_for, has_box, room_for, last_of, pushed, acknowledged_to, first_items};
+ghost use Rattle.outbox.specs.OutboxStates.{outbox_state_of, has_box, room_for, last_of, with_items, acknowledged_up_to, first_items};
 
 use crate::boxes::{self, Boxes};
 use crate::fault::AckAhead;
@@ -20,7 +20,7 @@ pub struct Outboxes {
 impl Model for Outboxes {
     ghost use Rattle.std.specs.Prelude.{List};
     ghost use Rattle.taf_codes.specs.declared.code.Railway.{Railway};
-    ghost use Rattle.outbox.specs.Kept.{BoxState};
+    ghost use Rattle.outbox.specs.OutboxStates.{BoxState};
 
     ghost Value = { List (Railway × BoxState) };
 
@@ -39,7 +39,7 @@ impl Outboxes {
 
     /// The number of a railway's last item, 0 if it was told nothing.
     pub fn last(&self, railway: Railway) -> u64
-        ensures value { result ≡ last_of (kept_for self.now railway) }
+        ensures value { result ≡ last_of (outbox_state_of self.now railway) }
         ensures few { result ≤ 2 ^ 63 }
     {
         match self.boxes.get(&railway) {
@@ -50,7 +50,7 @@ impl Outboxes {
 
     /// The number that a railway acknowledged last, 0 if there is none.
     pub fn acknowledged(&self, railway: Railway) -> u64
-        ensures { result ≡ (kept_for self.now railway).acknowledged }
+        ensures { result ≡ (outbox_state_of self.now railway).acknowledged }
     {
         match self.boxes.get(&railway) {
             Some(outbox) => outbox.acknowledged(),
@@ -60,7 +60,7 @@ impl Outboxes {
 
     /// The first items after the acknowledged one, at most so many.
     pub fn fetch(&self, railway: Railway, limit: FetchLimit) -> Result<ItemList, Memory>
-        ensures { IfOk result (λ items. items ≡ first_items (kept_for self.now railway) limit) }
+        ensures { IfOk result (λ items. items ≡ first_items (outbox_state_of self.now railway) limit) }
     {
         let alloc = *self.boxes.allocator();
         match self.boxes.get(&railway) {
@@ -79,12 +79,12 @@ impl Outboxes {
     /// Makes room for so many items more in the box of a railway, and the box where there is none: what is kept for each
     /// railway stays. Where memory is refused, no box is made. Memory is answered also where the railway had 2^62 items.
     pub fn make_room(&mut self, railway: Railway, count: usize) -> Result<(), Memory>
-        ensures kept { (also : Railway) → kept_for self.new also ≡ kept_for self.old also }
+        ensures kept { (also : Railway) → outbox_state_of self.new also ≡ outbox_state_of self.old also }
         ensures stay_open { (also : Railway) → has_box self.old also ≡ true → has_box self.new also ≡ true }
         ensures stay_roomy { (also : Railway) → room_for self.old also ≤ room_for self.new also }
         ensures open { OnOk result (has_box self.new railway ≡ true) }
         ensures room { OnOk result (count ≤ room_for self.new railway) }
-        ensures few { OnOk result (last_of (kept_for self.new railway) < 2 ^ 62) }
+        ensures few { OnOk result (last_of (outbox_state_of self.new railway) < 2 ^ 62) }
         ensures err { OnErr result ((also : Railway) → has_box self.new also ≡ has_box self.old also) }
     {
         boxes::make_room(&mut self.boxes, railway, count)
@@ -93,9 +93,9 @@ impl Outboxes {
     /// Adds an item for a railway whose box has room for it, and gives its number: 1 for the first one. Takes no memory.
     pub fn put(&mut self, railway: Railway, body: ItemBody) -> u64
         requires room { 0 < room_for self.old railway }
-        requires few { last_of (kept_for self.old railway) + 1 < 2 ^ 63 }
-        ensures number { result ≡ last_of (kept_for self.old railway) + 1 }
-        ensures kept { (also : Railway) → kept_for self.new also ≡ (if bytes_eq railway also then pushed (kept_for self.old also) (body ∷ []) else kept_for self.old also) }
+        requires few { last_of (outbox_state_of self.old railway) + 1 < 2 ^ 63 }
+        ensures number { result ≡ last_of (outbox_state_of self.old railway) + 1 }
+        ensures kept { (also : Railway) → outbox_state_of self.new also ≡ (if bytes_eq railway also then with_items (outbox_state_of self.old also) (body ∷ []) else outbox_state_of self.old also) }
         ensures room { (also : Railway) → room_for self.new also + (if bytes_eq railway also then 1 else 0) ≡ room_for self.old also }
         ensures stay_open { (also : Railway) → has_box self.new also ≡ has_box self.old also }
     {
@@ -105,10 +105,10 @@ impl Outboxes {
     /// Makes room for an item and adds it, and gives its number: 1 for the first one. Where memory is refused, what is kept
     /// for each railway stays. Memory is answered also where the railway had 2^62 items.
     pub fn push(&mut self, railway: Railway, body: ItemBody) -> Result<u64, Memory>
-        requires { last_of (kept_for self.old railway) + 1 < 2 ^ 63 }
-        ensures number { IfOk result (λ number. number ≡ last_of (kept_for self.old railway) + 1) }
-        ensures kept { OnOk result ((also : Railway) → kept_for self.new also ≡ (if bytes_eq railway also then pushed (kept_for self.old also) (body ∷ []) else kept_for self.old also)) }
-        ensures err { OnErr result ((also : Railway) → kept_for self.new also ≡ kept_for self.old also) }
+        requires { last_of (outbox_state_of self.old railway) + 1 < 2 ^ 63 }
+        ensures number { IfOk result (λ number. number ≡ last_of (outbox_state_of self.old railway) + 1) }
+        ensures kept { OnOk result ((also : Railway) → outbox_state_of self.new also ≡ (if bytes_eq railway also then with_items (outbox_state_of self.old also) (body ∷ []) else outbox_state_of self.old also)) }
+        ensures err { OnErr result ((also : Railway) → outbox_state_of self.new also ≡ outbox_state_of self.old also) }
         ensures shut { OnErr result ((also : Railway) → has_box self.new also ≡ has_box self.old also) }
     {
         self.make_room(railway, 1)?;
@@ -118,11 +118,11 @@ impl Outboxes {
     /// Drops a railway's items up to this number, and gives the acknowledged number that now stands: a lower number changes
     /// nothing. Takes no memory.
     pub fn ack(&mut self, railway: Railway, number: u64) -> Result<u64, AckAhead>
-        ensures when { IsOk result ↔ (number ≤ last_of (kept_for self.old railway)) }
-        ensures stands { IfOk result (λ stands. stands ≡ max (kept_for self.old railway).acknowledged number) }
-        ensures kept { OnOk result ((also : Railway) → kept_for self.new also ≡ (if bytes_eq railway also then acknowledged_to (kept_for self.old also) number else kept_for self.old also)) }
+        ensures when { IsOk result ↔ (number ≤ last_of (outbox_state_of self.old railway)) }
+        ensures stands { IfOk result (λ stands. stands ≡ max (outbox_state_of self.old railway).acknowledged number) }
+        ensures kept { OnOk result ((also : Railway) → outbox_state_of self.new also ≡ (if bytes_eq railway also then acknowledged_up_to (outbox_state_of self.old also) number else outbox_state_of self.old also)) }
         ensures stay_open { (also : Railway) → has_box self.new also ≡ has_box self.old also }
-        ensures ahead { IfErr result (λ ahead. ahead.last ≡ last_of (kept_for self.old railway)) }
+        ensures ahead { IfErr result (λ ahead. ahead.last ≡ last_of (outbox_state_of self.old railway)) }
         ensures err { OnErr result (self.new ≡ self.old) }
     {
         let last = self.last(railway);

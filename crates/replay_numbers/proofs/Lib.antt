@@ -1,2 +1,2 @@
-pub mod Rows
-pub mod Sending
+pub mod SentRowLemmas
+pub mod SentLemmas

@@ -2,7 +2,7 @@
 ghost use Rattle.std.specs.Prelude.{◌≡◌, ℕ, true, Some, None, OnOk, IsOk, if◌then◌else◌};
 ghost use Rattle.taf_codes.specs.declared.code.Railway.{Railway};
 ghost use Rattle.replay_numbers.specs.Names.{same_name};
-ghost use Rattle.replay_numbers.specs.Notes.{position_of, has_room};
+ghost use Rattle.replay_numbers.specs.SentPositions.{position_of, has_room};
 
 use crate::sent::Sent;
 use indexmap::IndexMap;

@@ -1,7 +1,7 @@
 ghost use Rattle.std.specs.Prelude.{◌≡◌, ℕ, true, Some, None, OnOk, OnErr, IsOk, if◌then◌else◌};
 ghost use Rattle.taf_codes.specs.declared.code.Railway.{Railway};
 ghost use Rattle.replay_numbers.specs.Names.{same_name};
-ghost use Rattle.replay_numbers.specs.Notes.{position_of, has_room};
+ghost use Rattle.replay_numbers.specs.SentPositions.{position_of, has_room};
 
 use crate::railways::{self, Railways};
 use indexmap::IndexMap;
@@ -17,9 +17,9 @@ pub struct Seen {
 }
 
 impl Model for Seen {
-    ghost use Rattle.replay_numbers.specs.Notes.{Noted};
+    ghost use Rattle.replay_numbers.specs.SentPositions.{SentStates};
 
-    ghost Value = { Noted };
+    ghost Value = { SentStates };
 
     ghost view = { λ seen. seen.railways.entries };
 }

@@ -1,7 +1,7 @@
 //! What one railway sent.
 ghost use Rattle.std.specs.Prelude.{◌≡◌, ℕ, ◌==◌, ◌-◌, ◌<◌, ◌≤◌, true, Some, None, nat_le, nat_lt, ◌&&◌, ◌+◌, length, slice_get, OnOk, IsOk, if◌then◌else◌};
 ghost use Rattle.std.specs.Option.{option_flatten};
-ghost use Rattle.replay_numbers.specs.Notes.{in_row, position_in, has_place, has_room_in};
+ghost use Rattle.replay_numbers.specs.SentPositions.{in_row, position_in, has_place, has_room_in};
 
 use indexmap::IndexMap;
 use std::alloc::Global;
@@ -24,7 +24,7 @@ pub(crate) struct Sent {
 
 impl Model for Sent {
     ghost use Rattle.indexmap.specs.IndexMap.{spare};
-    ghost use Rattle.replay_numbers.specs.Notes.{SentState};
+    ghost use Rattle.replay_numbers.specs.SentPositions.{SentState};
 
     ghost Value = { SentState };
 

@@ -1,4 +1,4 @@
-pub mod PlainLemmas
+pub mod ScalarLemmas
 pub mod ShapeLemmas
 pub mod FieldLemmas
 pub mod MessageLemmas

@@ -16,8 +16,8 @@ use Rattle.taf_messages.specs.declared.message.Message.{Message}
 use Rattle.taf_messages.specs.declared.message.TrainAnswer.{TrainAnswer}
 use Rattle.taf_messages.specs.declared.message.Body.{Body}
 use Rattle.taf_messages.specs.declared.message.Body.TheVariants as body
-use Rattle.taf_messages.specs.declared.event.Happened.{Happened}
-use Rattle.taf_messages.specs.declared.event.Happened.TheVariants as happened
+use Rattle.taf_messages.specs.declared.event.RecordEventKind.{RecordEventKind}
+use Rattle.taf_messages.specs.declared.event.RecordEventKind.TheVariants as event_kind
 use Rattle.taf_messages.specs.declared.event.RecordEvent.{RecordEvent}
 use Rattle.taf_messages.specs.declared.record.Record.{Record}
 use Rattle.taf_messages.specs.declared.record.EstimateAt.{EstimateAt}
@@ -92,38 +92,38 @@ message_ordered n m = body_ordered n m.by m.no m.body
 
 -- ---- records
 
-event_at : (n : ℕ) (by : List ℕ) (number : ℕ) (at : Option ℕ) (what : Happened) → is_ordered (event_data (record { by = by; no = number; at = at; what = what })) (suc n) ≡ true
+event_at : (n : ℕ) (by : List ℕ) (number : ℕ) (at : Option ℕ) (what : RecordEventKind) → is_ordered (event_data (record { by = by; no = number; at = at; what = what })) (suc n) ≡ true
 unfolding event_fields
-event_at n by number None happened.Planned = refl
-event_at n by number (Some at) happened.Planned = refl
-event_at n by number None (happened.Moved Release) = refl
-event_at n by number (Some at) (happened.Moved Release) = refl
-event_at n by number None (happened.Moved Departure) = refl
-event_at n by number (Some at) (happened.Moved Departure) = refl
-event_at n by number None (happened.Moved (YardArrival place)) = refl
-event_at n by number (Some at) (happened.Moved (YardArrival place)) = refl
-event_at n by number None (happened.Moved (YardDeparture place)) = refl
-event_at n by number (Some at) (happened.Moved (YardDeparture place)) = refl
-event_at n by number None (happened.Moved (Exception delay)) = refl
-event_at n by number (Some at) (happened.Moved (Exception delay)) = refl
-event_at n by number None (happened.Moved Estimate) = refl
-event_at n by number (Some at) (happened.Moved Estimate) = refl
-event_at n by number None (happened.Moved Arrival) = refl
-event_at n by number (Some at) (happened.Moved Arrival) = refl
-event_at n by number None (happened.Moved Delivery) = refl
-event_at n by number (Some at) (happened.Moved Delivery) = refl
-event_at n by number None happened.EstimateAsked = refl
-event_at n by number (Some at) happened.EstimateAsked = refl
-event_at n by number None (happened.LegTimed leg minutes) = refl
-event_at n by number (Some at) (happened.LegTimed leg minutes) = refl
-event_at n by number None (happened.Offered place) = refl
-event_at n by number (Some at) (happened.Offered place) = refl
-event_at n by number None (happened.Answered received) = refl
-event_at n by number (Some at) (happened.Answered received) = refl
-event_at n by number None happened.Withdrawn = refl
-event_at n by number (Some at) happened.Withdrawn = refl
-event_at n by number None (happened.Rerouted leg) = refl
-event_at n by number (Some at) (happened.Rerouted leg) = refl
+event_at n by number None event_kind.Planned = refl
+event_at n by number (Some at) event_kind.Planned = refl
+event_at n by number None (event_kind.Moved Release) = refl
+event_at n by number (Some at) (event_kind.Moved Release) = refl
+event_at n by number None (event_kind.Moved Departure) = refl
+event_at n by number (Some at) (event_kind.Moved Departure) = refl
+event_at n by number None (event_kind.Moved (YardArrival place)) = refl
+event_at n by number (Some at) (event_kind.Moved (YardArrival place)) = refl
+event_at n by number None (event_kind.Moved (YardDeparture place)) = refl
+event_at n by number (Some at) (event_kind.Moved (YardDeparture place)) = refl
+event_at n by number None (event_kind.Moved (Exception delay)) = refl
+event_at n by number (Some at) (event_kind.Moved (Exception delay)) = refl
+event_at n by number None (event_kind.Moved Estimate) = refl
+event_at n by number (Some at) (event_kind.Moved Estimate) = refl
+event_at n by number None (event_kind.Moved Arrival) = refl
+event_at n by number (Some at) (event_kind.Moved Arrival) = refl
+event_at n by number None (event_kind.Moved Delivery) = refl
+event_at n by number (Some at) (event_kind.Moved Delivery) = refl
+event_at n by number None event_kind.EstimateAsked = refl
+event_at n by number (Some at) event_kind.EstimateAsked = refl
+event_at n by number None (event_kind.LegTimed leg minutes) = refl
+event_at n by number (Some at) (event_kind.LegTimed leg minutes) = refl
+event_at n by number None (event_kind.Offered place) = refl
+event_at n by number (Some at) (event_kind.Offered place) = refl
+event_at n by number None (event_kind.Answered received) = refl
+event_at n by number (Some at) (event_kind.Answered received) = refl
+event_at n by number None event_kind.Withdrawn = refl
+event_at n by number (Some at) event_kind.Withdrawn = refl
+event_at n by number None (event_kind.Rerouted leg) = refl
+event_at n by number (Some at) (event_kind.Rerouted leg) = refl
 
 event_ordered : (n : ℕ) (e : RecordEvent) → is_ordered (event_data e) (suc n) ≡ true
 event_ordered n e = event_at n e.by e.no e.at e.what

@@ -5,16 +5,16 @@ use Rattle.taf_messages.specs.declared.event.RecordEvent.{RecordEvent}
 use Rattle.taf_messages.specs.declared.record.EstimateAt.{EstimateAt}
 use Rattle.taf_messages.specs.declared.record.Record.{Record}
 use Rattle.taf_messages.specs.Names.{body_name}
-use Rattle.taf_messages.specs.Details.{stage_name, status_name, happened_name, happened_delay, happened_leg, happened_minutes, happened_place, happened_received}
+use Rattle.taf_messages.specs.Details.{stage_name, status_name, event_kind_name, event_kind_delay, event_kind_leg, event_kind_minutes, event_kind_place, event_kind_received}
 use Rattle.reply_writer.specs.Shapes.{at_text, wagon_text, load_text}
 use Rattle.json_tokens.specs.Texts.{Fields, field, field_if, fields, whole, text, or_null, list_of, listed}
 
 unfoldable pub event_fields : RecordEvent → Fields
 event_fields e =
-    field_if at_text (codes "at") e.at ++ field text (codes "by") e.by ++ field_if whole (codes "delay") (happened_delay e.what) ++
-    field text (codes "kind") (body_name (happened_name e.what)) ++ field_if whole (codes "leg") (happened_leg e.what) ++
-    field_if whole (codes "minutes") (happened_minutes e.what) ++ field whole (codes "no") e.no ++ field_if text (codes "place") (happened_place e.what) ++
-    field_if boolean (codes "received") (happened_received e.what)
+    field_if at_text (codes "at") e.at ++ field text (codes "by") e.by ++ field_if whole (codes "delay") (event_kind_delay e.what) ++
+    field text (codes "kind") (body_name (event_kind_name e.what)) ++ field_if whole (codes "leg") (event_kind_leg e.what) ++
+    field_if whole (codes "minutes") (event_kind_minutes e.what) ++ field whole (codes "no") e.no ++ field_if text (codes "place") (event_kind_place e.what) ++
+    field_if boolean (codes "received") (event_kind_received e.what)
 
 abbrev pub event_data : RecordEvent → Data
 event_data e = fields (event_fields e)

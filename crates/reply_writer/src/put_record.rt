@@ -9,13 +9,13 @@ use json_tokens::Writer;
 use std::alloc::AllocError;
 use taf_codes::Place;
 use taf_messages::{
-    BodyName, Delay, EstimateAt, Happened, LegIndex, LegMinutes, Record, RecordEvent, Stage, Status,
+    BodyName, Delay, EstimateAt, RecordEventKind, LegIndex, LegMinutes, Record, RecordEvent, Stage, Status,
 };
 
 impl Json for Stage {
     ghost shape = { λ stage. text (stage_name stage) };
 
-    #[tactic(auto, using(crate::proofs::PlainLemmas::stage_is_plain))]
+    #[tactic(auto, using(crate::proofs::ScalarLemmas::stage_is_plain))]
     fn put(&self, out: &mut Writer) -> Result<(), AllocError> {
         out.string(self.name())
     }
@@ -24,7 +24,7 @@ impl Json for Stage {
 impl Json for Status {
     ghost shape = { λ status. text (status_name status) };
 
-    #[tactic(auto, using(crate::proofs::PlainLemmas::status_is_plain))]
+    #[tactic(auto, using(crate::proofs::ScalarLemmas::status_is_plain))]
     fn put(&self, out: &mut Writer) -> Result<(), AllocError> {
         out.string(self.name())
     }

@@ -1,7 +1,7 @@
 //! Memory that is refused now and then.
 
 use crate::draws::Draws;
-use ballast::Ballast;
+use memory_limit::MemoryLimit;
 
 // Of so many bytes at most there is room while memory is scarce.
 const BUDGET: usize = 4096;
@@ -12,15 +12,15 @@ pub(crate) enum Scarcity<'b> {
     /// It never is.
     Never,
     /// It is one time of so many.
-    OnceIn(usize, &'b mut Ballast),
+    OnceIn(usize, &'b mut MemoryLimit),
 }
 
 impl Scarcity<'_> {
     /// Takes up memory now and then, and says whether it does.
     pub(crate) fn begin(&mut self, draws: &mut Draws) -> bool {
         match self {
-            Scarcity::OnceIn(times, ballast) if *times > 0 && draws.once_in(*times) => {
-                let _ = ballast.leave(draws.below(BUDGET));
+            Scarcity::OnceIn(times, memory_limit) if *times > 0 && draws.once_in(*times) => {
+                let _ = memory_limit.leave(draws.below(BUDGET));
                 true
             }
             _ => false,
@@ -29,8 +29,8 @@ impl Scarcity<'_> {
 
     /// Gives back what was taken up.
     pub(crate) fn end(&mut self) {
-        if let Scarcity::OnceIn(_, ballast) = self {
-            ballast.ease();
+        if let Scarcity::OnceIn(_, memory_limit) = self {
+            memory_limit.ease();
         }
     }
 }

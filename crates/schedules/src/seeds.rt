@@ -5,7 +5,7 @@ use crate::draws::Draws;
 use crate::fault::{ScheduleFault, SeedFault};
 use crate::scarcity::Scarcity;
 use crate::schedule::Schedule;
-use ballast::Ballast;
+use memory_limit::MemoryLimit;
 use std::alloc::Global;
 
 // Plays the schedule of a seed.
@@ -16,11 +16,11 @@ fn play(alloc: Global, draws: Draws, scarcity: Scarcity<'_>) -> Result<Counts, S
 }
 
 // Plays the schedule of a seed. Memory is scarce now and then in two schedules of three.
-fn play_seed(alloc: Global, ballast: &mut Ballast, seed: u64) -> Result<Counts, ScheduleFault> {
+fn play_seed(alloc: Global, memory_limit: &mut MemoryLimit, seed: u64) -> Result<Counts, ScheduleFault> {
     let mut draws = Draws::new(seed);
     let scarcity = match draws.below(3) {
         0 => Scarcity::Never,
-        times => Scarcity::OnceIn(10 * times, ballast),
+        times => Scarcity::OnceIn(10 * times, memory_limit),
     };
     play(alloc, draws, scarcity)
 }
@@ -33,13 +33,13 @@ pub fn play_seeds(alloc: Global, first: u64, count: u64) -> Result<Counts, SeedF
     if let Err(fault) = play(alloc, Draws::new(first), Scarcity::Never) {
         return Err(found(first, fault));
     }
-    let Ok(mut ballast) = Ballast::new(alloc) else {
+    let Ok(mut memory_limit) = MemoryLimit::new(alloc) else {
         return Err(found(first, ScheduleFault::Memory));
     };
     let mut counts = Counts::default();
     for place in 0..count {
         let seed = first.wrapping_add(place);
-        match play_seed(alloc, &mut ballast, seed) {
+        match play_seed(alloc, &mut memory_limit, seed) {
             Ok(more) => counts.add(more),
             Err(fault) => return Err(found(seed, fault)),
         }

@@ -5,7 +5,7 @@ ghost use Rattle.session_lines.specs.States.{new_state};
 use crate::ends::{Ends, Served};
 use crate::served::{Script, count_lines, example, is_whole};
 use crate::streams::FAR;
-use ballast::Ballast;
+use memory_limit::MemoryLimit;
 use session_serving::SessionFault;
 use std::alloc::Global;
 use std::test::Fail;
@@ -49,15 +49,15 @@ fn serve_again(alloc: Global, ends: Ends<'_>, script: &Script) -> Result<bool, F
 // Whether so many bytes are enough to serve the example.
 fn is_enough(
     alloc: Global,
-    ballast: &mut Ballast,
+    memory_limit: &mut MemoryLimit,
     script: &Script,
     left: usize,
 ) -> Result<bool, Fail> {
     let output = Vec::with_capacity(alloc, 4096)?;
     let mut ends = Ends::new(alloc, &script.input, output, FAR)?;
-    ballast.leave(left)?;
+    memory_limit.leave(left)?;
     let end = ends.serve(alloc);
-    ballast.ease();
+    memory_limit.ease();
     match end {
         Err(SessionFault::Memory) => serve_again(alloc, ends, script),
         _ => has_enough(&ends.ended(end), script),
@@ -65,9 +65,9 @@ fn is_enough(
 }
 
 // How many budgets aren't enough, each of sixteen bytes more than the one before.
-fn count_budgets(alloc: Global, ballast: &mut Ballast, script: &Script) -> Result<usize, Fail> {
+fn count_budgets(alloc: Global, memory_limit: &mut MemoryLimit, script: &Script) -> Result<usize, Fail> {
     for step in 0..100_000usize {
-        if is_enough(alloc, ballast, script, step * 16)? {
+        if is_enough(alloc, memory_limit, script, step * 16)? {
             return Ok(step);
         }
     }
@@ -88,8 +88,8 @@ fn serve_amply(alloc: Global, script: &Script) -> Result<(), Fail> {
 fn each_growth_is_refused_in_turn(rt: HostRuntime) -> Result<(), Fail> {
     let script = example(rt.alloc())?;
     serve_amply(rt.alloc(), &script)?;
-    let mut ballast = Ballast::new(rt.alloc())?;
-    let budgets = count_budgets(rt.alloc(), &mut ballast, &script)?;
+    let mut memory_limit = MemoryLimit::new(rt.alloc())?;
+    let budgets = count_budgets(rt.alloc(), &mut memory_limit, &script)?;
     assert!(rt; budgets > 8192, "{budgets}");
     Ok(())
 }

@@ -9,7 +9,7 @@ use Rattle.taf_messages.specs.declared.field.Field.TheVariants as fields
 use Rattle.taf_messages.specs.declared.fault.RecordFault.{RecordFault}
 use Rattle.taf_messages.specs.declared.call.Call.{Call}
 use Rattle.taf_messages.specs.declared.call.Call.TheVariants.{Send, Ask, AskUnit, Deviation, Fetch, Ack}
-use Rattle.call_reader.specs.Good as good
+use Rattle.call_reader.specs.Values as value_of
 use Rattle.call_reader.specs.Reading.{field_of}
 use Rattle.call_lines.specs.declared.parsed.ParsedLine.{ParsedLine}
 use Rattle.call_lines.specs.declared.parsed.ParsedLine.TheVariants as lines
@@ -57,7 +57,7 @@ hello_meaning (Err fault) = Wrong (fault_text fault)
 -- what is no hello has to wait for one
 abbrev pub first_record_meaning : Data → Meaning
 first_record_meaning d =
-    if is_hello d then hello_meaning (field_of good.railway fields.From d)
+    if is_hello d then hello_meaning (field_of value_of.railway fields.From d)
     else Wrong (line_fault_text NoHello)
 
 -- nor is what is no JSON a hello

@@ -2,7 +2,7 @@
 ghost use Rattle.std.specs.Prelude.{◌≡◌, ◌≢◌, IfOk, IfErr, option_map};
 ghost use Rattle.serde_json.specs.View.{view};
 ghost use Rattle.taf_messages.specs.declared.fault.RecordFault.TheVariants.{Memory as MemoryRefused};
-ghost use Rattle.call_reader.specs.Good as good;
+ghost use Rattle.call_reader.specs.Values as value_of;
 ghost use Rattle.call_reader.specs.Reading.{field_of};
 ghost use Rattle.call_lines.specs.Lines.{parsed};
 ghost use Rattle.session_lines.specs.Texts.{line_fault_text};
@@ -143,7 +143,7 @@ fn names_hello(value: &Value) -> bool
 
 // The railway of a hello.
 fn hello_railway(value: &Value) -> Result<Railway, RecordFault>
-    ensures railway { result ≡ field_of good.railway Field.From (view value.now) }
+    ensures railway { result ≡ field_of value_of.railway Field.From (view value.now) }
     ensures told { IfErr result (λ fault. fault ≢ MemoryRefused) }
 {
     let Some(field) = value.get(Field::From.name()) else {

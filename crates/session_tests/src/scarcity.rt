@@ -1,7 +1,7 @@
 //! Each growth of a session refused in turn.
 
 use crate::player::{HELLO, ID, add_line, replies_of};
-use ballast::Ballast;
+use memory_limit::MemoryLimit;
 use hub_core::Hub;
 use inbox::Job;
 use reply_writer::append_reply;
@@ -41,7 +41,7 @@ struct Scarce {
     alloc: Global,
     session: Box<Session>,
     hub: Box<Hub>,
-    ballast: Ballast,
+    memory_limit: MemoryLimit,
     left: usize,
     /// What it said to lines.
     said: Vec<u8>,
@@ -80,12 +80,12 @@ impl Scarce {
     fn new(alloc: Global) -> Result<Scarce, Fail> {
         let session = Box::new(alloc, Session::new(alloc, ID))?;
         let hub = Box::new(alloc, Hub::new(alloc))?;
-        let ballast = Ballast::new(alloc)?;
+        let memory_limit = MemoryLimit::new(alloc)?;
         Ok(Scarce {
             alloc,
             session,
             hub,
-            ballast,
+            memory_limit,
             left: 0,
             said: Vec::new(alloc),
             lines: 0,
@@ -98,9 +98,9 @@ impl Scarce {
         if self.session.busy() || self.session.job_count() > 1000 {
             return Err(Fail::new("busy"));
         }
-        self.ballast.leave(left)?;
+        self.memory_limit.leave(left)?;
         let step = self.session.on_line(line.as_bytes());
-        self.ballast.ease();
+        self.memory_limit.ease();
         Ok(step)
     }
 
@@ -123,9 +123,9 @@ impl Scarce {
         if !self.session.has_job_in_front() {
             return Err(Fail::new("no job"));
         }
-        self.ballast.leave(self.left)?;
+        self.memory_limit.leave(self.left)?;
         let line = self.session.on_done(done);
-        self.ballast.ease();
+        self.memory_limit.ease();
         Ok(line)
     }
 

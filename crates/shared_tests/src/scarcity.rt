@@ -4,7 +4,7 @@ ghost use Rattle.std.specs.Prelude.{◌≡◌};
 use crate::altered::with_reply;
 use crate::caller::Caller;
 use crate::lines::{INTERCHANGE, call_of, replies_of};
-use ballast::Ballast;
+use memory_limit::MemoryLimit;
 use hub_core::Hub;
 use hub_shared::{Seat, Settled, SharedHub, Tally, Told, settle};
 use std::alloc::Global;
@@ -17,7 +17,7 @@ use taf_messages::{Call, Reply, copy_call};
 // How much memory is left for each step, how many calls of this run were refused it, and how many other steps of all runs.
 #[derive(Drop)]
 struct Scarcity {
-    ballast: Ballast,
+    memory_limit: MemoryLimit,
     left: usize,
     calls: u64,
     notes: u64,
@@ -45,11 +45,11 @@ impl Scarcity {
     ) -> Option<(u64, Reply)>
         ensures { seat.new.parts ≡ seat.old.parts }
     {
-        if self.ballast.leave(self.left).is_err() {
+        if self.memory_limit.leave(self.left).is_err() {
             return None;
         }
         let answer = hub.submit(rt, seat, call);
-        self.ballast.ease();
+        self.memory_limit.ease();
         answer.ok()
     }
 
@@ -86,11 +86,11 @@ impl Scarcity {
         let Ok(again) = with_reply(&told, &told.reply) else {
             return;
         };
-        if self.ballast.leave(self.left).is_err() {
+        if self.memory_limit.leave(self.left).is_err() {
             return;
         }
         let noted = tally.note(told);
-        self.ballast.ease();
+        self.memory_limit.ease();
         if noted.is_err() {
             self.notes = self.notes.saturating_add(1);
             let _ = tally.note(again);
@@ -136,9 +136,9 @@ impl Scarcity {
 
     // Settles, again where memory is refused.
     fn settle(&mut self, alloc: Global, closed: &Closed) -> Result<Settled, Fail> {
-        self.ballast.leave(self.left)?;
+        self.memory_limit.leave(self.left)?;
         let settled = settle(alloc, &closed.hub, closed.tallies.as_slice());
-        self.ballast.ease();
+        self.memory_limit.ease();
         if let Ok(settled) = settled {
             return Ok(settled);
         }
@@ -198,7 +198,7 @@ impl Scarcity {
 fn each_growth_is_refused_in_turn(rt: HostRuntime) -> Result<(), Fail> {
     let alloc = rt.alloc();
     let mut scarcity = Scarcity {
-        ballast: Ballast::new(alloc)?,
+        memory_limit: MemoryLimit::new(alloc)?,
         left: 0,
         calls: 0,
         notes: 0,
@@ -214,11 +214,11 @@ fn each_growth_is_refused_in_turn(rt: HostRuntime) -> Result<(), Fail> {
 
 // Whether so many bytes are enough for room for sixteen entries. Fails unless the tally is as it was where they aren't, and has
 // room then with ample memory.
-fn is_enough_room(alloc: Global, ballast: &mut Ballast, left: usize) -> Result<bool, Fail> {
+fn is_enough_room(alloc: Global, memory_limit: &mut MemoryLimit, left: usize) -> Result<bool, Fail> {
     let mut tally = Tally::new(alloc);
-    ballast.leave(left)?;
+    memory_limit.leave(left)?;
     let is_made = tally.reserve(16).is_ok();
-    ballast.ease();
+    memory_limit.ease();
     if !tally.entries().is_empty() || tally.reserve(16).is_err() {
         return Err(Fail::new("another tally"));
     }
@@ -226,9 +226,9 @@ fn is_enough_room(alloc: Global, ballast: &mut Ballast, left: usize) -> Result<b
 }
 
 // How many budgets are not enough for it, each of sixteen bytes more than the one before.
-fn count_rooms(alloc: Global, ballast: &mut Ballast) -> Result<usize, Fail> {
+fn count_rooms(alloc: Global, memory_limit: &mut MemoryLimit) -> Result<usize, Fail> {
     for step in 0..100_000usize {
-        if is_enough_room(alloc, ballast, step * 16)? {
+        if is_enough_room(alloc, memory_limit, step * 16)? {
             return Ok(step);
         }
     }
@@ -237,7 +237,7 @@ fn count_rooms(alloc: Global, ballast: &mut Ballast) -> Result<usize, Fail> {
 
 #[test]
 fn room_in_a_tally_is_refused_in_turn(rt: HostRuntime) -> Result<(), Fail> {
-    let mut ballast = Ballast::new(rt.alloc())?;
-    assert!(rt; count_rooms(rt.alloc(), &mut ballast)? > 16);
+    let mut memory_limit = MemoryLimit::new(rt.alloc())?;
+    assert!(rt; count_rooms(rt.alloc(), &mut memory_limit)? > 16);
     Ok(())
 }

@@ -3,7 +3,7 @@
 use crate::lines::{FIRST, said_lines, sent_lines};
 use crate::shifts::boxed;
 use crate::streams::{Script, Writer, Written};
-use ballast::Ballast;
+use memory_limit::MemoryLimit;
 use hub_shifts::{ShiftFault, run_shift};
 use hub_workers::{OpenGate, SessionEnd};
 use std::alloc::Global;
@@ -18,7 +18,7 @@ const STEP: usize = 64;
 fn refusal<R: Threads + Wait + Sync>(
     rt: &R,
     alloc: Global,
-    ballast: &mut Ballast,
+    memory_limit: &mut MemoryLimit,
     left: usize,
     lines: &[u8],
     written: &Written,
@@ -26,9 +26,9 @@ fn refusal<R: Threads + Wait + Sync>(
     let reader = Script::new(lines, false);
     let writer = Writer::new(rt, written, usize::MAX);
     let sessions = Vec::from_array(alloc, [(reader, writer)])?;
-    ballast.leave(left)?;
+    memory_limit.leave(left)?;
     let fault = run_shift(rt, alloc, &OpenGate, sessions, 1).err();
-    ballast.ease();
+    memory_limit.ease();
     Ok(fault)
 }
 
@@ -36,11 +36,11 @@ fn refusal<R: Threads + Wait + Sync>(
 fn count_refused<R: Threads + Wait + Sync>(rt: &R, alloc: Global) -> Result<u32, Fail> {
     let lines = sent_lines(alloc, FIRST)?;
     let written = Written::new(alloc);
-    let mut ballast = Ballast::new(alloc)?;
+    let mut memory_limit = MemoryLimit::new(alloc)?;
     let mut refused = 0u32;
     for step in 0..10_000usize {
         let left = step * STEP;
-        match refusal(rt, alloc, &mut ballast, left, lines.as_slice(), &written)? {
+        match refusal(rt, alloc, &mut memory_limit, left, lines.as_slice(), &written)? {
             Some(ShiftFault::Memory) if written.lines() == 0 => refused = refused.saturating_add(1),
             Some(ShiftFault::Thread) if written.lines() == 0 => return Ok(refused),
             _ => return Err(Fail::new("a line was said")),

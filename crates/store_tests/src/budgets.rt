@@ -1,5 +1,5 @@
 //! What a ballast leaves.
-use ballast::Ballast;
+use memory_limit::MemoryLimit;
 use std::alloc::Global;
 use std::test::Fail;
 
@@ -10,23 +10,23 @@ fn can_be_had(alloc: Global, bytes: usize) -> bool {
 }
 
 // Whether, where so many bytes are left, more is refused and half of them are given, and more is given afterwards.
-fn leaves(alloc: Global, ballast: &mut Ballast, budget: usize) -> Result<bool, Fail> {
+fn leaves(alloc: Global, memory_limit: &mut MemoryLimit, budget: usize) -> Result<bool, Fail> {
     let past = budget.saturating_add(8192);
-    ballast.leave(budget)?;
-    let is_held = ballast.small_blocks() > 0;
+    memory_limit.leave(budget)?;
+    let is_held = memory_limit.small_blocks() > 0;
     let is_refused = !can_be_had(alloc, past);
     let is_given = can_be_had(alloc, budget / 2);
-    ballast.ease();
+    memory_limit.ease();
     Ok(is_held && is_refused && is_given && can_be_had(alloc, past))
 }
 
 #[test]
 fn what_goes_past_the_budget_is_refused(rt: HostRuntime) -> Result<(), Fail> {
-    let mut ballast = Ballast::new(rt.alloc())?;
-    assert!(rt; ballast.large_blocks() > 0);
-    assert!(rt; ballast.small_blocks() == 0);
+    let mut memory_limit = MemoryLimit::new(rt.alloc())?;
+    assert!(rt; memory_limit.large_blocks() > 0);
+    assert!(rt; memory_limit.small_blocks() == 0);
     for budget in [0, 64, 1024, 65_536usize] {
-        if !leaves(rt.alloc(), &mut ballast, budget)? {
+        if !leaves(rt.alloc(), &mut memory_limit, budget)? {
             return Err(Fail::new(budget));
         }
     }

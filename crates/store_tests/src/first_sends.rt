@@ -1,6 +1,6 @@
 //! The first sends of messages, found under their senders and numbers.
 use crate::given::{number_of, railway};
-use ballast::Ballast;
+use memory_limit::MemoryLimit;
 use replay_numbers::Seen;
 use std::alloc::Global;
 use std::test::Fail;
@@ -85,17 +85,17 @@ fn numbers_with_gaps_are_found(rt: HostRuntime) -> Result<(), Fail> {
 
 // Notes the numbers up to 100 with so much memory at hand, and answers how many notes were refused. What was refused is
 // noted again with all memory.
-fn fill(seen: &mut Seen, ballast: &mut Ballast, budget: usize, by: Railway) -> Result<u32, Memory> {
+fn fill(seen: &mut Seen, memory_limit: &mut MemoryLimit, budget: usize, by: Railway) -> Result<u32, Memory> {
     let mut refused: u32 = 0;
-    ballast.leave(budget)?;
+    memory_limit.leave(budget)?;
     for position in 0..100u64 {
         if note_new(seen, by, position + 1, position).is_err() {
             refused = refused.saturating_add(1);
-            ballast.ease();
+            memory_limit.ease();
             note_new(seen, by, position + 1, position)?;
         }
     }
-    ballast.ease();
+    memory_limit.ease();
     Ok(refused)
 }
 
@@ -112,12 +112,12 @@ fn is_filled(seen: &Seen, by: Railway) -> Result<bool, Memory> {
 // Whether so many bytes are enough. Fails unless all numbers are noted in the end.
 fn is_enough(
     alloc: Global,
-    ballast: &mut Ballast,
+    memory_limit: &mut MemoryLimit,
     budget: usize,
     by: Railway,
 ) -> Result<bool, Fail> {
     let mut seen = nothing_seen(alloc)?;
-    let refused = fill(&mut seen, ballast, budget, by)?;
+    let refused = fill(&mut seen, memory_limit, budget, by)?;
     if is_filled(&seen, by)? {
         Ok(refused == 0)
     } else {
@@ -128,9 +128,9 @@ fn is_enough(
 #[test]
 fn each_growth_is_refused_in_turn(rt: HostRuntime) -> Result<(), Fail> {
     let by = Railway::read("R100")?;
-    let mut ballast = Ballast::new(rt.alloc())?;
+    let mut memory_limit = MemoryLimit::new(rt.alloc())?;
     for step in 0..4000usize {
-        if is_enough(rt.alloc(), &mut ballast, step * 16, by)? {
+        if is_enough(rt.alloc(), &mut memory_limit, step * 16, by)? {
             assert!(rt; step > 20);
             return Ok(());
         }

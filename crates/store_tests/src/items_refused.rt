@@ -1,7 +1,7 @@
 //! Items that hold memory of their own, pushed while each growth of memory is refused in turn.
 use crate::given::{limit, number_of};
 use crate::items::{no_items, push};
-use ballast::Ballast;
+use memory_limit::MemoryLimit;
 use outbox::Outboxes;
 use std::alloc::Global;
 use std::test::Fail;
@@ -46,7 +46,7 @@ fn push_notice(
 fn is_refused(
     alloc: Global,
     outboxes: &mut Outboxes,
-    ballast: &mut Ballast,
+    memory_limit: &mut MemoryLimit,
     railway: Railway,
     wagon: WagonNumber,
 ) -> Result<bool, Memory> {
@@ -55,7 +55,7 @@ fn is_refused(
     if pushed.is_ok() || outboxes.last(railway) != before {
         return Ok(false);
     }
-    ballast.ease();
+    memory_limit.ease();
     push_notice(alloc, outboxes, railway, wagon)?;
     Ok(true)
 }
@@ -65,13 +65,13 @@ fn is_refused(
 fn fill(
     alloc: Global,
     outboxes: &mut Outboxes,
-    ballast: &mut Ballast,
+    memory_limit: &mut MemoryLimit,
     railways: [Railway; 2],
     wagon: WagonNumber,
 ) -> Result<u32, Memory> {
     let mut refused: u32 = 0;
     for number in 0..80usize {
-        if is_refused(alloc, outboxes, ballast, railways[number % 2], wagon)? {
+        if is_refused(alloc, outboxes, memory_limit, railways[number % 2], wagon)? {
             refused = refused.saturating_add(1);
         }
     }
@@ -103,15 +103,15 @@ fn is_filled(
 // Whether so many bytes are enough. Fails unless both railways have all items in the end.
 fn is_enough(
     alloc: Global,
-    ballast: &mut Ballast,
+    memory_limit: &mut MemoryLimit,
     budget: usize,
     railways: [Railway; 2],
     wagon: WagonNumber,
 ) -> Result<bool, Fail> {
     let mut outboxes = no_items(alloc)?;
-    ballast.leave(budget)?;
-    let refused = fill(alloc, &mut outboxes, ballast, railways, wagon)?;
-    ballast.ease();
+    memory_limit.leave(budget)?;
+    let refused = fill(alloc, &mut outboxes, memory_limit, railways, wagon)?;
+    memory_limit.ease();
     let is_first = is_filled(alloc, &outboxes, railways[0], wagon)?;
     if is_first && is_filled(alloc, &outboxes, railways[1], wagon)? {
         Ok(refused == 0)
@@ -124,9 +124,9 @@ fn is_enough(
 fn each_growth_is_refused_in_turn(rt: HostRuntime) -> Result<(), Fail> {
     let railways = [Railway::read("R100")?, Railway::read("I300")?];
     let wagon = WagonNumber::read("218124712173")?;
-    let mut ballast = Ballast::new(rt.alloc())?;
+    let mut memory_limit = MemoryLimit::new(rt.alloc())?;
     for step in 0..4000usize {
-        if is_enough(rt.alloc(), &mut ballast, step * 64, railways, wagon)? {
+        if is_enough(rt.alloc(), &mut memory_limit, step * 64, railways, wagon)? {
             assert!(rt; step > 20);
             return Ok(());
         }

@@ -1,4 +1,4 @@
-//! Tests of the stores: the crates `history_pages`, `replay_numbers`, `outbox` and `interchange`, and of the `ballast` that
+//! Tests of the stores: the crates `history_pages`, `replay_numbers`, `outbox` and `interchange`, and of the `memory_limit` that
 //! takes up memory. There is nothing else here.
 //!
 //! What is kept is found again under its number or name. Each growth of memory is refused in turn: what was kept before

@@ -1,6 +1,6 @@
 //! Offers of wagons at interchange, and the answers to them.
 use crate::given::{number_of, railway};
-use ballast::Ballast;
+use memory_limit::MemoryLimit;
 use interchange::{Offer, Offers};
 use std::alloc::Global;
 use std::test::Fail;
@@ -140,19 +140,19 @@ fn answers_name_each_wagon_once(rt: HostRuntime) -> Result<(), Fail> {
 fn fill(
     alloc: Global,
     offers: &mut Offers,
-    ballast: &mut Ballast,
+    memory_limit: &mut MemoryLimit,
     budget: usize,
 ) -> Result<u32, Memory> {
     let mut refused: u32 = 0;
-    ballast.leave(budget)?;
+    memory_limit.leave(budget)?;
     for number in 1..41u64 {
         if open_new(alloc, offers, number).is_err() {
             refused = refused.saturating_add(1);
-            ballast.ease();
+            memory_limit.ease();
             open_new(alloc, offers, number)?;
         }
     }
-    ballast.ease();
+    memory_limit.ease();
     Ok(refused)
 }
 
@@ -171,12 +171,12 @@ fn is_filled(offers: &Offers, by: Railway) -> Result<bool, Memory> {
 // Whether so many bytes are enough. Fails unless all offers are made in the end.
 fn is_enough(
     alloc: Global,
-    ballast: &mut Ballast,
+    memory_limit: &mut MemoryLimit,
     budget: usize,
     by: Railway,
 ) -> Result<bool, Fail> {
     let mut offers = no_offers(alloc)?;
-    let refused = fill(alloc, &mut offers, ballast, budget)?;
+    let refused = fill(alloc, &mut offers, memory_limit, budget)?;
     if is_filled(&offers, by)? {
         Ok(refused == 0)
     } else {
@@ -187,9 +187,9 @@ fn is_enough(
 #[test]
 fn each_growth_is_refused_in_turn(rt: HostRuntime) -> Result<(), Fail> {
     let by = railway("R101")?;
-    let mut ballast = Ballast::new(rt.alloc())?;
+    let mut memory_limit = MemoryLimit::new(rt.alloc())?;
     for step in 0..4000usize {
-        if is_enough(rt.alloc(), &mut ballast, step * 32, by)? {
+        if is_enough(rt.alloc(), &mut memory_limit, step * 32, by)? {
             assert!(rt; step > 20);
             return Ok(());
         }

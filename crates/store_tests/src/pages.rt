@@ -1,5 +1,5 @@
 //! Pages of a history.
-use ballast::Ballast;
+use memory_limit::MemoryLimit;
 use history_pages::Pages;
 use std::alloc::{AllocError, Global};
 use std::test::Fail;
@@ -53,14 +53,14 @@ fn room_is_made_beforehand(rt: HostRuntime) -> Result<(), Fail> {
 }
 
 // Pushes a number, again with all memory where it is handed back. Tells whether it was.
-fn is_handed_back(pages: &mut Pages<u64>, ballast: &mut Ballast, number: u64) -> bool {
+fn is_handed_back(pages: &mut Pages<u64>, memory_limit: &mut MemoryLimit, number: u64) -> bool {
     if pages.len() >= 2049 {
         return false;
     }
     let Err(back) = pages.push(number) else {
         return false;
     };
-    ballast.ease();
+    memory_limit.ease();
     if pages.len() < 2049 {
         let _ = pages.push(back);
     }
@@ -68,15 +68,15 @@ fn is_handed_back(pages: &mut Pages<u64>, ballast: &mut Ballast, number: u64) ->
 }
 
 // Pushes the numbers up to 2,048 with so much memory at hand, and answers how many pushes were refused.
-fn fill(pages: &mut Pages<u64>, ballast: &mut Ballast, budget: usize) -> Result<u32, AllocError> {
+fn fill(pages: &mut Pages<u64>, memory_limit: &mut MemoryLimit, budget: usize) -> Result<u32, AllocError> {
     let mut refused: u32 = 0;
-    ballast.leave(budget)?;
+    memory_limit.leave(budget)?;
     for number in 0..2049u64 {
-        if is_handed_back(pages, ballast, number) {
+        if is_handed_back(pages, memory_limit, number) {
             refused = refused.saturating_add(1);
         }
     }
-    ballast.ease();
+    memory_limit.ease();
     Ok(refused)
 }
 
@@ -91,9 +91,9 @@ fn is_filled(pages: &Pages<u64>) -> bool {
 }
 
 // Whether so many bytes are enough. Fails unless all numbers are there in the end.
-fn is_enough(alloc: Global, ballast: &mut Ballast, budget: usize) -> Result<bool, Fail> {
+fn is_enough(alloc: Global, memory_limit: &mut MemoryLimit, budget: usize) -> Result<bool, Fail> {
     let mut pages = Pages::new(alloc);
-    let refused = fill(&mut pages, ballast, budget)?;
+    let refused = fill(&mut pages, memory_limit, budget)?;
     if is_filled(&pages) {
         Ok(refused == 0)
     } else {
@@ -103,9 +103,9 @@ fn is_enough(alloc: Global, ballast: &mut Ballast, budget: usize) -> Result<bool
 
 #[test]
 fn each_growth_is_refused_in_turn(rt: HostRuntime) -> Result<(), Fail> {
-    let mut ballast = Ballast::new(rt.alloc())?;
+    let mut memory_limit = MemoryLimit::new(rt.alloc())?;
     for step in 0..4000usize {
-        if is_enough(rt.alloc(), &mut ballast, step * 64)? {
+        if is_enough(rt.alloc(), &mut memory_limit, step * 64)? {
             assert!(rt; step > 300);
             return Ok(());
         }

@@ -5,4 +5,4 @@ pub mod Standard
 pub mod UnitDigits
 pub mod Words
 pub mod Equality
-mod Rows
+mod Examples

@@ -1,3 +1,3 @@
 pub mod CloneLemmas
 pub mod SameLemmas
-pub mod SameReplies
+pub mod SameReplyLemmas

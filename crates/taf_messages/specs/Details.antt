@@ -7,8 +7,8 @@ use Rattle.taf_messages.specs.declared.kind.MovementName.{MovementName}
 use Rattle.taf_messages.specs.declared.kind.MovementName.TheVariants as movements
 use Rattle.taf_messages.specs.declared.kind.BodyName.{BodyName}
 use Rattle.taf_messages.specs.declared.kind.BodyName.TheVariants as names
-use Rattle.taf_messages.specs.declared.event.Happened.{Happened}
-use Rattle.taf_messages.specs.declared.event.Happened.TheVariants.{Planned, Moved, EstimateAsked, LegTimed, Offered, Answered, Withdrawn, Rerouted}
+use Rattle.taf_messages.specs.declared.event.RecordEventKind.{RecordEventKind}
+use Rattle.taf_messages.specs.declared.event.RecordEventKind.TheVariants.{Planned, Moved, EstimateAsked, LegTimed, Offered, Answered, Withdrawn, Rerouted}
 use Rattle.taf_messages.specs.declared.record.Stage.{Stage}
 use Rattle.taf_messages.specs.declared.record.Stage.TheVariants as stages
 use Rattle.taf_messages.specs.declared.record.Status.{Status}
@@ -75,35 +75,35 @@ delay_in (Exception delay) = Some delay
 delay_in _ = None
 
 -- the name of an event's kind is that of its message's
-abbrev pub happened_name : Happened → BodyName
-happened_name Planned = names.Plan
-happened_name (Moved what) = names.Movement (name_of what)
-happened_name EstimateAsked = names.EtiAsk
-happened_name (LegTimed leg minutes) = names.LegTime
-happened_name (Offered place) = names.Offer
-happened_name (Answered received) = names.Answer
-happened_name Withdrawn = names.Withdraw
-happened_name (Rerouted leg) = names.Reroute
+abbrev pub event_kind_name : RecordEventKind → BodyName
+event_kind_name Planned = names.Plan
+event_kind_name (Moved what) = names.Movement (name_of what)
+event_kind_name EstimateAsked = names.EtiAsk
+event_kind_name (LegTimed leg minutes) = names.LegTime
+event_kind_name (Offered place) = names.Offer
+event_kind_name (Answered received) = names.Answer
+event_kind_name Withdrawn = names.Withdraw
+event_kind_name (Rerouted leg) = names.Reroute
 
 -- what an event shows beside its kind, sender, number and moment
-abbrev pub happened_delay : Happened → Option ℕ
-happened_delay (Moved what) = delay_in what
-happened_delay _ = None
+abbrev pub event_kind_delay : RecordEventKind → Option ℕ
+event_kind_delay (Moved what) = delay_in what
+event_kind_delay _ = None
 
-abbrev pub happened_leg : Happened → Option ℕ
-happened_leg (LegTimed leg minutes) = Some leg
-happened_leg (Rerouted leg) = Some leg
-happened_leg _ = None
+abbrev pub event_kind_leg : RecordEventKind → Option ℕ
+event_kind_leg (LegTimed leg minutes) = Some leg
+event_kind_leg (Rerouted leg) = Some leg
+event_kind_leg _ = None
 
-abbrev pub happened_minutes : Happened → Option ℕ
-happened_minutes (LegTimed leg minutes) = Some minutes
-happened_minutes _ = None
+abbrev pub event_kind_minutes : RecordEventKind → Option ℕ
+event_kind_minutes (LegTimed leg minutes) = Some minutes
+event_kind_minutes _ = None
 
-abbrev pub happened_place : Happened → Option Place
-happened_place (Moved what) = place_in what
-happened_place (Offered place) = Some place
-happened_place _ = None
+abbrev pub event_kind_place : RecordEventKind → Option Place
+event_kind_place (Moved what) = place_in what
+event_kind_place (Offered place) = Some place
+event_kind_place _ = None
 
-abbrev pub happened_received : Happened → Option Bool
-happened_received (Answered received) = Some received
-happened_received _ = None
+abbrev pub event_kind_received : RecordEventKind → Option Bool
+event_kind_received (Answered received) = Some received
+event_kind_received _ = None

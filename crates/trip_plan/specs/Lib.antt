@@ -3,4 +3,4 @@ pub mod Trip
 pub mod Making
 pub mod Content
 pub mod SameContent
-mod Rows
+mod Examples

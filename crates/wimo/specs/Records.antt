@@ -8,8 +8,8 @@ use Rattle.trip_plan.specs.declared.parts.Load.{Load}
 use Rattle.trip_plan.specs.declared.parts.UnitLoad.{UnitLoad}
 use Rattle.trip_plan.specs.declared.parts.Load.TheVariants.{Loaded, Empty}
 use Rattle.trip_plan.specs.Trip.{Trip}
-use Rattle.taf_messages.specs.declared.event.Happened.{Happened}
-use Rattle.taf_messages.specs.declared.event.Happened.TheVariants as shown_as
+use Rattle.taf_messages.specs.declared.event.RecordEventKind.{RecordEventKind}
+use Rattle.taf_messages.specs.declared.event.RecordEventKind.TheVariants as shown_as
 use Rattle.taf_messages.specs.declared.event.RecordEvent.{RecordEvent}
 use Rattle.taf_messages.specs.declared.record.Stage.{Stage}
 use Rattle.taf_messages.specs.declared.record.Stage.TheVariants as stage_is
@@ -21,7 +21,7 @@ use Rattle.journey.specs.declared.event.EventBody.{EventBody}
 use Rattle.journey.specs.declared.event.EventBody.TheVariants.{Planned, Moved, EstimateAsked, LegTimed, Offered, Answered, Withdrawn, Rerouted}
 use Rattle.journey.specs.Stages.{stage, leg_index, responsible, plan}
 use Rattle.journey.specs.Legs.{legs, place, index_after}
-use Rattle.journey.specs.Situations.{situation}
+use Rattle.journey.specs.JourneyStates.{journey_state}
 use Rattle.journey.specs.Checks.{is_lead}
 use Rattle.eti_chain.specs.Estimates.{estimates, eta, is_late}
 
@@ -38,7 +38,7 @@ status stage_is.Delivered load = by_load load status_is.Unloading status_is.Flee
 status _ load = by_load load status_is.LoadedOnJourney status_is.EmptyOnJourney
 
 -- what is shown of an event that comes on leg c
-abbrev pub shown : ℕ → EventBody → Happened
+abbrev pub shown : ℕ → EventBody → RecordEventKind
 shown c (Planned p) = shown_as.Planned
 shown c (Moved what) = shown_as.Moved what
 shown c EstimateAsked = shown_as.EstimateAsked
@@ -96,4 +96,4 @@ record_of w events = option_and_then (λ p. option_map (record_in w events p) (s
 
 -- the lead and the railways of the legs
 abbrev pub may_see : List Event → Railway → Bool
-may_see events by = is_lead (situation events) by || list_any (λ l. bytes_eq l.ru by) (legs events)
+may_see events by = is_lead (journey_state events) by || list_any (λ l. bytes_eq l.ru by) (legs events)

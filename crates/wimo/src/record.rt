@@ -2,8 +2,8 @@ ghost use Rattle.std.specs.Prelude.{◌≡◌, ◌<◌, ◌≤◌, ◌+◌, ◌^
 ghost use Rattle.std.specs.List.{list_any};
 ghost use Rattle.journey.specs.Checks.{is_lead};
 ghost use Rattle.journey.specs.Legs.{HasRoom, HaveRoom, index_after};
-ghost use Rattle.journey.specs.Situations.{situation};
-ghost use Rattle.eti_chain.specs.Chains.{chain};
+ghost use Rattle.journey.specs.JourneyStates.{journey_state};
+ghost use Rattle.eti_chain.specs.EstimateStates.{estimates_state};
 ghost use Rattle.eti_chain.specs.Estimates as of;
 ghost use Rattle.wimo.specs.Records as records;
 
@@ -13,7 +13,7 @@ use std::alloc::{AllocError, Global};
 use std::collections::LinkedList;
 use taf_codes::{Memory, Railway};
 use taf_messages::{
-    EstimateAt, EstimateList, Happened, LegIndex, Listed, Record, RecordEvent, RecordEvents, Stage,
+    EstimateAt, EstimateList, RecordEventKind, LegIndex, Listed, Record, RecordEvent, RecordEvents, Stage,
     Status, Units,
 };
 use trip_plan::{Leg, Load, UnitLoad};
@@ -34,7 +34,7 @@ pub fn record_with(
     track: &Track,
     estimates: &Estimates<'_>,
 ) -> Result<Record, Memory>
-    requires { estimates.now ≡ chain track.now.events }
+    requires { estimates.now ≡ estimates_state track.now.events }
     ensures { IfOk result (λ r. records.record_of track.now.wagon track.now.events ≡ Some r) }
 {
     let plan = track.plan();
@@ -66,9 +66,9 @@ pub fn may_see(track: &Track, by: Railway) -> bool
 }
 
 fn is_lead(track: &Track, by: Railway) -> bool
-    ensures { result ≡ is_lead (situation track.now.events) by }
+    ensures { result ≡ is_lead (journey_state track.now.events) by }
 {
-    track.situation().lead == Some(by)
+    track.journey_state().lead == Some(by)
 }
 
 fn runs_a_leg(legs: &[Leg], by: Railway) -> bool
@@ -112,7 +112,7 @@ fn estimates_of(
     track: &Track,
     estimates: &Estimates<'_>,
 ) -> Result<EstimateList, AllocError>
-    requires { estimates.now ≡ chain track.now.events }
+    requires { estimates.now ≡ estimates_state track.now.events }
     ensures { IfOk result (λ l. l ≡ of.estimates track.now.events) }
 {
     let mut shown = Vec::new(alloc);
@@ -190,7 +190,7 @@ fn leg_after(current: usize, body: &EventBody) -> usize
 }
 
 // An event of which this is shown.
-fn recorded(event: &Event, what: Happened) -> RecordEvent
+fn recorded(event: &Event, what: RecordEventKind) -> RecordEvent
     ensures { result ≡ record { by = event.now.by; no = event.now.no; at = event.now.at; what = what } }
 {
     RecordEvent {
@@ -201,26 +201,26 @@ fn recorded(event: &Event, what: Happened) -> RecordEvent
     }
 }
 
-fn shown_as(current: usize, body: &EventBody) -> Happened
+fn shown_as(current: usize, body: &EventBody) -> RecordEventKind
     requires { HasRoom current body.now }
     ensures { result ≡ records.shown current body.now }
 {
     match body {
-        EventBody::Planned(_) => Happened::Planned,
-        EventBody::Moved(what) => Happened::Moved(*what),
-        EventBody::EstimateAsked => Happened::EstimateAsked,
-        EventBody::LegTimed { leg, minutes } => Happened::LegTimed {
+        EventBody::Planned(_) => RecordEventKind::Planned,
+        EventBody::Moved(what) => RecordEventKind::Moved(*what),
+        EventBody::EstimateAsked => RecordEventKind::EstimateAsked,
+        EventBody::LegTimed { leg, minutes } => RecordEventKind::LegTimed {
             leg: *leg,
             minutes: *minutes,
         },
-        EventBody::Offered { place, to: _ } => Happened::Offered { place: *place },
-        EventBody::Answered { place: _, received } => Happened::Answered {
+        EventBody::Offered { place, to: _ } => RecordEventKind::Offered { place: *place },
+        EventBody::Answered { place: _, received } => RecordEventKind::Answered {
             received: *received,
         },
-        EventBody::Withdrawn { place: _ } => Happened::Withdrawn,
+        EventBody::Withdrawn { place: _ } => RecordEventKind::Withdrawn,
         EventBody::Rerouted(route) => {
             let _legs = route.legs();
-            Happened::Rerouted {
+            RecordEventKind::Rerouted {
                 leg: leg_number(current + 1),
             }
         }

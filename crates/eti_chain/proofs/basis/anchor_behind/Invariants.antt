@@ -1,6 +1,6 @@
 use Rattle.std.proofs.Common.{◌≡◌, ◌+◌, ◌*◌, ◌≤◌, length}
 use Rattle.std.specs.Prelude.{fold}
-use Rattle.eti_chain.specs.Chains as of
+use Rattle.eti_chain.specs.EstimateStates as of
 use Rattle.eti_chain.proofs.basis.anchor_behind.Given as goal
 
 abbrev pub invariant-loop-event : goal.invariant-loop-event

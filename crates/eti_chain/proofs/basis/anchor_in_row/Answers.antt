@@ -1,8 +1,8 @@
 use Rattle.std.proofs.Common.{◌≡◌, ◌+◌, ◌<◌, ◌++◌, ◌∷◌, [], length, ap, sym, ◌∙◌, take, arith}
 use Rattle.std.proofs.lemmas.List.{take_more}
 use Rattle.journey.specs.declared.event.Event.{Event}
-use Rattle.eti_chain.specs.Chains.{anchor, anchor_after}
-use Rattle.eti_chain.proofs.Chaining.{anchor_pushed}
+use Rattle.eti_chain.specs.EstimateStates.{anchor, anchor_after}
+use Rattle.eti_chain.proofs.EstimateStateLemmas.{anchor_pushed}
 use Rattle.eti_chain.proofs.basis.anchor_in_row.Goals as goal
 
 pub loop-event-preserved : goal.loop-event-preserved

@@ -6,8 +6,8 @@ use Rattle.trip_plan.specs.Rules.{has}
 use Rattle.taf_messages.specs.declared.reply.Why.{Why}
 use Rattle.hub_model.specs.declared.fault.Fault.{Fault}
 use Rattle.hub_model.specs.Faults as of
-use Rattle.hub_tables.specs.Tabled.{known}
-use Rattle.hub_tables.proofs.Going.{has_at}
+use Rattle.hub_tables.specs.TableStates.{table_state}
+use Rattle.hub_tables.proofs.NextEventLemmas.{has_at}
 use Rattle.hub_checks.proofs.judging.first_fault.Goals as goal
 
 pub wagon_fault-requires-clause-is_named : goal.wagon_fault-requires-clause-is_named
@@ -18,7 +18,7 @@ wagon_fault-requires-clause-is_named c =
 
 pub returns-in-Some : goal.returns-in-Some
 returns-in-Some c =
-    let first = of.first_fault (known c.args.tables.now) c.args.message.now in
+    let first = of.first_fault (table_state c.args.tables.now) c.args.message.now in
     let wagons = c.args.wagons.now in
     let i = c.loop-wagon.wagon-index in
     let w = c.wagon-item.result in
@@ -28,7 +28,7 @@ returns-in-Some c =
 
 pub loop-wagon-preserved : goal.loop-wagon-preserved
 loop-wagon-preserved c =
-    let first = of.first_fault (known c.args.tables.now) c.args.message.now in
+    let first = of.first_fault (table_state c.args.tables.now) c.args.message.now in
     let wagons = c.args.wagons.now in
     let i = c.loop-wagon.wagon-index in
     let w = c.wagon-item.result in
@@ -37,4 +37,4 @@ loop-wagon-preserved c =
     c.loop-wagon.invariant ∙ at_drop_more first wagons i w c.loop-wagon-test.true ∙ ap (λ v. first (v ∷ rest)) (sym c.wagon-item.is) ∙ ap found (sym c.in_ok-why.ensures ∙ c.in_default.is)
 
 pub returns : goal.returns
-returns c = sym (c.loop-wagon.invariant ∙ at_drop_all (of.first_fault (known c.args.tables.now) c.args.message.now) c.args.wagons.now c.loop-wagon.wagon-index c.loop-wagon-test.false)
+returns c = sym (c.loop-wagon.invariant ∙ at_drop_all (of.first_fault (table_state c.args.tables.now) c.args.message.now) c.args.wagons.now c.loop-wagon.wagon-index c.loop-wagon-test.false)

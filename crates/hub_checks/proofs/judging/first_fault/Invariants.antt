@@ -1,8 +1,8 @@
 use Rattle.std.proofs.Common.{◌≡◌, drop}
 use Rattle.hub_model.specs.Faults as of
-use Rattle.hub_tables.specs.Tabled.{known}
+use Rattle.hub_tables.specs.TableStates.{table_state}
 use Rattle.hub_checks.proofs.judging.first_fault.Given as goal
 
 -- the first fault of the wagons that are left is that of all
 abbrev pub invariant-loop-wagon : goal.invariant-loop-wagon
-invariant-loop-wagon l = of.first_fault (known l.tables) l.message l.wagons ≡ of.first_fault (known l.tables) l.message (drop l.wagon-index l.wagons)
+invariant-loop-wagon l = of.first_fault (table_state l.tables) l.message l.wagons ≡ of.first_fault (table_state l.tables) l.message (drop l.wagon-index l.wagons)

@@ -1,10 +1,10 @@
 use Rattle.std.proofs.Common.{◌∙◌, sym}
-use Rattle.hub_tables.specs.Tabled.{known}
-use Rattle.hub_checks.proofs.Loads.{past_one}
+use Rattle.hub_tables.specs.TableStates.{table_state}
+use Rattle.hub_checks.proofs.UnitLoadLemmas.{past_one}
 use Rattle.hub_checks.proofs.units.unit_fault.Goals as goal
 
 pub loop-load-preserved : goal.loop-load-preserved
 loop-load-preserved c =
     c.loop-load.invariant ∙
-    past_one (known c.args.tables.now) c.args.units.now c.loop-load.load-index c.load-item.result c.loop-load-test.true c.load-item.is
+    past_one (table_state c.args.tables.now) c.args.units.now c.loop-load.load-index c.load-item.result c.loop-load-test.true c.load-item.is
     (sym c.is_unit_busy.ensures ∙ c.if-is_unit_busy.false)

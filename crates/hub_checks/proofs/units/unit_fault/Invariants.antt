@@ -1,8 +1,8 @@
 use Rattle.std.proofs.Common.{◌≡◌, drop}
 use Rattle.hub_model.specs.Faults.{unit_fault}
-use Rattle.hub_tables.specs.Tabled.{known}
+use Rattle.hub_tables.specs.TableStates.{table_state}
 use Rattle.hub_checks.proofs.units.unit_fault.Given as goal
 
 -- the first busy unit of those that are left is that of all
 abbrev pub invariant-loop-load : goal.invariant-loop-load
-invariant-loop-load l = unit_fault (known l.tables) l.units ≡ unit_fault (known l.tables) (drop l.load-index l.units)
+invariant-loop-load l = unit_fault (table_state l.tables) l.units ≡ unit_fault (table_state l.tables) (drop l.load-index l.units)

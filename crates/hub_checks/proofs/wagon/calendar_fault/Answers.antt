@@ -1,15 +1,15 @@
 use Rattle.std.proofs.Common.{◌∙◌, ap, sym}
 use Rattle.journey.specs.Journey.{Journey}
-use Rattle.hub_tables.specs.Tabled.{known}
-use Rattle.hub_checks.proofs.GoingOn.{calendar_by}
+use Rattle.hub_tables.specs.TableStates.{table_state}
+use Rattle.hub_checks.proofs.ContinuationLemmas.{calendar_by}
 use Rattle.hub_checks.proofs.wagon.calendar_fault.Goals as goal
 
 pub returns-in-Some : goal.returns-in-Some
 returns-in-Some c =
-    sym (calendar_by (known c.args.tables.now) c.args.message.now c.args.wagon _ _ _ c.requires.is_named c.requires.admitted
+    sym (calendar_by (table_state c.args.tables.now) c.args.message.now c.args.wagon _ _ _ c.requires.is_named c.requires.admitted
     (sym (ap (λ (j : Journey). j.events) c.in-Some.ensures.found)) (sym c.in_ok-event.ensures) (sym c.is_beyond.ensures ∙ c.if-is_beyond.true))
 
 pub returns-in-Some-2 : goal.returns-in-Some-2
 returns-in-Some-2 c =
-    sym (calendar_by (known c.args.tables.now) c.args.message.now c.args.wagon _ _ _ c.requires.is_named c.requires.admitted
+    sym (calendar_by (table_state c.args.tables.now) c.args.message.now c.args.wagon _ _ _ c.requires.is_named c.requires.admitted
     (sym (ap (λ (j : Journey). j.events) c.in-Some.ensures.found)) (sym c.in_ok-event.ensures) (sym c.is_beyond.ensures ∙ c.if-is_beyond.false))

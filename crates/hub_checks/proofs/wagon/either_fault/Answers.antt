@@ -1,11 +1,11 @@
 use Rattle.std.proofs.Common.{◌∙◌, ap, sym}
 use Rattle.journey.specs.Journey.{Journey}
-use Rattle.hub_tables.specs.Tabled.{known}
-use Rattle.hub_checks.proofs.GoingOn.{either_by}
+use Rattle.hub_tables.specs.TableStates.{table_state}
+use Rattle.hub_checks.proofs.ContinuationLemmas.{either_by}
 use Rattle.hub_checks.proofs.wagon.either_fault.Goals as goal
 
 pub returns-in_ok-event-in-Some : goal.returns-in_ok-event-in-Some
 returns-in_ok-event-in-Some c =
-    c.share_fault.ensures ∙
-    sym (either_by (known c.args.tables.now) c.args.message.now c.args.wagon _ _ c.requires.is_named c.in-Some.ensures.known
+    c.event_fault.ensures ∙
+    sym (either_by (table_state c.args.tables.now) c.args.message.now c.args.wagon _ _ c.requires.is_named c.in-Some.ensures.known
     (sym (ap (λ (j : Journey). j.events) c.in-Some.ensures.found)) (sym c.in_ok-event-in-Some.ensures))

@@ -1,11 +1,11 @@
 use Rattle.std.proofs.Common.{◌≡◌, ℕ, ◌+◌, ◌^◌, length, List, [], ◌∷◌, ◌++◌, ap, ◌∙◌, sym, subst, arith}
 use Rattle.std.specs.Prelude.{bytes_eq, if◌then◌else◌}
 use Rattle.std.proofs.lemmas.List.{length-append}
-use Rattle.outbox.specs.Kept.{kept_for, pushed}
-use Rattle.hub_model.specs.declared.addressed.Addressed.{Addressed}
+use Rattle.outbox.specs.OutboxStates.{outbox_state_of, with_items}
+use Rattle.hub_model.specs.declared.addressed_item.AddressedItem.{AddressedItem}
 use Rattle.hub_model.specs.Items.{items_to}
 use Rattle.hub_core.specs.Delivery.{AreReady}
-use Rattle.hub_core.proofs.DeliverySteps.{ready_after, items_more, kept_with_one}
+use Rattle.hub_core.proofs.DeliveryLemmas.{ready_after, items_more, kept_with_one}
 use Rattle.hub_core.proofs.delivery.deliver.Goals as goal
 
 pub loop-item-preserved : goal.loop-item-preserved
@@ -16,13 +16,13 @@ loop-item-preserved c =
     let others = c.next.new.self.rest.items in
     let n = length others in
     let rest : c.loop-item.item-iterator.rest.items ≡ i ∷ others = c.in-Some.ensures.steps.0 in
-    let ready : AreReady c.loop-item.outboxes k (length (i ∷ others)) (i ∷ others) = subst (λ (qs : List Addressed). AreReady c.loop-item.outboxes k (length qs) qs) rest c.loop-item.invariant.1 in
+    let ready : AreReady c.loop-item.outboxes k (length (i ∷ others)) (i ∷ others) = subst (λ (qs : List AddressedItem). AreReady c.loop-item.outboxes k (length qs) qs) rest c.loop-item.invariant.1 in
     let one_more : length (i ∷ others) ≡ n + 1 = omega arith in
     let grown : k + 1 ≡ 2 ^ 62 + length (c.loop-item.yielded ++ i ∷ []) = rw (length-append c.loop-item.yielded (i ∷ [])) (omega arith) in (
       (λ r. c.put-number.ensures.kept r ∙
-          (λ t. if◌then◌else◌ (bytes_eq i.to r) (pushed (c.loop-item.invariant.0 r t) (i.body ∷ [])) (c.loop-item.invariant.0 r t)) ∙
-          kept_with_one (bytes_eq i.to r) (kept_for before r) (items_to r c.loop-item.yielded) (i.body ∷ []) ∙
-          ap (pushed (kept_for before r)) (sym (items_more r c.loop-item.yielded i))),
+          (λ t. if◌then◌else◌ (bytes_eq i.to r) (with_items (c.loop-item.invariant.0 r t) (i.body ∷ [])) (c.loop-item.invariant.0 r t)) ∙
+          kept_with_one (bytes_eq i.to r) (outbox_state_of before r) (items_to r c.loop-item.yielded) (i.body ∷ []) ∙
+          ap (with_items (outbox_state_of before r)) (sym (items_more r c.loop-item.yielded i))),
       subst (λ (m : ℕ). AreReady c.put-number.new.self m n others) grown
           (ready_after c.loop-item.outboxes c.put-number.new.self k n i.to i.body others c.put-number.ensures.kept c.put-number.ensures.room (subst (λ (m : ℕ). AreReady c.loop-item.outboxes k m others) one_more ready.1)),
     )

@@ -1,11 +1,11 @@
 use Rattle.std.proofs.Common.{◌≡◌, ◌+◌, ◌^◌, length}
 use Rattle.taf_codes.specs.declared.code.Railway.{Railway}
-use Rattle.outbox.specs.Kept.{kept_for, pushed}
+use Rattle.outbox.specs.OutboxStates.{outbox_state_of, with_items}
 use Rattle.hub_model.specs.Items.{items_to}
 use Rattle.hub_core.specs.Delivery.{AreReady}
 use Rattle.hub_core.proofs.delivery.deliver.Given as goal
 
 abbrev pub invariant-loop-item : goal.invariant-loop-item
 invariant-loop-item l =
-    ((r : Railway) → kept_for l.outboxes r ≡ pushed (kept_for l.fn.outboxes r) (items_to r l.yielded)) ×
+    ((r : Railway) → outbox_state_of l.outboxes r ≡ with_items (outbox_state_of l.fn.outboxes r) (items_to r l.yielded)) ×
     AreReady l.outboxes (2 ^ 62 + length l.yielded) (length l.item-iterator.rest.items) l.item-iterator.rest.items

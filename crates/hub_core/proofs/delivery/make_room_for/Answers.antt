@@ -1,8 +1,8 @@
 use Rattle.std.proofs.Common.{◌≡◌, ℕ, ◌+◌, ◌<◌, ◌^◌, suc, length, List, [], ◌∷◌, ◌++◌, take, ap, ◌∙◌, sym, subst, arith}
 use Rattle.std.proofs.Math.Seq.{take-suc}
-use Rattle.hub_model.specs.declared.addressed.Addressed.{Addressed}
+use Rattle.hub_model.specs.declared.addressed_item.AddressedItem.{AddressedItem}
 use Rattle.hub_core.specs.Delivery.{AreReady}
-use Rattle.hub_core.proofs.DeliverySteps.{ready_more, ready_stays}
+use Rattle.hub_core.proofs.DeliveryLemmas.{ready_more, ready_stays}
 use Rattle.hub_core.proofs.delivery.make_room_for.Goals as goal
 
 pub loop-item-preserved : goal.loop-item-preserved
@@ -14,9 +14,9 @@ loop-item-preserved c =
     let boxes = c.make_room.new.self in
     let plus : k + 1 ≡ suc k = omega arith in
     let within : k < n = omega (arith, c.loop-item-test.true, c.loop-item.auto) in
-    let grown : take (k + 1) is ≡ take k is ++ i ∷ [] = ap (λ (m : ℕ). take m is) plus ∙ take-suc is k i within ∙ ap (λ (q : Addressed). take k is ++ q ∷ []) (sym c.item-item.is) in
+    let grown : take (k + 1) is ≡ take k is ++ i ∷ [] = ap (λ (m : ℕ). take m is) plus ∙ take-suc is k i within ∙ ap (λ (q : AddressedItem). take k is ++ q ∷ []) (sym c.item-item.is) in
     let made = c.in_ok-make_room.ensures in (
       (λ r. made.kept r ∙ c.loop-item.invariant.0 r),
-      subst (λ (qs : List Addressed). AreReady boxes (2 ^ 62) n qs) (sym grown)
+      subst (λ (qs : List AddressedItem). AreReady boxes (2 ^ 62) n qs) (sym grown)
           (ready_more boxes (2 ^ 62) n (take k is) i (ready_stays c.loop-item.outboxes boxes (2 ^ 62) n (take k is) made.kept made.stay_roomy c.loop-item.invariant.1) made.few made.room),
     )

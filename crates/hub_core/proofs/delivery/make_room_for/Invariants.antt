@@ -1,10 +1,10 @@
 use Rattle.std.proofs.Common.{◌≡◌, ◌^◌, length, take}
 use Rattle.taf_codes.specs.declared.code.Railway.{Railway}
-use Rattle.outbox.specs.Kept.{kept_for}
+use Rattle.outbox.specs.OutboxStates.{outbox_state_of}
 use Rattle.hub_core.specs.Delivery.{AreReady}
 use Rattle.hub_core.proofs.delivery.make_room_for.Given as goal
 
 abbrev pub invariant-loop-item : goal.invariant-loop-item
 invariant-loop-item l =
-    ((r : Railway) → kept_for l.outboxes r ≡ kept_for l.fn.outboxes r) ×
+    ((r : Railway) → outbox_state_of l.outboxes r ≡ outbox_state_of l.fn.outboxes r) ×
     AreReady l.outboxes (2 ^ 62) (length l.items) (take l.item-index l.items)

@@ -5,44 +5,44 @@ use Rattle.taf_messages.specs.declared.reply.Reply.{Reply}
 use Rattle.taf_messages.specs.declared.reply.Reply.TheVariants.{Accepted}
 use Rattle.history_pages.specs.Paged.{Paged}
 use Rattle.replay_numbers.specs.Names.{same_name}
-use Rattle.replay_numbers.specs.Notes.{position_of}
+use Rattle.replay_numbers.specs.SentPositions.{position_of}
 use Rattle.taf_codes.specs.declared.code.Railway.{Railway}
-use Rattle.outbox.specs.Kept.{Kept, kept_for, pushed}
+use Rattle.outbox.specs.OutboxStates.{OutboxState, outbox_state_of, with_items}
 use Rattle.hub_model.specs.declared.entry.Entry.{Entry}
-use Rattle.hub_model.specs.declared.addressed.Addressed.{Addressed}
+use Rattle.hub_model.specs.declared.addressed_item.AddressedItem.{AddressedItem}
 use Rattle.hub_model.specs.Items.{items_to}
-use Rattle.hub_model.specs.Answers.{accepted}
-use Rattle.hub_tables.specs.Tabled.{Filings, known, tabled}
-use Rattle.hub_core.specs.Books.{AreKept}
-use Rattle.hub_core.proofs.Keeping.{kept_same}
-use Rattle.hub_core.proofs.Sends.{new_answer, kept_accepted}
+use Rattle.hub_model.specs.Updates.{after_acceptance}
+use Rattle.hub_tables.specs.TableStates.{TableEntries, table_state, table_part}
+use Rattle.hub_core.specs.States.{Represents}
+use Rattle.hub_core.proofs.HistoryLemmas.{kept_same}
+use Rattle.hub_core.proofs.SendLemmas.{new_answer, kept_accepted}
 use Rattle.hub_core.proofs.send.accept.Goals as goal
 
 pub returns-in_err-make_room-clause-kept : goal.returns-in_err-make_room-clause-kept
 returns-in_err-make_room-clause-kept c =
-    let b = c.args.books.now in
-    let n = c.make_room.new.books in
+    let b = c.args.state.now in
+    let n = c.make_room.new.state in
     let r = c.in_err-make_room.ensures in
-    subst (λ (es : List Entry). AreKept es (known n.tables) (position_of n.seen) (kept_for n.outboxes)) (sym r.entries)
-    (kept_same b.history.entries (known b.tables) (known n.tables) (position_of b.seen) (position_of n.seen) (kept_for b.outboxes) (kept_for n.outboxes)
-    (ap known r.tables) (λ by k i. r.positions i by k) r.boxes c.requires.kept)
+    subst (λ (es : List Entry). Represents es (table_state n.tables) (position_of n.seen) (outbox_state_of n.outboxes)) (sym r.entries)
+    (kept_same b.history.entries (table_state b.tables) (table_state n.tables) (position_of b.seen) (position_of n.seen) (outbox_state_of b.outboxes) (outbox_state_of n.outboxes)
+    (ap table_state r.tables) (λ by k i. r.positions i by k) r.boxes c.requires.kept)
 
 pub returns-in_err-accept-clause-kept : goal.returns-in_err-accept-clause-kept
 returns-in_err-accept-clause-kept c =
-    let b = c.args.books.now in
-    let n = c.make_room.new.books in
+    let b = c.args.state.now in
+    let n = c.make_room.new.state in
     let r = c.in_ok-make_room.ensures in
-    subst (λ (es : List Entry). AreKept es (known c.accept.new.self) (position_of n.seen) (kept_for n.outboxes)) (sym r.entries)
-    (kept_same b.history.entries (known b.tables) (known c.accept.new.self) (position_of b.seen) (position_of n.seen) (kept_for b.outboxes) (kept_for n.outboxes)
-    (c.in_err-accept.ensures.err ∙ ap known r.tables) (λ by k i. r.positions i by k) r.boxes c.requires.kept)
+    subst (λ (es : List Entry). Represents es (table_state c.accept.new.self) (position_of n.seen) (outbox_state_of n.outboxes)) (sym r.entries)
+    (kept_same b.history.entries (table_state b.tables) (table_state c.accept.new.self) (position_of b.seen) (position_of n.seen) (outbox_state_of b.outboxes) (outbox_state_of n.outboxes)
+    (c.in_err-accept.ensures.err ∙ ap table_state r.tables) (λ by k i. r.positions i by k) r.boxes c.requires.kept)
 
 pub returns-clause-kept : goal.returns-clause-kept
 returns-clause-kept c =
-    let b = c.args.books.now in
+    let b = c.args.state.now in
     let m = c.args.message in
-    let sent = c.get-said.ensures in
+    let sent = c.get-sent.ensures in
     let same = c.content-content.ensures.value ∙ sent in
-    let n = c.make_room.new.books in
+    let n = c.make_room.new.state in
     let r = c.in_ok-make_room.ensures in
     let entry : Reply → Entry = λ reply. record { call = Send m; reply = reply } in
     let entered : c.push_reserved.new.self.entries ≡ b.history.entries ++ entry (Accepted m.no) ∷ [] =
@@ -50,25 +50,25 @@ returns-clause-kept c =
     ap (λ (e : Entry). n.history.entries ++ e ∷ []) (c.entry_of.ensures ∙ ap entry (c.verdict.ensures ∙ ap (λ (x : Message). Accepted x.no) same)) ∙
     ap (λ (es : List Entry). es ++ entry (Accepted m.no) ∷ []) r.entries in
     let len : c.len-position.result ≡ length b.history.entries = c.len-position.ensures.value ∙ ap length r.entries in
-    subst (λ (es : List Entry). AreKept es (known c.accept.new.self) (position_of c.note_reserved.new.self) (kept_for c.deliver.new.outboxes)) (sym entered)
-    (kept_accepted b.history.entries m (known b.tables) (position_of b.seen) (kept_for b.outboxes) c.requires.kept c.requires.room c.requires.limits c.requires.new
-    c.boxes_keep_the_lists.ensures.push (known c.accept.new.self) (position_of c.note_reserved.new.self) (kept_for c.deliver.new.outboxes) c.requires.acceptable.sound
-    (c.in_ok-accept.ensures.ok ∙ ap (λ (x : Message). tabled (accepted (known n.tables) x)) sent ∙ ap (λ (t : Filings). tabled (accepted (known t) m)) r.tables)
+    subst (λ (es : List Entry). Represents es (table_state c.accept.new.self) (position_of c.note_reserved.new.self) (outbox_state_of c.deliver.new.outboxes)) (sym entered)
+    (kept_accepted b.history.entries m (table_state b.tables) (position_of b.seen) (outbox_state_of b.outboxes) c.requires.kept c.requires.room c.requires.limits c.requires.new
+    c.boxes_keep_the_lists.ensures.push (table_state c.accept.new.self) (position_of c.note_reserved.new.self) (outbox_state_of c.deliver.new.outboxes) c.requires.acceptable.sound
+    (c.in_ok-accept.ensures.ok ∙ ap (λ (x : Message). table_part (after_acceptance (table_state n.tables) x)) sent ∙ ap (λ (t : TableEntries). table_part (after_acceptance (table_state t) m)) r.tables)
     (λ by k. c.note_reserved.ensures by k ∙
     ap (λ (x : Message). cond (same_name x.by x.no by k) (Some c.len-position.result) (position_of n.seen by k)) same ∙
     ap (λ (p : ℕ). cond (same_name m.by m.no by k) (Some p) (position_of n.seen by k)) len ∙
     ap (λ (o : Option ℕ). cond (same_name m.by m.no by k) (Some (length b.history.entries)) o) (λ i. r.positions i by k))
     (λ q. c.deliver.ensures q ∙
-    ap (λ (k : Kept). pushed k (items_to q c.in_ok-items.items.items)) (r.boxes q) ∙
-    ap (λ (is : List Addressed). pushed (kept_for b.outboxes q) (items_to q is)) c.in_ok-items.ensures.items))
+    ap (λ (k : OutboxState). with_items k (items_to q c.in_ok-items.items.items)) (r.boxes q) ∙
+    ap (λ (is : List AddressedItem). with_items (outbox_state_of b.outboxes q) (items_to q is)) c.in_ok-items.ensures.items))
 
 pub returns-clause-answered : goal.returns-clause-answered
 returns-clause-answered c =
-    let b = c.args.books.now in
-    c.verdict-2.ensures ∙ ap (λ (x : Message). Accepted x.no) (c.content-content.ensures.value ∙ c.get-said.ensures) ∙
-    new_answer b.history.entries c.args.message (known b.tables) (position_of b.seen) (kept_for b.outboxes) c.requires.kept c.requires.room c.requires.limits c.requires.new None c.requires.acceptable.sound
+    let b = c.args.state.now in
+    c.verdict-2.ensures ∙ ap (λ (x : Message). Accepted x.no) (c.content-content.ensures.value ∙ c.get-sent.ensures) ∙
+    new_answer b.history.entries c.args.message (table_state b.tables) (position_of b.seen) (outbox_state_of b.outboxes) c.requires.kept c.requires.room c.requires.limits c.requires.new None c.requires.acceptable.sound
 
 pub note_reserved-requires-clause-new : goal.note_reserved-requires-clause-new
 note_reserved-requires-clause-new c =
-    let said = c.content-content.result.now in
-    ap (λ (found : Railway → ℕ → Option ℕ). found said.by said.no) c.in_ok-make_room.ensures.positions ∙ ap (λ (x : Message). position_of c.args.books.now.seen x.by x.no) (c.content-content.ensures.value ∙ c.get-said.ensures) ∙ c.requires.new
+    let sent = c.content-content.result.now in
+    ap (λ (found : Railway → ℕ → Option ℕ). found sent.by sent.no) c.in_ok-make_room.ensures.positions ∙ ap (λ (x : Message). position_of c.args.state.now.seen x.by x.no) (c.content-content.ensures.value ∙ c.get-sent.ensures) ∙ c.requires.new

@@ -5,18 +5,18 @@ use Rattle.taf_messages.specs.declared.message.Message.{Message}
 use Rattle.taf_messages.specs.declared.reply.Reply.{Reply}
 use Rattle.history_pages.specs.Paged.{Paged}
 use Rattle.replay_numbers.specs.Names.{same_name}
-use Rattle.replay_numbers.specs.Notes.{position_of}
-use Rattle.outbox.specs.Kept.{kept_for}
+use Rattle.replay_numbers.specs.SentPositions.{position_of}
+use Rattle.outbox.specs.OutboxStates.{outbox_state_of}
 use Rattle.hub_model.specs.declared.entry.Entry.{Entry}
-use Rattle.hub_model.specs.Answers.{verdict}
-use Rattle.hub_tables.specs.Tabled.{known}
-use Rattle.hub_core.specs.Books.{AreKept}
-use Rattle.hub_core.proofs.Sends.{new_answer, kept_refused}
+use Rattle.hub_model.specs.Replies.{verdict}
+use Rattle.hub_tables.specs.TableStates.{table_state}
+use Rattle.hub_core.specs.States.{Represents}
+use Rattle.hub_core.proofs.SendLemmas.{new_answer, kept_refused}
 use Rattle.hub_core.proofs.send.refuse.Goals as goal
 
 pub returns-clause-kept : goal.returns-clause-kept
 returns-clause-kept c =
-    let b = c.args.books.now in
+    let b = c.args.state.now in
     let m = c.args.message in
     let same = (c.content-content.ensures.value ∙ c.get.ensures) in
     let entry : Reply → Entry = λ r. record { call = Send m; reply = r } in
@@ -24,8 +24,8 @@ returns-clause-kept c =
     ap (λ (p : Paged Entry). p.entries) c.push_reserved.ensures ∙ ap (λ (e : Entry). c.reserve-2.new.self.entries ++ e ∷ []) (c.entry_of.ensures ∙ ap entry (c.verdict-reply.ensures ∙ ap (λ (x : Message). verdict x.no (Some c.args.found)) same)) ∙
     ap (λ (es : List Entry). es ++ entry (verdict m.no (Some c.args.found)) ∷ []) c.in_ok-reserve-2.ensures.entries in
     let len : c.len-position.result ≡ length b.history.entries = c.len-position.ensures.value ∙ ap length c.in_ok-reserve-2.ensures.entries in
-    subst (λ (es : List Entry). AreKept es (known b.tables) (position_of c.note_reserved.new.self) (kept_for b.outboxes)) (sym entered)
-    (kept_refused b.history.entries m (known b.tables) (position_of b.seen) (kept_for b.outboxes) c.requires.kept c.requires.room c.requires.limits c.requires.new c.args.found (position_of c.note_reserved.new.self) c.requires.fault
+    subst (λ (es : List Entry). Represents es (table_state b.tables) (position_of c.note_reserved.new.self) (outbox_state_of b.outboxes)) (sym entered)
+    (kept_refused b.history.entries m (table_state b.tables) (position_of b.seen) (outbox_state_of b.outboxes) c.requires.kept c.requires.room c.requires.limits c.requires.new c.args.found (position_of c.note_reserved.new.self) c.requires.fault
     (λ by n. c.note_reserved.ensures by n ∙
     ap (λ (x : Message). cond (same_name x.by x.no by n) (Some c.len-position.result) (position_of c.reserve.new.self by n)) same ∙
     ap (λ (k : ℕ). cond (same_name m.by m.no by n) (Some k) (position_of c.reserve.new.self by n)) len ∙
@@ -33,11 +33,11 @@ returns-clause-kept c =
 
 pub returns-clause-answered : goal.returns-clause-answered
 returns-clause-answered c =
-    let b = c.args.books.now in
-    c.in_ok-told.ensures ∙ c.verdict-reply.ensures ∙ ap (λ (x : Message). verdict x.no (Some c.args.found)) (c.content-content.ensures.value ∙ c.get.ensures) ∙
-    new_answer b.history.entries c.args.message (known b.tables) (position_of b.seen) (kept_for b.outboxes) c.requires.kept c.requires.room c.requires.limits c.requires.new (Some c.args.found) c.requires.fault
+    let b = c.args.state.now in
+    c.in_ok-reply_copy.ensures ∙ c.verdict-reply.ensures ∙ ap (λ (x : Message). verdict x.no (Some c.args.found)) (c.content-content.ensures.value ∙ c.get.ensures) ∙
+    new_answer b.history.entries c.args.message (table_state b.tables) (position_of b.seen) (outbox_state_of b.outboxes) c.requires.kept c.requires.room c.requires.limits c.requires.new (Some c.args.found) c.requires.fault
 
 pub note_reserved-requires-clause-new : goal.note_reserved-requires-clause-new
 note_reserved-requires-clause-new c =
-    let said = c.content-content.result.now in
-    ap (λ (found : Railway → ℕ → Option ℕ). found said.by said.no) c.reserve.ensures.positions ∙ ap (λ (x : Message). position_of c.args.books.now.seen x.by x.no) (c.content-content.ensures.value ∙ c.get.ensures) ∙ c.requires.new
+    let sent = c.content-content.result.now in
+    ap (λ (found : Railway → ℕ → Option ℕ). found sent.by sent.no) c.reserve.ensures.positions ∙ ap (λ (x : Message). position_of c.args.state.now.seen x.by x.no) (c.content-content.ensures.value ∙ c.get.ensures) ∙ c.requires.new

@@ -1,4 +1,4 @@
-use Rattle.hub_items.proofs.SoFar.{passed_counted}
+use Rattle.hub_items.proofs.PrefixLemmas.{passed_counted}
 use Rattle.hub_items.proofs.estimates.put_estimates.Goals as goal
 
 pub loop-leg-preserved : goal.loop-leg-preserved

@@ -3,12 +3,12 @@ use Rattle.std.specs.Prelude.{filter, filter_map, flat_map}
 use Rattle.std.specs.List.{range_with_len}
 use Rattle.hub_model.specs.Items as of
 use Rattle.journey.specs.Journey.{after}
-use Rattle.hub_items.specs.Onward.{estimate_of}
+use Rattle.hub_items.specs.Transitions.{estimate_of}
 use Rattle.hub_items.proofs.estimates.put_estimates.Given as goal
 
 -- the news of the legs so far
 abbrev pub invariant-loop-leg : goal.invariant-loop-leg
 invariant-loop-leg l =
     l.items.items ≡ l.initial.items.items ++
-    flat_map (of.estimate_item (after l.progress) l.progress.wagon)
-    (filter (of.is_news l.progress.before (after l.progress)) (filter_map (λ j. estimate_of l.progress j) (range_with_len 0 l.leg)))
+    flat_map (of.estimate_item (after l.change) l.change.wagon)
+    (filter (of.is_news l.change.before (after l.change)) (filter_map (λ j. estimate_of l.change j) (range_with_len 0 l.leg)))

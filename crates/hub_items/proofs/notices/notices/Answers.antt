@@ -2,8 +2,8 @@ use Rattle.std.proofs.Common.{◌∙◌, ◌++◌, ap}
 use Rattle.taf_codes.specs.declared.code.Railway.{Railway}
 use Rattle.taf_messages.specs.declared.message.Body.{Body}
 use Rattle.hub_model.specs.Items.{each_once, sub_items}
-use Rattle.hub_tables.specs.Tabled.{known}
-use Rattle.hub_items.proofs.Noticed.{noticed}
+use Rattle.hub_tables.specs.TableStates.{table_state}
+use Rattle.hub_items.proofs.NoticeLemmas.{noticed}
 use Rattle.hub_items.proofs.notices.notices.Goals as goal
 
 pub returns : goal.returns
@@ -12,5 +12,5 @@ returns c =
     let before = c.put_each.new.items.items in
     let sub = c.in_ok-put_sub_notice.ensures ∙ ap (λ (by : Railway). before ++ sub_items by c.body.result.now) c.by.ensures ∙
     ap (λ (says : Body). before ++ sub_items m.by says) c.body.ensures in
-    noticed (known c.args.tables.now) m c.in_ok-clone.field-0 _ _ c.new-items.result.items _ _ c.in_ok-concerned.ensures
+    noticed (table_state c.args.tables.now) m c.in_ok-clone.field-0 _ _ c.new-items.result.items _ _ c.in_ok-concerned.ensures
     (c.as_slice-2.ensures.value ∙ c.in_ok-railways.ensures ∙ ap each_once c.as_slice.ensures.value) (c.in_ok-clone.ensures.cases ∙ c.requires.same) c.new-items.ensures.items c.in_ok-put_each.ensures sub

@@ -1,4 +1,4 @@
-use Rattle.hub_items.proofs.SoFar.{once_so_far}
+use Rattle.hub_items.proofs.PrefixLemmas.{once_so_far}
 use Rattle.hub_items.proofs.once.each_once.Goals as goal
 
 pub loop-i-preserved : goal.loop-i-preserved

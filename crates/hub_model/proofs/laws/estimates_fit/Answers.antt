@@ -1,4 +1,4 @@
-use Rattle.hub_model.proofs.Fit.{estimates_fit}
+use Rattle.hub_model.proofs.CalendarLemmas.{estimates_fit}
 use Rattle.hub_model.proofs.laws.estimates_fit.Goals as goal
 
 pub returns : goal.returns

@@ -1,4 +1,4 @@
-use Rattle.hub_model.proofs.Positions.{first_sends_stand}
+use Rattle.hub_model.proofs.PositionLemmas.{first_sends_stand}
 use Rattle.hub_model.proofs.laws.first_sends_stand_in_the_history.Goals as goal
 
 pub returns : goal.returns

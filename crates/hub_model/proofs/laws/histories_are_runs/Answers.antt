@@ -1,4 +1,4 @@
-use Rattle.hub_model.proofs.Histories.{replies_are_the_run, known_by_the_calls, one_more_entry}
+use Rattle.hub_model.proofs.HistoryLemmas.{replies_are_the_run, known_by_the_calls, one_more_entry}
 use Rattle.hub_model.proofs.laws.histories_are_runs.Goals as goal
 
 pub returns : goal.returns

@@ -1,4 +1,4 @@
-use Rattle.hub_model.proofs.InOrder.{always_in_order}
+use Rattle.hub_model.proofs.OfferOrderLemmas.{always_in_order}
 use Rattle.hub_model.proofs.laws.offers_are_in_order.Goals as goal
 
 pub returns : goal.returns

@@ -1,4 +1,4 @@
-use Rattle.hub_model.proofs.OnLegs.{always_on_leg}
+use Rattle.hub_model.proofs.LegIndexLemmas.{always_on_leg}
 use Rattle.hub_model.proofs.laws.wagons_are_on_their_legs.Goals as goal
 
 pub returns : goal.returns

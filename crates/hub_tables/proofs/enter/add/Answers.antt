@@ -3,14 +3,14 @@ use Rattle.std.specs.Prelude.{if◌then◌else◌}
 use Rattle.std.specs.Map.{lookup}
 use Rattle.std.specs.Option.{option_copied_mut}
 use Rattle.journey.specs.Journey.{Journey}
-use Rattle.hub_tables.specs.Tabled.{AreFiled}
-use Rattle.hub_tables.proofs.Entering.{next_there, put_filed, kept_entries}
+use Rattle.hub_tables.specs.TableStates.{AreJourneyEntries}
+use Rattle.hub_tables.proofs.EntryLemmas.{next_there, put_filed, kept_entries}
 use Rattle.hub_tables.proofs.enter.add.Goals as goal
 
 pub add-requires : goal.add-requires
 add-requires c =
     let found = sym c.get_mut.ensures.value ∙ ap option_copied_mut c.in-Some.is in
-    let there = next_there c.args.wagons.now.entries c.args.wagon c.in-Some.found.now c.args.share found c.requires.next in
+    let there = next_there c.args.wagons.now.entries c.args.wagon c.in-Some.found.now c.args.event found c.requires.next in
     record { admitted = there.allowed; fits = there.fits_after }
 
 -- where memory is refused, the entries are as they were
@@ -25,10 +25,10 @@ returns-in_default-clause-err c =
     kept_entries before after c.args.wagon c.in-Some.found.now found as_it_was c.get_mut.ensures.unique written.1
 
 pub returns-in_default-clause-filed : goal.returns-in_default-clause-filed
-returns-in_default-clause-filed c = subst AreFiled (sym (returns-in_default-clause-err c)) c.requires.filed
+returns-in_default-clause-filed c = subst AreJourneyEntries (sym (returns-in_default-clause-err c)) c.requires.filed
 
 pub returns-clause-filed : goal.returns-clause-filed
 returns-clause-filed c =
     let found = sym c.get_mut.ensures.value ∙ ap option_copied_mut c.in-Some.is in
     let written = c.get_mut.follows.holds c.add.new.self in
-    put_filed c.args.wagons.now.entries (c.get_mut.follows.lender c.add.new.self).entries c.args.wagon c.in-Some.found.now c.add.new.self c.args.share found c.in-Ok.ensures.ok c.requires.filed (written.3 (search rules)).0
+    put_filed c.args.wagons.now.entries (c.get_mut.follows.lender c.add.new.self).entries c.args.wagon c.in-Some.found.now c.add.new.self c.args.event found c.in-Ok.ensures.ok c.requires.filed (written.3 (search rules)).0

@@ -2,15 +2,15 @@ use Rattle.std.proofs.Common.{◌≡◌, ℕ, length}
 use Rattle.std.specs.Prelude.{fold}
 use Rattle.std.specs.Map.{keys_of}
 use Rattle.std.specs.Vec.Iter.{into_iter_items, into_iter_len}
-use Rattle.hub_tables.specs.Tabled.{AreFiled, events_in}
-use Rattle.hub_tables.specs.Taking.{AreAdmitted, put_on}
+use Rattle.hub_tables.specs.TableStates.{AreJourneyEntries, events_in}
+use Rattle.hub_tables.specs.Acceptance.{AreAdmitted, with_event_on}
 use Rattle.hub_tables.proofs.enter.put_all.Given as goal
 
 abbrev pub invariant-loop-wagon : goal.invariant-loop-wagon
 invariant-loop-wagon l = record {
   admitted : AreAdmitted (events_in l.wagons.entries) (into_iter_items l.wagon-iterator);
-  events : (w : ℕ) → fold put_on (events_in l.wagons.entries) (into_iter_items l.wagon-iterator) w ≡ fold put_on (events_in l.fn.wagons.entries) l.fn.shares.items w;
+  events : (w : ℕ) → fold with_event_on (events_in l.wagons.entries) (into_iter_items l.wagon-iterator) w ≡ fold with_event_on (events_in l.fn.wagons.entries) l.fn.events.items w;
   keys : keys_of l.wagons.entries ≡ keys_of l.fn.wagons.entries;
-  filed : AreFiled l.wagons.entries;
+  filed : AreJourneyEntries l.wagons.entries;
   counted : into_iter_len l.wagon-iterator ≡ length (into_iter_items l.wagon-iterator);
 }

@@ -1,6 +1,6 @@
 use Rattle.std.proofs.Common.{rules, ◌≡◌, ◌≤◌, cond, true, bytes_eq, Some, ◌∙◌}
 use Rattle.std.specs.Map.{lookup}
-use Rattle.outbox.specs.Kept.{kept_for, has_box, room_for}
+use Rattle.outbox.specs.OutboxStates.{outbox_state_of, has_box, room_for}
 use Rattle.outbox.proofs.KeyLemmas.{IsPutIn, kept_stays, boxes_stay, no_box_made, on_err, room_stays}
 use Rattle.outbox.proofs.boxes.make_room.Goals as goal
 
@@ -11,7 +11,7 @@ returns-in-Some-clause-kept c =
     let old = c.args.boxes.now.entries in
     let box = c.make_room.new.self in
     let put : IsPutIn old c.args.railway box (c.get_mut.follows.lender box).entries = search rules in
-    let kept : box.kept ≡ kept_for old c.args.railway = search rules in
+    let kept : box.kept ≡ outbox_state_of old c.args.railway = search rules in
     kept_stays old _ c.args.railway box put kept
 
 pub returns-in-Some-clause-stay_open : goal.returns-in-Some-clause-stay_open
@@ -44,7 +44,7 @@ returns-clause-kept c =
     let old = c.args.boxes.now.entries in
     let box = c.make_room-2.new.self in
     let put : IsPutIn old c.args.railway box c.insert.new.self.entries = λ q. c.in_ok-insert.ensures.updates.0 q ∙ (λ i. cond (bytes_eq c.args.railway q) (Some box) (lookup (bytes_eq q) (c.get_mut.follows.holds-at-none i).entries)) in
-    let kept : box.kept ≡ kept_for old c.args.railway = search rules in
+    let kept : box.kept ≡ outbox_state_of old c.args.railway = search rules in
     kept_stays old _ c.args.railway box put kept
 
 pub returns-clause-stay_open : goal.returns-clause-stay_open

@@ -1,6 +1,6 @@
 use Rattle.std.proofs.Common.{◌≡◌, ◌+◌, ◌++◌, length}
 use Rattle.std.specs.VecDeque.Iter.{deque_iter_rest}
-use Rattle.outbox.specs.Kept.{numbered_after}
+use Rattle.outbox.specs.OutboxStates.{numbered_after}
 use Rattle.outbox.proofs.outbox.numbered.Given as goal
 
 abbrev pub invariant-loop-i : goal.invariant-loop-i

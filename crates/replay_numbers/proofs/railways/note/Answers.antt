@@ -1,7 +1,7 @@
 use Rattle.std.proofs.Common.{rules, ◌≡◌, ℕ, cond, Some}
 use Rattle.std.specs.Prelude.{◌==◌}
-use Rattle.replay_numbers.specs.Notes.{position_in, position_of}
-use Rattle.replay_numbers.proofs.Sending.{IsPutIn, position_put}
+use Rattle.replay_numbers.specs.SentPositions.{position_in, position_of}
+use Rattle.replay_numbers.proofs.SentLemmas.{IsPutIn, position_put}
 use Rattle.replay_numbers.proofs.railways.note.Goals as goal
 
 pub returns : goal.returns

@@ -1,5 +1,5 @@
 use Rattle.taf_codes.specs.Equality.{decides}
-use Rattle.taf_messages.proofs.SameReplies.{calls}
+use Rattle.taf_messages.proofs.SameReplyLemmas.{calls}
 use Rattle.taf_messages.specs.contracts.call.CallPartialEq.TheImpl as CallEq
 use Rattle.taf_messages.proofs.equality.same_call.Goals as goal
 

@@ -1,5 +1,5 @@
 use Rattle.taf_codes.specs.Equality.{decides}
-use Rattle.taf_messages.proofs.SameReplies.{items}
+use Rattle.taf_messages.proofs.SameReplyLemmas.{items}
 use Rattle.taf_messages.specs.contracts.item.ItemPartialEq.TheImpl as ItemEq
 use Rattle.taf_messages.proofs.equality.same_item.Goals as goal
 

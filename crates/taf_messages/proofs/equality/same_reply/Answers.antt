@@ -1,5 +1,5 @@
 use Rattle.taf_codes.specs.Equality.{decides}
-use Rattle.taf_messages.proofs.SameReplies.{replies}
+use Rattle.taf_messages.proofs.SameReplyLemmas.{replies}
 use Rattle.taf_messages.specs.contracts.reply.ReplyPartialEq.TheImpl as ReplyEq
 use Rattle.taf_messages.proofs.equality.same_reply.Goals as goal
 

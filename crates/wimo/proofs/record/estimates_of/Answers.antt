@@ -2,7 +2,7 @@ use Rattle.std.proofs.Common.{ap, ◌∙◌, sym, Some, None, ◌++◌, ◌∷�
 use Rattle.std.specs.Prelude.{option_map}
 use Rattle.std.proofs.lemmas.List.{append-nil}
 use Rattle.eti_chain.specs.Estimates as of
-use Rattle.wimo.proofs.Showing.{found_more, at_leg}
+use Rattle.wimo.proofs.RecordEventLemmas.{found_more, at_leg}
 use Rattle.wimo.proofs.record.estimates_of.Goals as goal
 use Rattle.wimo.proofs.record.estimates_of.Goals.{in-Some+in_ok-push, in_default}
 

@@ -1,4 +1,4 @@
-use Rattle.wimo_report.proofs.Joining.{with_units}
+use Rattle.wimo_report.proofs.JoinLemmas.{with_units}
 use Rattle.wimo_report.proofs.column.put_units.Goals as goal
 
 pub returns : goal.returns

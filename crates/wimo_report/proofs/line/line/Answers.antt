@@ -4,7 +4,7 @@ use Rattle.wagon_number.specs.Digits.{text_of}
 use Rattle.taf_messages.specs.declared.record.Record.{Record}
 use Rattle.taf_messages.specs.Details.{stage_name, status_name}
 use Rattle.wimo_report.specs.Report.{line_of, first_columns, last_columns, units_text, left_aligned, right_aligned, railway_column, place_column, time_column, minutes_late}
-use Rattle.wimo_report.proofs.Joining.{whole}
+use Rattle.wimo_report.proofs.JoinLemmas.{whole}
 use Rattle.wimo_report.proofs.line.line.Goals as goal
 
 all_columns : (r : Record) (s s₁ s₂ s₃ : List ℕ) → s ≡ [] → s₁ ≡ s ++ join_with_byte 32 (first_columns r) → s₂ ≡ s₁ ++ (32 ∷ join_with_byte 32 (last_columns r)) → s₃ ≡ s₂ ++ units_text r.units → s₃ ≡ line_of r

@@ -1,6 +1,6 @@
 use Rattle.std.proofs.Common.{◌++◌, ◌∷◌, ◌∙◌, ap, string_bytes, decimal}
 use Rattle.wimo_report.specs.Report.{first_columns}
-use Rattle.wimo_report.proofs.Joining.{four}
+use Rattle.wimo_report.proofs.JoinLemmas.{four}
 use Rattle.wimo_report.proofs.line.put_head.Goals as goal
 
 pub returns : goal.returns

@@ -1,6 +1,6 @@
 use Rattle.std.proofs.Common.{◌++◌, ◌∷◌, ◌∙◌, ap, string_bytes, decimal}
 use Rattle.wimo_report.specs.Report.{last_columns, left_aligned, right_aligned}
-use Rattle.wimo_report.proofs.Joining.{five}
+use Rattle.wimo_report.proofs.JoinLemmas.{five}
 use Rattle.wimo_report.proofs.line.put_tail.Goals as goal
 
 pub returns : goal.returns

@@ -1,8 +1,8 @@
 use Rattle.std.proofs.Common.{ap, ◌∙◌}
-use Rattle.eti_chain.specs.Chains.{Chain, Reckoning, end_in}
-use Rattle.eti_chain.proofs.Chaining.{end_by_reckoning}
+use Rattle.eti_chain.specs.EstimateStates.{EstimatesState, EstimateBasis, end_in}
+use Rattle.eti_chain.proofs.EstimateStateLemmas.{end_by_basis}
 use Rattle.eti_chain.proofs.estimates.Estimates.estimate.Goals as goal
 
 pub returns : goal.returns
 returns c events is =
-    c.moment.ensures ∙ ap (λ (r : Reckoning). end_in r c.args.leg) (c.basis.ensures.value ∙ ap (λ (k : Chain). k.reckoning) is) ∙ end_by_reckoning events c.args.leg
+    c.moment.ensures ∙ ap (λ (r : EstimateBasis). end_in r c.args.leg) (c.basis.ensures.value ∙ ap (λ (k : EstimatesState). k.estimate_basis) is) ∙ end_by_basis events c.args.leg

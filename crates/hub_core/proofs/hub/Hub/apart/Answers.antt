@@ -1,7 +1,7 @@
 use Rattle.std.proofs.Common.{List, ap, ◌∙◌, sym}
 use Rattle.hub_model.specs.declared.entry.Entry.{Entry}
 use Rattle.hub_model.specs.Overtaking.{is_apart}
-use Rattle.hub_model.specs.Answers.{standing_of}
+use Rattle.hub_model.specs.Histories.{state_of}
 use Rattle.hub_core.specs.Apart.{are_apart}
 use Rattle.hub_core.proofs.hub.Hub.apart.Goals as goal
 
@@ -11,5 +11,5 @@ returns-in-Send-Send c =
     let n = c.in-Send-Send.also in
     c.apart.ensures ∙
     (λ i. is_apart (c.self.invariant.tables i) (c.get.ensures i) (c.get-in-Send-Send.ensures i)) ∙
-    ap (λ (history : List Entry). is_apart (standing_of history) m n) c.self.view_is ∙
-    (λ i. are_apart (standing_of c.args.self.now) (sym c.in-Send-Send.is-0 i) (sym c.in-Send-Send.is-1 i))
+    ap (λ (history : List Entry). is_apart (state_of history) m n) c.self.view_is ∙
+    (λ i. are_apart (state_of c.args.self.now) (sym c.in-Send-Send.is-0 i) (sym c.in-Send-Send.is-1 i))

@@ -3,15 +3,15 @@ use Rattle.journey.specs.declared.event.Event.{Event}
 use Rattle.journey.specs.Journey.{Journey}
 use Rattle.journey.specs.Stages.{is_plan}
 use Rattle.eti_chain.specs.Estimates.{fits}
-use Rattle.hub_model.specs.Standing.{share}
-use Rattle.hub_tables.specs.Tabled.{known}
-use Rattle.hub_tables.proofs.Going.{has_at}
-use Rattle.hub_tables.proofs.Made.{made_more, made_all}
+use Rattle.hub_model.specs.HubState.{event_for}
+use Rattle.hub_tables.specs.TableStates.{table_state}
+use Rattle.hub_tables.proofs.NextEventLemmas.{has_at}
+use Rattle.hub_tables.proofs.OfferLemmas.{made_more, made_all}
 use Rattle.hub_tables.proofs.tables.Tables.begun.Goals as goal
 
 pub begin-requires : goal.begin-requires
 begin-requires c =
-    let e = c.in_ok-share-2.ensures ∙ c.in_ok-share.ensures in
+    let e = c.in_ok-event-2.ensures ∙ c.in_ok-event.ensures in
     let b = c.requires.begins c.wagon-item.result (has_at c.args.wagons.now c.loop-wagon.wagon-index c.wagon-item.result c.loop-wagon-test.true c.wagon-item.is) in
     record {
       plan = ap (λ (x : Event). is_plan x.body) e ∙ b.plan;
@@ -21,13 +21,13 @@ begin-requires c =
 pub loop-wagon-preserved : goal.loop-wagon-preserved
 loop-wagon-preserved c =
     let w = c.wagon-item.result in
-    let shared = share (known c.args.self.now).offer c.args.message.now in
+    let shared = event_for (table_state c.args.self.now).offer c.args.message.now in
     let begins : ℕ → Event → Journey = λ v e. record { wagon = v; events = e ∷ [] } in
     made_more (λ (v : ℕ). (v, begins v (shared v))) c.args.wagons.now c.loop-wagon.wagon-index w c.loop-wagon-test.true c.wagon-item.is _ _ (w, c.begin.result) c.loop-wagon.invariant c.in_ok-push.ensures.items
-    (ap (λ (j : Journey). (w, j)) (c.begin.ensures ∙ ap (begins w) (c.in_ok-share-2.ensures ∙ c.in_ok-share.ensures)))
+    (ap (λ (j : Journey). (w, j)) (c.begin.ensures ∙ ap (begins w) (c.in_ok-event-2.ensures ∙ c.in_ok-event.ensures)))
 
 pub returns : goal.returns
 returns c =
-    let shared = share (known c.args.self.now).offer c.args.message.now in
+    let shared = event_for (table_state c.args.self.now).offer c.args.message.now in
     let begins : ℕ → Event → Journey = λ v e. record { wagon = v; events = e ∷ [] } in
     made_all (λ (v : ℕ). (v, begins v (shared v))) c.args.wagons.now c.loop-wagon.wagon-index _ c.loop-wagon-test.false c.loop-wagon.invariant

@@ -1,18 +1,18 @@
 use Rattle.std.proofs.Common.{ℕ, ap, ◌∙◌}
 use Rattle.journey.specs.declared.event.Event.{Event}
-use Rattle.hub_model.specs.Standing.{share}
-use Rattle.hub_tables.specs.Tabled.{known}
-use Rattle.hub_tables.proofs.Made.{made_more, made_all}
+use Rattle.hub_model.specs.HubState.{event_for}
+use Rattle.hub_tables.specs.TableStates.{table_state}
+use Rattle.hub_tables.proofs.OfferLemmas.{made_more, made_all}
 use Rattle.hub_tables.proofs.tables.Tables.prepared.Goals as goal
 
 pub loop-wagon-preserved : goal.loop-wagon-preserved
 loop-wagon-preserved c =
     let w = c.wagon-item.result in
-    let shared = share (known c.args.self.now).offer c.args.message.now in
+    let shared = event_for (table_state c.args.self.now).offer c.args.message.now in
     made_more (λ (v : ℕ). (v, shared v)) c.args.wagons.now c.loop-wagon.wagon-index w c.loop-wagon-test.true c.wagon-item.is _ _ (w, c.in_ok-prepared.field-0) c.loop-wagon.invariant c.in_ok-push.ensures.items
-    (ap (λ (e : Event). (w, e)) (c.in_ok-prepared.ensures ∙ c.in_ok-share.ensures))
+    (ap (λ (e : Event). (w, e)) (c.in_ok-prepared.ensures ∙ c.in_ok-event.ensures))
 
 pub returns : goal.returns
 returns c =
-    let shared = share (known c.args.self.now).offer c.args.message.now in
+    let shared = event_for (table_state c.args.self.now).offer c.args.message.now in
     made_all (λ (v : ℕ). (v, shared v)) c.args.wagons.now c.loop-wagon.wagon-index _ c.loop-wagon-test.false c.loop-wagon.invariant

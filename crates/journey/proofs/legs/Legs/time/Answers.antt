@@ -1,7 +1,7 @@
 use Rattle.std.proofs.Common.{◌≡◌, ap, sym, ◌∙◌, length, take, arith}
 use Rattle.std.proofs.lemmas.List.{length-take-le}
 use Rattle.journey.specs.Legs.{timed}
-use Rattle.journey.proofs.Timing.{timed-set, timed_past}
+use Rattle.journey.proofs.LegTimeLemmas.{timed-set, timed_past}
 use Rattle.journey.proofs.legs.Legs.time.Goals as goal
 
 pub returns-then-leg-self : goal.returns-then-leg-self

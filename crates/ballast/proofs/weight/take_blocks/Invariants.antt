@@ -1,5 +1,0 @@
-use Rattle.std.proofs.Common.{◌≤◌, vec_len}
-use Rattle.ballast.proofs.weight.take_blocks.Given as goal
-
-abbrev pub invariant-loop : goal.invariant-loop
-invariant-loop l = vec_len l.initial.blocks ≤ vec_len l.blocks

@@ -1,0 +1,85 @@
+ghost use Rattle.std.specs.Prelude.{◌≡◌, ◌+◌, ◌<◌, ◌^◌, [], ◌∷◌, ◌++◌, length, true, None, OnOk, OnErr};
+ghost use Rattle.journey.specs.Checks.{refusal};
+ghost use Rattle.eti_chain.specs.Estimates as of;
+
+use crate::anchor::{Anchor, anchor_after};
+use crate::basis::EstimateBasis;
+use crate::estimates::Estimates;
+use journey::{Event, PreparedEvent, Track};
+use std::marker::Model;
+use taf_codes::Memory;
+use taf_moment::Moment;
+
+/// What is kept for the estimates of a journey: its newest anchor with the delays since, and the moment that was
+/// promised to the customer. Only [`EstimateAnchor::add`] takes memory.
+#[derive(Debug, Drop)]
+pub struct EstimateAnchor {
+    newest: Option<Anchor>,
+    commit: Moment,
+}
+
+impl Model for EstimateAnchor {
+    ghost use Rattle.std.specs.Prelude.{◌≤◌, Some};
+    ghost use Rattle.taf_moment.specs.Calendar.{last_minute};
+    ghost use Rattle.eti_chain.specs.EstimateStates.{EstimateAnchor, anchor_with_commitment, delays_of};
+
+    ghost Value = { EstimateAnchor };
+
+    ghost view = { λ a. anchor_with_commitment a.newest (Some a.commit) };
+
+    ghost invariant = { λ a. delays_of a.newest ≤ last_minute };
+}
+
+impl EstimateAnchor {
+    ghost use Rattle.eti_chain.specs.EstimateStates.{estimate_anchor, estimates_state};
+
+    /// What is kept for a track, of which no estimate passes the calendar. It walks the events.
+    pub fn of(track: &Track) -> EstimateAnchor
+        requires { of.fits track.now.events ≡ true }
+        ensures { result ≡ estimate_anchor track.now.events }
+    {
+        EstimateAnchor {
+            newest: EstimateBasis::of(track).anchor,
+            commit: track.plan().commit(),
+        }
+    }
+
+    /// The estimates of the track that this is kept for. It takes no walk.
+    pub fn estimates<'a>(&self, track: &'a Track) -> Estimates<'a>
+        requires of_track { self.now ≡ estimate_anchor track.now.events }
+        requires fits { of.fits track.now.events ≡ true }
+        ensures { result ≡ estimates_state track.now.events }
+    {
+        Estimates::by(EstimateBasis::with(self.newest, track), self.commit)
+    }
+
+    /// Adds an event to the track that this is kept for, and goes on with it. The event may come next, and no estimate
+    /// passes the calendar with it. Where memory is refused, both are as they were.
+    pub fn add(&mut self, track: &mut Track, event: Event) -> Result<(), Memory>
+        requires of_track { self.old ≡ estimate_anchor track.old.events }
+        requires admitted { refusal track.old.events event.by event.body ≡ None }
+        requires fits { of.fits (track.old.events ++ event ∷ []) ≡ true }
+        ensures track { OnOk result (track.new ≡ record track.old { events = track.old.events ++ event ∷ [] }) }
+        ensures kept { OnOk result (self.new ≡ estimate_anchor (track.old.events ++ event ∷ [])) }
+        ensures same_track { OnErr result (track.new ≡ track.old) }
+        ensures same { OnErr result (self.new ≡ self.old) }
+    {
+        let newest = anchor_after(self.newest, &event);
+        track.add(event)?;
+        self.newest = newest;
+        Ok(())
+    }
+
+    /// Adds a prepared event in the same way. It takes no memory.
+    pub fn put(&mut self, track: &mut Track, event: PreparedEvent)
+        requires of_track { self.old ≡ estimate_anchor track.old.events }
+        requires admitted { refusal track.old.events event.by event.body ≡ None }
+        requires fits { of.fits (track.old.events ++ event ∷ []) ≡ true }
+        requires room { length track.old.events + 1 < 2 ^ 63 }
+        ensures track { track.new ≡ record track.old { events = track.old.events ++ event ∷ [] } }
+        ensures kept { self.new ≡ estimate_anchor (track.old.events ++ event ∷ []) }
+    {
+        self.newest = anchor_after(self.newest, event.event());
+        track.put(event);
+    }
+}

@@ -1,0 +1,10 @@
+use Rattle.replay_numbers.specs.SentPositions.{position_of}
+use Rattle.outbox.specs.OutboxStates.{outbox_state_of}
+use Rattle.hub_tables.specs.TableStates.{table_state}
+use Rattle.hub_core.proofs.SendLemmas.{quiet_again}
+use Rattle.hub_core.proofs.send.apply_repeat.Goals as goal
+
+pub append_entry-requires-clause-quiet : goal.append_entry-requires-clause-quiet
+append_entry-requires-clause-quiet c =
+    let b = c.args.state.now in
+    quiet_again b.history.entries c.args.message (table_state b.tables) (position_of b.seen) (outbox_state_of b.outboxes) c.args.position _ c.requires.kept c.requires.sent_before

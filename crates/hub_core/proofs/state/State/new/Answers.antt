@@ -1,0 +1,11 @@
+use Rattle.std.proofs.Common.{rules, ℕ, Option, sym, subst}
+use Rattle.taf_codes.specs.declared.code.Railway.{Railway}
+use Rattle.outbox.specs.OutboxStates.{outbox_state_of}
+use Rattle.hub_tables.specs.TableStates.{table_state}
+use Rattle.hub_core.specs.States.{Represents}
+use Rattle.hub_core.proofs.state.State.new.Goals as goal
+
+pub returns-clause-kept : goal.returns-clause-kept
+returns-clause-kept c =
+    subst (λ (found : Railway → ℕ → Option ℕ). Represents c.new.result.entries (table_state c.new-2.result) found (outbox_state_of c.new-4.result)) (sym c.new-3.ensures)
+    (search rules)

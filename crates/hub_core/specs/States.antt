@@ -1,0 +1,63 @@
+-- When the hub's books are kept.
+use Rattle.std.specs.Prelude.{◌≡◌, ℕ, ◌≤◌, List, length, slice_get, Option, Some, None, Result, Ok, Err}
+use Rattle.taf_codes.specs.declared.code.Railway.{Railway}
+use Rattle.taf_messages.specs.declared.call.Call.TheVariants.{Send}
+use Rattle.taf_messages.specs.declared.message.Message.{Message}
+use Rattle.taf_messages.specs.declared.reply.Reply.{Reply}
+use Rattle.taf_messages.specs.declared.reply.Reply.TheVariants.{Acknowledged, Refused}
+use Rattle.taf_messages.specs.declared.reply.Why.TheVariants as why
+use Rattle.outbox.specs.declared.fault.AckAhead.{AckAhead}
+use Rattle.outbox.specs.OutboxStates.{OutboxState, outbox_state_of}
+use Rattle.outbox.specs.Keeping.{Keeps}
+use Rattle.replay_numbers.specs.SentPositions.{position_of}
+use Rattle.hub_model.specs.declared.entry.Entry.{Entry}
+use Rattle.hub_model.specs.HubState.{HubState, FirstSend, moment_in}
+use Rattle.hub_model.specs.Histories.{state_of, IsLegal}
+use Rattle.hub_model.specs.Laws.{AreDated, IsMoment}
+use Rattle.hub_model.specs.Bounds.{AreWithinLimits, IsWithinLimits}
+use Rattle.hub_tables.specs.TableStates.{table_state, table_part}
+use Rattle.hub_core.specs.declared.state.State.{State}
+
+-- the entry of a send
+abbrev pub entry_of : FirstSend → Entry
+entry_of reply_copy = record { call = Send reply_copy.message; reply = reply_copy.reply }
+
+-- the position, if there is one, is that of the first send, if there is one
+abbrev pub LeadsTo : List Entry → Option ℕ → Option FirstSend → Type 0
+LeadsTo history None None = Unit {0}
+LeadsTo history (Some position) (Some reply_copy) = slice_get history position ≡ Some (entry_of reply_copy)
+LeadsTo history _ _ = ⊥
+
+-- no offer has a name that was not sent
+abbrev pub OffersWereSent : HubState → Type 0
+OffersWereSent s = (by : Railway) (n : ℕ) → s.first_send by n ≡ None → s.offer by n ≡ None
+
+-- the message's moment is of the calendar, and its lists keep their limits
+abbrev pub KeepsLimits : Message → Type 0
+KeepsLimits m = IsMoment (moment_in m.body) × IsWithinLimits m
+
+-- the history is legal, and what is looked up is what the model knows after it
+pub record Represents (history : List Entry) (looked_up : HubState) (position : Railway → ℕ → Option ℕ) (box : Railway → OutboxState) : Type 0 where
+  pub legal : IsLegal history
+  pub dated : AreDated history
+  pub within : AreWithinLimits history
+  pub few : length history ≤ 1000000
+  pub tables : looked_up ≡ table_part (state_of history)
+  pub firsts : (by : Railway) (n : ℕ) → LeadsTo history (position by n) ((state_of history).first_send by n)
+  pub boxes : (r : Railway) → Keeps (box r) ((state_of history).outbox r) ((state_of history).acknowledged r)
+  pub offers : OffersWereSent (state_of history)
+
+-- the books of a hub are kept
+abbrev pub IsConsistent : State → Type 0
+IsConsistent b = Represents b.history.entries (table_state b.tables) (position_of b.seen) (outbox_state_of b.outboxes)
+
+-- what is looked up stays
+pub record SameLookups (a b : State) : Type 0 where
+  pub tables : table_state b.tables ≡ table_state a.tables
+  pub positions : (by : Railway) (n : ℕ) → position_of b.seen by n ≡ position_of a.seen by n
+  pub boxes : (r : Railway) → outbox_state_of b.outboxes r ≡ outbox_state_of a.outboxes r
+
+-- the reply to an acknowledgement that stands, or is ahead
+abbrev pub ack_outcome_reply : Result ℕ AckAhead → Reply
+ack_outcome_reply (Ok stands) = Acknowledged stands
+ack_outcome_reply (Err ahead) = Refused None why.AckAhead None (Some ahead.last)

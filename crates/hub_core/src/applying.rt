@@ -1,0 +1,43 @@
+//! What each call does to the books.
+ghost use Rattle.std.specs.Prelude.{◌≡◌, ◌<◌, ◌∷◌, [], ◌++◌, length, IfOk, OnErr};
+ghost use Rattle.hub_model.specs.Histories.{answer};
+ghost use Rattle.hub_core.specs.States.{IsConsistent};
+
+use crate::ack::apply_ack;
+use crate::ask::{ask_reply, deviation_reply, fetch_reply, unit_reply};
+use crate::state::{State, append_entry};
+use crate::send::apply_send;
+use std::alloc::Global;
+use taf_codes::Memory;
+use taf_messages::{Call, Reply};
+
+/// Takes a call, and gives the reply to be told. Where memory is refused, nothing that is looked up changes.
+pub fn apply_call(alloc: Global, state: &mut State, call: Call) -> Result<Reply, Memory>
+    requires kept { IsConsistent state.old }
+    requires room { length state.old.history.entries < 1000000 }
+    ensures kept { IsConsistent state.new }
+    ensures answered { IfOk result (λ r. r ≡ answer state.old.history.entries call) }
+    ensures grows { IfOk result (λ r. state.new.history.entries ≡ state.old.history.entries ++ record { call = call; reply = r } ∷ []) }
+    ensures err { OnErr result (state.new.history.entries ≡ state.old.history.entries) }
+{
+    match call {
+        Call::Send(message) => apply_send(alloc, state, message),
+        Call::Ask { by, wagon } => {
+            let reply = ask_reply(alloc, state, by, wagon)?;
+            append_entry(state, Call::Ask { by, wagon }, reply)
+        }
+        Call::AskUnit { by, unit } => {
+            let reply = unit_reply(alloc, state, by, unit)?;
+            append_entry(state, Call::AskUnit { by, unit }, reply)
+        }
+        Call::Deviation { by, consignment } => {
+            let reply = deviation_reply(alloc, state, by, consignment)?;
+            append_entry(state, Call::Deviation { by, consignment }, reply)
+        }
+        Call::Fetch { by, limit } => {
+            let reply = fetch_reply(alloc, state, by, limit)?;
+            append_entry(state, Call::Fetch { by, limit }, reply)
+        }
+        Call::Ack { by, item } => apply_ack(state, by, item),
+    }
+}

@@ -1,0 +1,58 @@
+//! The hub's books.
+ghost use Rattle.std.specs.Prelude.{◌≡◌, ◌<◌, ◌^◌, [], ◌∷◌, ◌++◌, length, IfOk, OnOk, OnErr};
+ghost use Rattle.hub_model.specs.Updates.{after};
+ghost use Rattle.hub_model.specs.Histories.{answer, state_of};
+ghost use Rattle.hub_model.specs.Laws.{IsSend};
+ghost use Rattle.hub_core.specs.States.{IsConsistent, KeepsLimits};
+
+use history_pages::Pages;
+use hub_model::Entry;
+use hub_tables::Tables;
+use outbox::Outboxes;
+use replay_numbers::Seen;
+use std::alloc::Global;
+use taf_codes::Memory;
+use taf_messages::{Call, Reply, copy_reply};
+
+/// What the hub keeps: its history, and the tables by which it looks things up.
+#[derive(Drop)]
+pub struct State {
+    pub history: Pages<Entry>,
+    pub tables: Tables,
+    pub seen: Seen,
+    pub outboxes: Outboxes,
+}
+
+impl State {
+    /// The books of a hub that has taken no call.
+    pub fn new(alloc: Global) -> State
+        ensures history { result.history.entries ≡ [] }
+        ensures kept { IsConsistent result }
+    {
+        State {
+            history: Pages::new(alloc),
+            tables: Tables::new(alloc),
+            seen: Seen::new(alloc),
+            outboxes: Outboxes::new(alloc),
+        }
+    }
+}
+
+#[tactic(auto, using(crate::proofs::HistoryLemmas::kept_entered))]
+/// Enters a call with its answer, which changes nothing that is looked up. Gives the reply to be told.
+pub fn append_entry(state: &mut State, call: Call, reply: Reply) -> Result<Reply, Memory>
+    requires kept { IsConsistent state.old }
+    requires room { length state.old.history.entries < 1000000 }
+    requires answered { reply ≡ answer state.old.history.entries call }
+    requires quiet { after (state_of state.old.history.entries) (record { call = call; reply = reply }) ≡ state_of state.old.history.entries }
+    requires limits { IsSend KeepsLimits call }
+    ensures kept { IsConsistent state.new }
+    ensures reply_copy { IfOk result (λ reply_copy. reply_copy ≡ reply) }
+    ensures entered { OnOk result (state.new.history.entries ≡ state.old.history.entries ++ record { call = call; reply = reply } ∷ []) }
+    ensures err { OnErr result (state.new.history.entries ≡ state.old.history.entries) }
+{
+    let reply_copy = copy_reply(&reply)?;
+    state.history.reserve()?;
+    state.history.push_reserved(Entry { call, reply });
+    Ok(reply_copy)
+}

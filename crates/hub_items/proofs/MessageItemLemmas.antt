@@ -1,0 +1,76 @@
+-- What is told are the notices, the estimates that are news and the alerts.
+use Rattle.std.proofs.Common.{◌≡◌, ℕ, List, [], ◌∷◌, ◌++◌, Option, Some, None, refl, sym, ap, ◌∙◌, append-nil}
+use Rattle.std.specs.Prelude.{map, flat_map, option_to_list}
+use Rattle.taf_codes.specs.declared.code.Railway.{Railway}
+use Rattle.taf_messages.specs.declared.message.Message.{Message}
+use Rattle.taf_messages.specs.declared.item.ItemBody.TheVariants as item
+use Rattle.journey.specs.declared.event.Event.{Event}
+use Rattle.hub_model.specs.declared.addressed_item.AddressedItem.{AddressedItem}
+use Rattle.hub_model.specs.HubState.{HubState, named_wagons, journey_after}
+use Rattle.hub_model.specs.Items.{each_once, notice_receivers, sub_items, notices, estimate_items, alert_items}
+use Rattle.journey.specs.Journey.{NextEvent, after}
+use Rattle.hub_items.specs.MessageItems.{all_items}
+
+-- of a wagon
+abbrev estimates_at : HubState → Message → ℕ → List AddressedItem
+estimates_at s m w = estimate_items (s.journey w) (journey_after s m w) w
+
+abbrev alerts_at : HubState → Message → ℕ → List AddressedItem
+alerts_at s m w = alert_items (s.journey w) (journey_after s m w) w
+
+-- they are put one after another
+pub items_of_many_wagons : (s : HubState) (m : Message) (first second none alerts last : List AddressedItem) (wagons : List ℕ) → first ≡ notices s m → wagons ≡ named_wagons s.offer m →
+    second ≡ first ++ flat_map (λ w. estimate_items (s.journey w) (journey_after s m w) w) wagons →
+    none ≡ [] → alerts ≡ none ++ flat_map (λ w. alert_items (s.journey w) (journey_after s m w) w) wagons →
+    last ≡ second ++ alerts → last ≡ all_items s m
+items_of_many_wagons s m first second none alerts last wagons f ws a e b t =
+    t ∙ ap (λ ys. ys ++ alerts) (a ∙ ap (λ ys. ys ++ flat_map (estimates_at s m) wagons) f) ∙
+    ap (λ ys. (notices s m ++ flat_map (estimates_at s m) wagons) ++ ys) (b ∙ ap (λ ys. ys ++ flat_map (alerts_at s m) wagons) e) ∙
+    ap (λ us. (notices s m ++ flat_map (estimates_at s m) us) ++ flat_map (alerts_at s m) us) ws
+
+once_one : (found : Option Railway) → each_once (option_to_list found) ≡ option_to_list found
+once_one None = refl
+once_one (Some r) = refl
+
+-- the notice of a message for each of the railways
+abbrev to_each : List Railway → Message → List AddressedItem
+to_each railways m = map (λ r. record { to = r; body = item.Notice m }) railways
+
+one_noticed : (s : HubState) (m : Message) (receiver : Option Railway) → notice_receivers s (journey_after s m) m.by m.body ≡ option_to_list receiver → sub_items m.by m.body ≡ [] →
+    to_each (option_to_list receiver) m ≡ notices s m
+one_noticed s m receiver is none =
+    sym (
+    ap (λ subs. to_each (each_once (notice_receivers s (journey_after s m) m.by m.body)) m ++ subs) none ∙
+    append-nil (to_each (each_once (notice_receivers s (journey_after s m) m.by m.body)) m) ∙
+    ap (λ rs. to_each (each_once rs) m) is ∙ ap (λ rs. to_each rs m) (once_one receiver))
+
+-- a wagon's items by its progress are those of the message, if it names no other wagon
+of_one : (s : HubState) (m : Message) (w : ℕ) (p : NextEvent) (f : List Event → List Event → ℕ → List AddressedItem) → named_wagons s.offer m ≡ w ∷ [] →
+    p.wagon ≡ w → p.before ≡ s.journey w → after p ≡ journey_after s m w →
+    f p.before (after p) p.wagon ≡ flat_map (λ v. f (s.journey v) (journey_after s m v) v) (named_wagons s.offer m)
+of_one s m w p f n wagon before behind =
+    ap (λ es. f es (after p) p.wagon) before ∙ ap (λ es. f (s.journey w) es p.wagon) behind ∙ ap (λ v. f (s.journey w) (journey_after s m w) v) wagon ∙
+    sym (append-nil (f (s.journey w) (journey_after s m w) w)) ∙ ap (λ ws. flat_map (λ v. f (s.journey v) (journey_after s m v) v) ws) (sym n)
+
+-- a message on one wagon has its notice, if it has one, told to one railway
+pub items_of_one_wagon : (s : HubState) (m copy : Message) (w : ℕ) (receiver : Option Railway) (p : NextEvent) → copy ≡ m → named_wagons s.offer m ≡ w ∷ [] →
+    notice_receivers s (journey_after s m) m.by m.body ≡ option_to_list receiver → sub_items m.by m.body ≡ [] →
+    p.wagon ≡ w → p.before ≡ s.journey w → after p ≡ journey_after s m w →
+    map (λ r. record { to = r; body = item.Notice copy }) (option_to_list receiver) ++ estimate_items p.before (after p) p.wagon ++ alert_items p.before (after p) p.wagon ≡ all_items s m
+items_of_one_wagon s m copy w receiver p same n is none wagon before behind =
+    ap (λ xs. xs ++ estimate_items p.before (after p) p.wagon ++ alert_items p.before (after p) p.wagon) (ap (to_each (option_to_list receiver)) same ∙ one_noticed s m receiver is none) ∙
+    ap (λ xs. notices s m ++ xs ++ alert_items p.before (after p) p.wagon) (of_one s m w p estimate_items n wagon before behind) ∙
+    ap (λ xs. notices s m ++ flat_map (estimates_at s m) (named_wagons s.offer m) ++ xs) (of_one s m w p alert_items n wagon before behind)
+
+-- the same where nothing is told of the wagon's estimates
+pub items_of_notice_alone : (s : HubState) (m copy : Message) (w : ℕ) (receiver : Option Railway) (p : NextEvent) → copy ≡ m → named_wagons s.offer m ≡ w ∷ [] →
+    notice_receivers s (journey_after s m) m.by m.body ≡ option_to_list receiver → sub_items m.by m.body ≡ [] →
+    p.wagon ≡ w → p.before ≡ s.journey w → after p ≡ journey_after s m w →
+    estimate_items p.before (after p) p.wagon ≡ [] → alert_items p.before (after p) p.wagon ≡ [] →
+    map (λ r. record { to = r; body = item.Notice copy }) (option_to_list receiver) ≡ all_items s m
+items_of_notice_alone s m copy w receiver p same n is none wagon before behind no_estimates no_alerts =
+    sym (
+    ap (λ xs. to_each (option_to_list receiver) copy ++ xs ++ alert_items p.before (after p) p.wagon) no_estimates ∙
+    ap (λ xs. to_each (option_to_list receiver) copy ++ [] ++ xs) no_alerts ∙
+    append-nil (to_each (option_to_list receiver) copy ++ []) ∙ append-nil (to_each (option_to_list receiver) copy)) ∙
+    items_of_one_wagon s m copy w receiver p same n is none wagon before behind

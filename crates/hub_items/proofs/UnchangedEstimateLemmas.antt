@@ -1,0 +1,140 @@
+-- An event that keeps the estimates has nothing told of them.
+use Rattle.std.proofs.Common.{◌≡◌, ℕ, ◌+◌, ◌-◌, Bool, true, false, cond, zero, suc, List, [], ◌∷◌, ◌++◌, length, Option, Some, None, refl, ap, ◌∙◌, sym, add-zero}
+use Rattle.std.specs.Prelude.{filter, filter_map, flat_map, not, ◌||◌, nat_eq, slice_get, option_map, option_to_list, is_some, map}
+use Rattle.std.specs.Option.{option_eq, option_and_then, option_or}
+use Rattle.std.specs.List.{range_with_len, cons_option}
+use Rattle.std.proofs.lemmas.Bool.{false≢true}
+use Rattle.std.proofs.Math.Dec.{eqb-suc-suc}
+use Rattle.std.proofs.lemmas.Slice.Eq.{bytes_eq-Decides}
+use Rattle.taf_codes.specs.Words.{same_text}
+use Rattle.taf_codes.specs.declared.code.Railway.{Railway}
+use Rattle.trip_plan.specs.declared.parts.Leg.{Leg}
+use Rattle.trip_plan.specs.Trip.{Trip}
+use Rattle.taf_messages.specs.declared.item.ItemBody.{ItemBody}
+use Rattle.taf_messages.specs.declared.item.ItemBody.TheVariants as item
+use Rattle.taf_messages.specs.declared.movement.MovementKind.{MovementKind}
+use Rattle.taf_messages.specs.declared.movement.MovementKind.TheVariants.{Release, Departure, YardArrival, YardDeparture, Exception, Estimate, Arrival, Delivery}
+use Rattle.taf_messages.specs.declared.record.EstimateAt.{EstimateAt}
+use Rattle.journey.specs.declared.event.Event.{Event}
+use Rattle.journey.specs.declared.event.EventBody.{EventBody}
+use Rattle.journey.specs.declared.event.EventBody.TheVariants.{Planned, Moved, EstimateAsked, LegTimed, Offered, Answered, Withdrawn, Rerouted}
+use Rattle.journey.specs.Stages.{plan, plan_in}
+use Rattle.journey.specs.Legs.{legs, runner_of, lead_of}
+use Rattle.journey.proofs.LegPositionLemmas.{plan-push}
+use Rattle.eti_chain.specs.declared.anchor.Anchor.{Anchor}
+use Rattle.eti_chain.specs.Estimates.{estimate, eta, late_by, lateness, is_late, is_anchor, delay_in}
+use Rattle.eti_chain.specs.EstimateStates.{EstimateBasis, anchor, anchor_in, delayed, with_delays, basis_from, estimate_basis, end_in}
+use Rattle.eti_chain.proofs.EstimateStateLemmas.{anchor-push, end_by_basis}
+use Rattle.eti_chain.proofs.EstimateLemmas.{IsSilent, legs-kept, leg_index-kept, silent_yard_arrival, silent_yard_departure, silent_offered, silent_withdrawn, silent_asked}
+use Rattle.hub_model.specs.Items.{is_news, estimate_item, estimate_items, alert_receivers, alert_items, movement_receivers}
+use Rattle.hub_items.specs.Transitions.{keeps_estimates}
+
+-- an event that is silent, and neither an anchor nor a plan
+pub record IsStill (body : EventBody) : Type 0 where
+  pub silent : IsSilent body
+  pub no_anchor : (at : Option ℕ) → anchor_in at body ≡ None
+  pub no_plan : plan_in body ≡ None
+
+pub still : (body : EventBody) → keeps_estimates body ≡ true → IsStill body
+still (Moved (YardArrival place)) h = record { silent = silent_yard_arrival place; no_anchor = λ at. refl; no_plan = refl }
+still (Moved (YardDeparture place)) h = record { silent = silent_yard_departure place; no_anchor = λ at. refl; no_plan = refl }
+still EstimateAsked h = record { silent = silent_asked; no_anchor = λ at. refl; no_plan = refl }
+still (Offered place to) h = record { silent = silent_offered place to; no_anchor = λ at. refl; no_plan = refl }
+still (Withdrawn place) h = record { silent = silent_withdrawn place; no_anchor = λ at. refl; no_plan = refl }
+still (Planned p) h = absurd (false≢true h)
+still (Moved Release) h = absurd (false≢true h)
+still (Moved Departure) h = absurd (false≢true h)
+still (Moved (Exception delay)) h = absurd (false≢true h)
+still (Moved Estimate) h = absurd (false≢true h)
+still (Moved Arrival) h = absurd (false≢true h)
+still (Moved Delivery) h = absurd (false≢true h)
+still (LegTimed leg minutes) h = absurd (false≢true h)
+still (Answered place received) h = absurd (false≢true h)
+still (Rerouted route) h = absurd (false≢true h)
+
+-- of a movement that keeps the estimates the lead is told
+pub lead_told : (events : List Event) (what : MovementKind) → keeps_estimates (Moved what) ≡ true → movement_receivers events what ≡ option_to_list (lead_of events)
+lead_told events Release h = absurd (false≢true h)
+lead_told events Departure h = refl
+lead_told events (YardArrival place) h = refl
+lead_told events (YardDeparture place) h = refl
+lead_told events (Exception delay) h = refl
+lead_told events Estimate h = absurd (false≢true h)
+lead_told events Arrival h = refl
+lead_told events Delivery h = refl
+
+undelayed : (a : Option Anchor) (body : EventBody) → is_anchor body ≡ false → delay_in body ≡ 0 → delayed a body ≡ a
+undelayed None body h k = refl
+undelayed (Some a) body h k =
+    ap (λ (b : Bool). Some (with_delays (cond b 0 (a.delays + delay_in body)) a)) h ∙ ap (λ n. Some (with_delays (a.delays + n) a)) k ∙
+    ap (λ n. Some (with_delays n a)) (add-zero a.delays)
+
+first_out : (p : EstimateAt → Bool) (j : ℕ) (o : Option ℕ) (rest : List EstimateAt) → ((at : ℕ) → o ≡ Some at → p (record { leg = j; at = at }) ≡ false) → filter p rest ≡ [] →
+    filter p (cons_option (option_map (λ at. record { leg = j; at = at }) o) rest) ≡ []
+first_out p j None rest h t = t
+first_out p j (Some at) rest h t = rw (h at refl) t
+
+-- where no estimate passes, nothing is left
+none_pass : (p : EstimateAt → Bool) (f : ℕ → Option ℕ) → ((j at : ℕ) → f j ≡ Some at → p (record { leg = j; at = at }) ≡ false) → (js : List ℕ) →
+    filter p (filter_map (λ j. option_map (λ at. record { leg = j; at = at }) (f j)) js) ≡ []
+none_pass p f h [] = refl
+none_pass p f h (j ∷ js) = first_out p j (f j) (filter_map (λ j. option_map (λ at. record { leg = j; at = at }) (f j)) js) (h j) (none_pass p f h js)
+
+same_number : (n : ℕ) → nat_eq n n ≡ true
+same_number zero = refl
+same_number (suc n) = eqb-suc-suc n n ∙ same_number n
+
+same_name : (o : Option Railway) → same_text o o ≡ true
+same_name None = refl
+same_name (Some r) = (bytes_eq-Decides r r).1 refl
+
+-- an alert goes on as it was
+continues_journeys : (w : ℕ) (o : Option ℕ) → cond (is_some o) (cond (is_some o) None (Some (item.AlertEnds w))) (option_map (λ minutes. item.AlertBegins w minutes) o) ≡ None
+continues_journeys w None = refl
+continues_journeys w (Some minutes) = refl
+
+module _ (events : List Event) (e : Event) (k : IsStill e.body) where
+  abbrev more : List Event
+  more = events ++ e ∷ []
+
+  anchor_left : anchor more ≡ anchor events
+  anchor_left =
+      anchor-push events e ∙ ap (λ o. option_or o (delayed (anchor events) e.body)) (k.no_anchor e.at) ∙
+      undelayed (anchor events) e.body k.silent.no_anchor k.silent.no_delay
+
+  legs_left : legs more ≡ legs events
+  legs_left = legs-kept events e k.silent.keeps_legs
+
+  reckoning_left : estimate_basis more ≡ estimate_basis events
+  reckoning_left = λ i. basis_from (leg_index-kept events e k.silent.no_reception i) (legs_left i) (anchor_left i)
+
+  pub estimate_left : (j : ℕ) → estimate more j ≡ estimate events j
+  estimate_left j = sym (end_by_basis more j) ∙ ap (λ (r : EstimateBasis). end_in r j) reckoning_left ∙ end_by_basis events j
+
+  eta_left : eta more ≡ eta events
+  eta_left = ap (λ (ls : List Leg). estimate more (length ls - 1)) legs_left ∙ estimate_left (length (legs events) - 1)
+
+  late_by_left : late_by more ≡ late_by events
+  late_by_left =
+      ap (λ (o : Option Trip). option_and_then (λ p. option_and_then (lateness p.commit) (eta more)) o) (plan-push events e ∙ ap (λ (o : Option Trip). option_or o (plan events)) k.no_plan) ∙
+      ap (λ (o : Option ℕ). option_and_then (λ p. option_and_then (lateness p.commit) o) (plan events)) eta_left
+
+  no_news : (j at : ℕ) → estimate more j ≡ Some at → is_news events more (record { leg = j; at = at }) ≡ false
+  no_news j at h =
+      ap (λ (o : Option ℕ). not (option_eq nat_eq o (Some at)) || not (same_text (runner_of events (j + 1)) (runner_of more (j + 1)))) (sym (estimate_left j) ∙ h) ∙
+      ap (λ (b : Bool). not b || not (same_text (runner_of events (j + 1)) (runner_of more (j + 1)))) (same_number at) ∙
+      ap (λ (b : Bool). not b) (ap (λ (o : Option Railway). same_text (runner_of events (j + 1)) o) (runner_left (j + 1)) ∙ same_name (runner_of events (j + 1)))
+    where
+      runner_left : (i : ℕ) → runner_of more i ≡ runner_of events i
+      runner_left i = ap (λ (ls : List Leg). option_map (λ l. l.ru) (slice_get ls i)) legs_left
+
+  -- no estimate is news
+  pub no_estimate_items : (w : ℕ) → estimate_items events more w ≡ []
+  no_estimate_items w =
+      ap (flat_map (estimate_item more w)) (none_pass (is_news events more) (estimate more) no_news (range_with_len 0 (length (legs more))))
+
+  -- no alert begins or ends
+  pub no_alert_items : (w : ℕ) → alert_items events more w ≡ []
+  no_alert_items w =
+      ap (λ (o : Option ItemBody). flat_map (λ says. map (λ r. record { to = r; body = says }) (alert_receivers more)) (option_to_list o))
+      (ap (λ (o : Option ℕ). cond (is_late events) (cond (is_some o) None (Some (item.AlertEnds w))) (option_map (λ minutes. item.AlertBegins w minutes) o)) late_by_left ∙ continues_journeys w (late_by events))

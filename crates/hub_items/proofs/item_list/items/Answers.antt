@@ -1,0 +1,15 @@
+use Rattle.std.proofs.Common.{ap, ◌∙◌}
+use Rattle.std.specs.Prelude.{filter, not, bytes_eq}
+use Rattle.taf_codes.specs.declared.code.Railway.{Railway}
+use Rattle.taf_messages.specs.declared.message.Message.{Message}
+use Rattle.hub_model.specs.declared.addressed_item.AddressedItem.{AddressedItem}
+use Rattle.hub_tables.specs.TableStates.{table_state}
+use Rattle.hub_items.specs.MessageItems.{all_items}
+use Rattle.hub_items.proofs.item_list.items.Goals as goal
+
+pub returns : goal.returns
+returns c =
+    let said = c.get-said in
+    c.keep_others.ensures ∙ ap (λ (by : Railway). filter (λ (i : AddressedItem). not (bytes_eq i.to by)) c.in_ok-items.items.items) c.by.ensures ∙
+    ap (filter (λ (i : AddressedItem). not (bytes_eq i.to said.result.now.by))) c.in_ok-items.ensures ∙
+    ap (λ (m : Message). filter (λ (i : AddressedItem). not (bytes_eq i.to m.by)) (all_items (table_state c.args.tables.now) m)) said.ensures

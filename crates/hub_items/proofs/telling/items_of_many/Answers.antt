@@ -1,9 +1,0 @@
-use Rattle.std.proofs.Common.{◌∙◌}
-use Rattle.hub_tables.specs.Tabled.{known}
-use Rattle.hub_items.proofs.Told.{told_of_many}
-use Rattle.hub_items.proofs.telling.items_of_many.Goals as goal
-
-pub returns : goal.returns
-returns c =
-    told_of_many (known c.args.tables.now) c.args.message.now _ _ _ _ _ _ c.in_ok-items.ensures (c.as_slice.ensures.value ∙ c.in_ok-wagons.ensures)
-    c.in_ok-put_of_wagons.ensures.estimates c.new-alerts.ensures.items c.in_ok-put_of_wagons.ensures.alerts c.in_ok-append.ensures.items

@@ -1,0 +1,14 @@
+use Rattle.std.proofs.Common.{◌∙◌, ap, sym}
+use Rattle.std.specs.Prelude.{option_map}
+use Rattle.journey.specs.declared.journey_state.JourneyState.{JourneyState}
+use Rattle.journey.specs.Journey.{Journey, NextEvent, after}
+use Rattle.journey.specs.Legs.{lead_of}
+use Rattle.journey.proofs.SoundStateLemmas.{plan-kept}
+use Rattle.hub_items.proofs.wagon_change.WagonEvent.lead.Goals as goal
+
+pub returns : goal.returns
+returns c =
+    let next = c.self.inside in
+    ap (λ (s : JourneyState). s.lead) c.journey_state.ensures ∙ ap (λ (j : Journey). lead_of j.events) c.track.ensures ∙
+    ap (option_map (λ p. p.lead)) (sym (plan-kept next.wagon.now.events next.event c.self.invariant.admitted)) ∙
+    ap (λ (o : NextEvent). lead_of (after o)) c.self.view_is

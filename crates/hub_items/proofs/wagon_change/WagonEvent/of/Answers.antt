@@ -1,0 +1,29 @@
+use Rattle.std.proofs.Common.{List, ◌∙◌, ap}
+use Rattle.journey.specs.declared.event.Event.{Event}
+use Rattle.journey.specs.Journey.{Journey}
+use Rattle.journey.specs.Checks.{refusal}
+use Rattle.eti_chain.specs.Estimates.{fits}
+use Rattle.hub_model.specs.HubState.{event_body_for}
+use Rattle.hub_tables.specs.TableStates.{table_state}
+use Rattle.hub_items.proofs.AcceptanceLemmas.{same_after}
+use Rattle.hub_items.proofs.wagon_change.WagonEvent.of.Goals as goal
+
+pub invariant_of-result : goal.invariant_of-result
+invariant_of-result c =
+    let s = table_state c.args.tables.now in
+    let m = c.args.message.now in
+    let ok = c.requires.acceptable in
+    let events = ap (λ (j : Journey). j.events) c.in-Some.ensures.found in
+    let is_last = same_after s m c.args.wagon _ _ ok c.requires.no_plan c.requires.is_named events c.in_ok-event.ensures in
+    record {
+      admitted =
+          ap (λ (e : Event). refusal c.in-Some.found.now.events e.by e.body) c.in_ok-event.ensures ∙
+          ap (λ (es : List Event). refusal es m.by (event_body_for s.offer m.by m.body c.args.wagon)) events ∙
+          ok.admitted c.requires.no_plan c.args.wagon c.requires.is_named;
+      fits_after = ap fits is_last ∙ ok.fits_after c.args.wagon;
+    }
+
+pub returns-clause-after : goal.returns-clause-after
+returns-clause-after c =
+    same_after (table_state c.args.tables.now) c.args.message.now c.args.wagon _ _ c.requires.acceptable c.requires.no_plan c.requires.is_named
+    (ap (λ (j : Journey). j.events) c.in-Some.ensures.found) c.in_ok-event.ensures

@@ -1,0 +1,21 @@
+-- What a message has told, before the items for its sender are taken out.
+use Rattle.std.specs.Prelude.{Bool, true, false, List, ◌++◌, flat_map}
+use Rattle.taf_messages.specs.declared.message.Message.{Message}
+use Rattle.taf_messages.specs.declared.message.Body.{Body}
+use Rattle.taf_messages.specs.declared.message.Body.TheVariants as body
+use Rattle.hub_model.specs.declared.addressed_item.AddressedItem.{AddressedItem}
+use Rattle.hub_model.specs.HubState.{HubState, named_wagons, journey_after}
+use Rattle.hub_model.specs.Items.{notices, estimate_items, alert_items}
+
+-- at most one railway gets the notice, and its wagon's journey tells which
+abbrev pub has_one_receiver : Body → Bool
+has_one_receiver (body.Movement m) = true
+has_one_receiver (body.EtiAsk w) = true
+has_one_receiver _ = false
+
+-- the notices, the estimates that are news, and the alerts
+abbrev pub all_items : HubState → Message → List AddressedItem
+all_items s m =
+    notices s m ++
+    flat_map (λ w. estimate_items (s.journey w) (journey_after s m w) w) (named_wagons s.offer m) ++
+    flat_map (λ w. alert_items (s.journey w) (journey_after s m w) w) (named_wagons s.offer m)

@@ -1,0 +1,40 @@
+-- A journey with one event more.
+use Rattle.std.specs.Prelude.{◌≡◌, ℕ, Bool, true, false, List, Option, None, option_map, option_to_list, filter, flat_map}
+use Rattle.taf_messages.specs.declared.movement.MovementKind.TheVariants.{YardArrival, YardDeparture}
+use Rattle.taf_messages.specs.declared.record.EstimateAt.{EstimateAt}
+use Rattle.journey.specs.declared.event.EventBody.{EventBody}
+use Rattle.journey.specs.declared.event.EventBody.TheVariants.{Moved, EstimateAsked, Offered, Withdrawn}
+use Rattle.journey.specs.Journey.{Journey, NextEvent, after}
+use Rattle.journey.specs.Checks.{refusal}
+use Rattle.eti_chain.specs.EstimateStates.{EstimatesState, estimates_state}
+use Rattle.eti_chain.specs.Estimates.{estimate, fits}
+use Rattle.hub_model.specs.declared.addressed_item.AddressedItem.{AddressedItem}
+use Rattle.hub_model.specs.Items.{is_news, estimate_item}
+
+-- the event may come next, and the estimates stay in the calendar
+pub record IsNextEvent (o : NextEvent) : Type 0 where
+  pub admitted : refusal o.before o.event.by o.event.body ≡ None
+  pub fits_after : fits (after o) ≡ true
+
+-- the step is one of this wagon, and the estimates are those of the events with the next one
+pub record IsTransitionOf (j : Journey) (o : NextEvent) (c : EstimatesState) : Type 0 where
+  pub wagon_is : o.wagon ≡ j.wagon
+  pub before_is : o.before ≡ j.events
+  pub estimates_are : c ≡ estimates_state (after o)
+
+-- an event that leaves the legs and the anchor of the estimates as they are, and delays nothing (4.2.6)
+abbrev pub keeps_estimates : EventBody → Bool
+keeps_estimates (Moved (YardArrival place)) = true
+keeps_estimates (Moved (YardDeparture place)) = true
+keeps_estimates EstimateAsked = true
+keeps_estimates (Offered place to) = true
+keeps_estimates (Withdrawn place) = true
+keeps_estimates _ = false
+
+-- the estimate of a leg with the event
+abbrev pub estimate_of : NextEvent → ℕ → Option EstimateAt
+estimate_of o leg = option_map (λ at. record { leg = leg; at = at }) (estimate (after o) leg)
+
+-- its item, if it is news
+abbrev pub news_of : NextEvent → ℕ → List AddressedItem
+news_of o leg = flat_map (estimate_item (after o) o.wagon) (filter (is_news o.before (after o)) (option_to_list (estimate_of o leg)))

@@ -1,0 +1,254 @@
+//! The items of an accepted message.
+ghost use Rattle.std.specs.Prelude.{◌≡◌, ◌++◌, ◌∷◌, [], IfOk, OnOk, true, false, not, filter, map, flat_map, option_to_list, if◌then◌else◌, bytes_eq};
+ghost use Rattle.trip_plan.specs.Rules.{has};
+ghost use Rattle.eti_chain.specs.Estimates.{is_late};
+ghost use Rattle.taf_messages.specs.declared.message.Body.TheVariants as body;
+ghost use Rattle.hub_model.specs.HubState.{named_wagons, journey_after};
+ghost use Rattle.hub_model.specs.Items as of;
+ghost use Rattle.hub_tables.specs.TableStates.{IsAcceptable, table_state};
+ghost use Rattle.journey.specs.Journey.{after};
+ghost use Rattle.hub_items.specs.MessageItems.{has_one_receiver, all_items};
+
+use crate::alerts::put_alerts;
+use crate::estimates::put_estimates;
+use crate::notices::notices;
+use crate::receivers::movement_receivers;
+use crate::wagon_change::{WagonEvent, WagonChange};
+use hub_model::AddressedItem;
+use hub_tables::Tables;
+use std::alloc::Global;
+use taf_codes::{Memory, Railway};
+use taf_messages::{Body, ItemBody, Message, Movement, Shared};
+use wagon_number::WagonNumber;
+
+/// What an acceptable message has the railways told, in order; nothing goes to its own sender.
+pub fn items(
+    alloc: Global,
+    tables: &Tables,
+    message: &Shared<Message>,
+) -> Result<Vec<AddressedItem>, Memory>
+    requires { IsAcceptable (table_state tables.now) message.now }
+    ensures { IfOk result (λ v. v.items ≡ of.items_of (table_state tables.now) message.now) }
+{
+    let said = message.get();
+    let mut items = all_items(alloc, tables, said, message)?;
+    keep_others(&mut items, said.by());
+    Ok(items)
+}
+
+// The items of an acceptable message, with those for its own sender. Its notices share it.
+fn all_items(
+    alloc: Global,
+    tables: &Tables,
+    message: &Message,
+    notice: &Shared<Message>,
+) -> Result<Vec<AddressedItem>, Memory>
+    requires acceptable { IsAcceptable (table_state tables.now) message.now }
+    requires same { notice.now ≡ message.now }
+    ensures { IfOk result (λ v. v.items ≡ all_items (table_state tables.now) message.now) }
+{
+    match message.body() {
+        Body::Movement(movement) => items_of_movement(alloc, tables, message, notice, movement),
+        Body::EtiAsk { wagon } => {
+            let next = WagonEvent::of(tables, message, *wagon)?;
+            let transition = next.transition();
+            let change = next.change(&transition);
+            items_of_one(alloc, notice, change.responsible(), &change)
+        }
+        Body::Plan(_)
+        | Body::LegTime { .. }
+        | Body::Offer(_)
+        | Body::Answer(_)
+        | Body::Withdraw { .. }
+        | Body::Reroute { .. } => items_of_many(alloc, tables, message, notice),
+    }
+}
+
+// The items of a movement. Where it changes no estimate, there is nothing but the lead's notice.
+fn items_of_movement(
+    alloc: Global,
+    tables: &Tables,
+    message: &Message,
+    notice: &Shared<Message>,
+    movement: &Movement,
+) -> Result<Vec<AddressedItem>, Memory>
+    requires acceptable { IsAcceptable (table_state tables.now) message.now }
+    requires same { notice.now ≡ message.now }
+    requires moves { message.now.body ≡ body.Movement movement.now }
+    ensures { IfOk result (λ v. v.items ≡ all_items (table_state tables.now) message.now) }
+{
+    let next = WagonEvent::of(tables, message, movement.wagon)?;
+    if next.keeps_estimates() {
+        return notice_alone(alloc, notice, next.lead());
+    }
+    let transition = next.transition();
+    let change = next.change(&transition);
+    let receiver = movement_receivers(&change, movement.what);
+    items_of_one(alloc, notice, receiver, &change)
+}
+
+// The notice of the message for the railway, if there is one, and nothing else.
+fn notice_alone(
+    alloc: Global,
+    notice: &Shared<Message>,
+    receiver: Option<Railway>,
+) -> Result<Vec<AddressedItem>, Memory>
+    ensures { IfOk result (λ v. v.items ≡ map (λ r. record { to = r; body = ItemBody.Notice notice.now }) (option_to_list receiver)) }
+{
+    let mut items = Vec::new(alloc);
+    put_notice(&mut items, notice, receiver)?;
+    Ok(items)
+}
+
+// The items of a message on one wagon, of which at most one railway gets the notice.
+fn items_of_one(
+    alloc: Global,
+    notice: &Shared<Message>,
+    receiver: Option<Railway>,
+    change: &WagonChange<'_>,
+) -> Result<Vec<AddressedItem>, Memory>
+    ensures { IfOk result (λ v. v.items ≡ map (λ r. record { to = r; body = ItemBody.Notice notice.now }) (option_to_list receiver) ++ of.estimate_items change.now.before (after change.now) change.now.wagon ++ of.alert_items change.now.before (after change.now) change.now.wagon) }
+{
+    let mut items = notice_alone(alloc, notice, receiver)?;
+    put_estimates(&mut items, change)?;
+    put_alerts(alloc, &mut items, change)?;
+    Ok(items)
+}
+
+// Adds the notice of the message for the railway, if there is one.
+fn put_notice(
+    items: &mut Vec<AddressedItem>,
+    notice: &Shared<Message>,
+    receiver: Option<Railway>,
+) -> Result<(), Memory>
+    ensures { OnOk result (items.new.items ≡ items.old.items ++ map (λ r. record { to = r; body = ItemBody.Notice notice.now }) (option_to_list receiver)) }
+{
+    if let Some(to) = receiver {
+        let body = ItemBody::Notice(notice.clone()?);
+        items.push(AddressedItem { to, body })?;
+    }
+    Ok(())
+}
+
+// The items of a message on several wagons, or on one of which several railways get the notice.
+fn items_of_many(
+    alloc: Global,
+    tables: &Tables,
+    message: &Message,
+    notice: &Shared<Message>,
+) -> Result<Vec<AddressedItem>, Memory>
+    requires acceptable { IsAcceptable (table_state tables.now) message.now }
+    requires same { notice.now ≡ message.now }
+    requires many { has_one_receiver message.now.body ≡ false }
+    ensures { IfOk result (λ v. v.items ≡ all_items (table_state tables.now) message.now) }
+{
+    let wagons = tables.named_wagons(alloc, message)?;
+    let mut items = notices(alloc, tables, message, notice)?;
+    let mut alerts = Vec::new(alloc);
+    put_of_wagons(
+        alloc,
+        &mut items,
+        &mut alerts,
+        tables,
+        message,
+        wagons.as_slice(),
+    )?;
+    items.append(&mut alerts)?;
+    Ok(items)
+}
+
+// Takes the items for the sender out.
+fn keep_others(items: &mut Vec<AddressedItem>, sender: Railway)
+    ensures { items.new.items ≡ filter (λ i. not (bytes_eq i.to sender)) items.old.items }
+{
+    items.retain(|item| item.to != sender);
+}
+
+// Adds the estimates that are news and the alerts, of the wagons that the message names.
+fn put_of_wagons(
+    alloc: Global,
+    items: &mut Vec<AddressedItem>,
+    alerts: &mut Vec<AddressedItem>,
+    tables: &Tables,
+    message: &Message,
+    wagons: &[WagonNumber],
+) -> Result<(), Memory>
+    requires acceptable { IsAcceptable (table_state tables.now) message.now }
+    requires are_named { wagons.now ≡ named_wagons (table_state tables.now).offer message.now }
+    ensures estimates { OnOk result (items.new.items ≡ items.old.items ++ flat_map (λ w. of.estimate_items ((table_state tables.now).journey w) (journey_after (table_state tables.now) message.now w) w) wagons.now) }
+    ensures alerts { OnOk result (alerts.new.items ≡ alerts.old.items ++ flat_map (λ w. of.alert_items ((table_state tables.now).journey w) (journey_after (table_state tables.now) message.now w) w) wagons.now) }
+{
+    for wagon in wagons {
+        put_of_wagon(alloc, items, alerts, tables, message, *wagon)?;
+    }
+    Ok(())
+}
+
+// The same of one wagon. A plan gives no estimate, and ends the alert of the journey before.
+fn put_of_wagon(
+    alloc: Global,
+    items: &mut Vec<AddressedItem>,
+    alerts: &mut Vec<AddressedItem>,
+    tables: &Tables,
+    message: &Message,
+    wagon: WagonNumber,
+) -> Result<(), Memory>
+    requires acceptable { IsAcceptable (table_state tables.now) message.now }
+    requires is_named { has (named_wagons (table_state tables.now).offer message.now) wagon ≡ true }
+    ensures estimates { OnOk result (items.new.items ≡ items.old.items ++ of.estimate_items ((table_state tables.now).journey wagon) (journey_after (table_state tables.now) message.now wagon) wagon) }
+    ensures alerts { OnOk result (alerts.new.items ≡ alerts.old.items ++ of.alert_items ((table_state tables.now).journey wagon) (journey_after (table_state tables.now) message.now wagon) wagon) }
+{
+    match message.body() {
+        Body::Plan(plan) => put_alert_end(alerts, tables, plan.lead(), wagon),
+        _ => {
+            let next = WagonEvent::of(tables, message, wagon)?;
+            if next.keeps_estimates() {
+                return Ok(());
+            }
+            let transition = next.transition();
+            put_of_change(alloc, items, alerts, &next.change(&transition))
+        }
+    }
+}
+
+// The same of a wagon with an event.
+fn put_of_change(
+    alloc: Global,
+    items: &mut Vec<AddressedItem>,
+    alerts: &mut Vec<AddressedItem>,
+    change: &WagonChange<'_>,
+) -> Result<(), Memory>
+    ensures estimates { OnOk result (items.new.items ≡ items.old.items ++ of.estimate_items change.now.before (after change.now) change.now.wagon) }
+    ensures alerts { OnOk result (alerts.new.items ≡ alerts.old.items ++ of.alert_items change.now.before (after change.now) change.now.wagon) }
+{
+    put_estimates(items, change)?;
+    put_alerts(alloc, alerts, change)
+}
+
+// Adds the end of the wagon's alert for the lead of a plan, where the wagon is late.
+fn put_alert_end(
+    items: &mut Vec<AddressedItem>,
+    tables: &Tables,
+    lead: Railway,
+    wagon: WagonNumber,
+) -> Result<(), Memory>
+    ensures { OnOk result (items.new.items ≡ items.old.items ++ (if is_late ((table_state tables.now).journey wagon) then record { to = lead; body = ItemBody.AlertEnds wagon } ∷ [] else [])) }
+{
+    if is_late(tables, wagon) {
+        items.push(AddressedItem {
+            to: lead,
+            body: ItemBody::AlertEnds { wagon },
+        })?;
+    }
+    Ok(())
+}
+
+// The wagon is expected after what was promised.
+fn is_late(tables: &Tables, wagon: WagonNumber) -> bool
+    ensures { result ≡ is_late ((table_state tables.now).journey wagon) }
+{
+    match tables.wagon(wagon) {
+        Some(found) => found.estimates().late(),
+        None => false,
+    }
+}

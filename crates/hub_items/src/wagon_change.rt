@@ -1,0 +1,223 @@
+//! A journey with one event more.
+ghost use Rattle.std.specs.Prelude.{◌≡◌, ℕ, ◌≤◌, ◌++◌, ◌∷◌, [], length, true, None, IfOk};
+ghost use Rattle.trip_plan.specs.Rules.{has};
+ghost use Rattle.journey.specs.Stages as stages;
+ghost use Rattle.journey.specs.Legs as legs_of;
+ghost use Rattle.eti_chain.specs.Estimates as of;
+ghost use Rattle.hub_model.specs.HubState.{named_wagons, journey_after, event_body_for};
+ghost use Rattle.hub_model.specs.Items.{alert_items, estimate_items};
+ghost use Rattle.hub_tables.specs.TableStates.{IsAcceptable, table_state, continues_journeys};
+ghost use Rattle.hub_items.specs.Transitions.{keeps_estimates};
+ghost use Rattle.journey.specs.declared.event.EventBody.TheVariants.{Moved};
+ghost use Rattle.journey.specs.Journey.{after};
+
+use eti_chain::Estimates;
+use hub_tables::{Tables, Wagon};
+use journey::{Event, EventBody, Transition};
+use std::marker::Model;
+use taf_codes::{Memory, Railway};
+use taf_messages::{Message, MovementKind};
+use taf_moment::Moment;
+use wagon_number::WagonNumber;
+
+/// A wagon, and an event that its journey admits and with which its estimates stay in the calendar.
+#[derive(Drop)]
+pub(crate) struct WagonEvent<'a> {
+    wagon: &'a Wagon,
+    event: Event,
+}
+
+impl<'a> Model for WagonEvent<'a> {
+    ghost use Rattle.journey.specs.Journey.{NextEvent, next_event};
+    ghost use Rattle.hub_items.specs.Transitions.{IsNextEvent};
+
+    ghost Value = { NextEvent };
+
+    ghost view = { λ n. next_event n.wagon.now n.event };
+
+    ghost invariant = { λ n. IsNextEvent (next_event n.wagon.now n.event) };
+}
+
+impl<'a> WagonEvent<'a> {
+    /// A wagon that an acceptable message names, which is no plan, with its share of the message.
+    pub(crate) fn of(
+        tables: &'a Tables,
+        message: &Message,
+        wagon: WagonNumber,
+    ) -> Result<WagonEvent<'a>, Memory>
+        requires acceptable { IsAcceptable (table_state tables.now) message.now }
+        requires no_plan { continues_journeys message.now.body ≡ true }
+        requires is_named { has (named_wagons (table_state tables.now).offer message.now) wagon ≡ true }
+        ensures wagon { IfOk result (λ n. n.wagon ≡ wagon) }
+        ensures before { IfOk result (λ n. n.before ≡ (table_state tables.now).journey wagon) }
+        ensures after { IfOk result (λ n. after n ≡ journey_after (table_state tables.now) message.now wagon) }
+        ensures says { IfOk result (λ n. n.event.body ≡ event_body_for (table_state tables.now).offer message.now.by message.now.body wagon) }
+    {
+        let event = tables.event_for(message, wagon)?;
+        match tables.wagon(wagon) {
+            Some(found) => Ok(WagonEvent {
+                wagon: found,
+                event,
+            }),
+            None => unreachable!(),
+        }
+    }
+
+    /// The lead railway undertaking, which the event leaves.
+    pub(crate) fn lead(&self) -> Option<Railway>
+        ensures { result ≡ legs_of.lead_of (after self.now) }
+    {
+        self.wagon.track().journey_state().lead
+    }
+
+    /// Whether the event leaves all estimates as they are. Nothing is told of them then.
+    pub(crate) fn keeps_estimates(&self) -> bool
+        ensures value { result ≡ keeps_estimates self.now.event.body }
+        ensures estimates { (w : ℕ) → result ≡ true → estimate_items self.now.before (after self.now) w ≡ [] }
+        ensures alerts { (w : ℕ) → result ≡ true → alert_items self.now.before (after self.now) w ≡ [] }
+    {
+        keeps_estimates(&self.event.body)
+    }
+
+    /// The step that the event makes.
+    pub(crate) fn transition(&self) -> Transition<'_>
+        ensures { result ≡ self.now }
+    {
+        self.wagon.track().transition(&self.event)
+    }
+
+    /// What the journey and the estimates come to with its step.
+    pub(crate) fn change<'b>(&'b self, transition: &'b Transition<'b>) -> WagonChange<'b>
+        requires { transition.now ≡ self.now }
+        ensures { result ≡ self.now }
+    {
+        WagonChange {
+            wagon: self.wagon,
+            transition,
+            estimates: self.wagon.estimates().followed(transition),
+        }
+    }
+}
+
+// Whether an event leaves all estimates as they are.
+fn keeps_estimates(says: &EventBody) -> bool
+    ensures { result ≡ keeps_estimates says.now }
+{
+    match says {
+        EventBody::Moved(what) => is_in_yard(*what),
+        EventBody::EstimateAsked | EventBody::Offered { .. } | EventBody::Withdrawn { .. } => true,
+        EventBody::Planned(_)
+        | EventBody::LegTimed { .. }
+        | EventBody::Answered { .. }
+        | EventBody::Rerouted(_) => false,
+    }
+}
+
+// A movement of a yard, which is on the way and no more.
+fn is_in_yard(what: MovementKind) -> bool
+    ensures { result ≡ keeps_estimates (Moved what) }
+{
+    matches!(
+        what,
+        MovementKind::YardArrival { .. } | MovementKind::YardDeparture { .. }
+    )
+}
+
+/// A wagon with an event, and what both come to.
+#[derive(Drop)]
+pub(crate) struct WagonChange<'a> {
+    wagon: &'a Wagon,
+    transition: &'a Transition<'a>,
+    // When the wagon is expected with the event.
+    estimates: Estimates<'a>,
+}
+
+impl<'a> Model for WagonChange<'a> {
+    ghost use Rattle.journey.specs.Journey.{NextEvent};
+    ghost use Rattle.hub_items.specs.Transitions.{IsTransitionOf};
+
+    ghost Value = { NextEvent };
+
+    ghost view = { λ p. p.transition.now };
+
+    ghost invariant = { λ p. IsTransitionOf p.wagon.now p.transition.now p.estimates };
+}
+
+impl<'a> WagonChange<'a> {
+    pub(crate) fn wagon(&self) -> WagonNumber
+        ensures { result ≡ self.now.wagon }
+    {
+        self.wagon.track().wagon()
+    }
+
+    /// The lead railway undertaking.
+    pub(crate) fn lead(&self) -> Option<Railway>
+        ensures { result ≡ legs_of.lead_of (after self.now) }
+    {
+        self.transition.journey_state().lead
+    }
+
+    /// The railway that answers for the wagon with the event.
+    pub(crate) fn responsible(&self) -> Option<Railway>
+        ensures { result ≡ stages.responsible (after self.now) }
+    {
+        self.transition.journey_state().responsible()
+    }
+
+    /// How many legs there are with the event: at most eight.
+    pub(crate) fn leg_count(&self) -> usize
+        ensures value { result ≡ length (legs_of.legs (after self.now)) }
+        ensures few { result ≤ 8 }
+    {
+        self.transition.journey_state().legs.as_slice().len()
+    }
+
+    /// The railway of a leg before the event.
+    pub(crate) fn runner_before(&self, leg: usize) -> Option<Railway>
+        ensures { result ≡ legs_of.runner_of self.now.before leg }
+    {
+        self.wagon.track().leg(leg).map(|leg| leg.ru)
+    }
+
+    /// The railway of a leg with the event.
+    pub(crate) fn runner_after(&self, leg: usize) -> Option<Railway>
+        ensures { result ≡ legs_of.runner_of (after self.now) leg }
+    {
+        self.transition.journey_state().legs.leg(leg).map(|leg| leg.ru)
+    }
+
+    /// When the wagon was expected at the end of a leg before the event.
+    pub(crate) fn estimate_before(&self, leg: usize) -> Option<Moment>
+        ensures { result ≡ of.estimate self.now.before leg }
+    {
+        self.wagon.estimates().estimate(leg)
+    }
+
+    /// When the wagon is expected at the end of a leg with the event.
+    pub(crate) fn estimate_after(&self, leg: usize) -> Option<Moment>
+        ensures { result ≡ of.estimate (after self.now) leg }
+    {
+        self.estimates.estimate(leg)
+    }
+
+    /// Whether the wagon was late before the event.
+    pub(crate) fn was_late(&self) -> bool
+        ensures { result ≡ of.is_late self.now.before }
+    {
+        self.wagon.estimates().late()
+    }
+
+    /// Whether the wagon is late with the event.
+    pub(crate) fn is_late(&self) -> bool
+        ensures { result ≡ of.is_late (after self.now) }
+    {
+        self.estimates.late()
+    }
+
+    /// By how many minutes the wagon is late with the event, if it is.
+    pub(crate) fn late_by(&self) -> Option<u32>
+        ensures { result ≡ of.late_by (after self.now) }
+    {
+        self.estimates.late_by()
+    }
+}

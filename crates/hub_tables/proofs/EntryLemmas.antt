@@ -1,0 +1,142 @@
+-- Journeys that go on in the table of wagons.
+use Rattle.std.proofs.Common.{◌≡◌, ℕ, Bool, true, false, cond, List, [], ◌∷◌, ◌++◌, length, Option, Some, None, IfSome, refl, sym, ap, subst, ◌∙◌, arith, true≢false, if◌then◌else◌}
+use Rattle.std.specs.Prelude.{nat_eq}
+use Rattle.std.specs.Option.{option_map_or}
+use Rattle.std.specs.List.{AllByRecursion, IsDistinct}
+use Rattle.std.specs.Map.{lookup, keys_of, update_all}
+use Rattle.indexmap.specs.IndexMap.{IndexMap, get, insert_entry, insert_all}
+use Rattle.std.proofs.lemmas.Bool.{eqb-true}
+use Rattle.taf_codes.specs.Equality.{numbers}
+use Rattle.journey.specs.declared.event.Event.{Event}
+use Rattle.journey.specs.Journey.{Journey}
+use Rattle.hub_model.specs.Faults.{is_unknown}
+use Rattle.hub_tables.specs.TableStates.{events_in, IsJourneyEntry, AreJourneyEntries}
+use Rattle.hub_tables.specs.Acceptance.{MayComeNext, IsAdmitted, with_event_on}
+
+pub nothing_left : {X : Type 0} (xs : List X) → length xs ≡ 0 → xs ≡ []
+nothing_left [] h = refl
+nothing_left (x ∷ xs) h = absurd (omega arith)
+
+-- the events of a journey, if there is one
+abbrev pub of_journey : Option Journey → List Event
+of_journey o = option_map_or (λ j. j.events) o []
+
+-- the events of a wagon that is in the table
+pub events_there : (wagons : List (ℕ × Journey)) (w : ℕ) (j : Journey) → lookup (nat_eq w) wagons ≡ Some j → events_in wagons w ≡ j.events
+events_there wagons w j found = ap of_journey found
+
+pub admitted_there : (wagons : List (ℕ × Journey)) (w : ℕ) (j : Journey) (e : Event) → lookup (nat_eq w) wagons ≡ Some j → IsAdmitted (events_in wagons w) e → IsAdmitted j.events e
+admitted_there wagons w j e found h = subst (λ (es : List Event). IsAdmitted es e) (events_there wagons w j found) h
+
+pub next_there : (wagons : List (ℕ × Journey)) (w : ℕ) (j : Journey) (e : Event) → lookup (nat_eq w) wagons ≡ Some j → MayComeNext (events_in wagons w) e → MayComeNext j.events e
+next_there wagons w j e found h = subst (λ (es : List Event). MayComeNext es e) (events_there wagons w j found) h
+
+-- a wagon without journey is unknown
+pub not_there : (wagons : List (ℕ × Journey)) (w : ℕ) → lookup (nat_eq w) wagons ≡ None → is_unknown (events_in wagons w) ≡ false → ⊥
+not_there wagons w none begun = true≢false (sym (ap (λ (o : Option Journey). is_unknown (of_journey o)) none) ∙ begun)
+
+module _ (before after : List (ℕ × Journey)) (w : ℕ) (j k : Journey) (e : Event) (found : lookup (nat_eq w) before ≡ Some j) (put : k ≡ record j { events = j.events ++ e ∷ [] })
+  where
+    module _ (written : (q : ℕ) → lookup (nat_eq q) after ≡ cond (nat_eq w q) (Some k) (lookup (nat_eq q) before)) where
+      put_by : (q : ℕ) (b : Bool) → nat_eq w q ≡ b → of_journey (cond b (Some k) (lookup (nat_eq q) before)) ≡ (if b then events_in before q ++ e ∷ [] else events_in before q)
+      put_by q true same =
+          ap (λ (t : Journey). t.events) put ∙
+          ap (λ (es : List Event). es ++ e ∷ []) (sym (events_there before w j found) ∙ ap (events_in before) (eqb-true w q same))
+      put_by q false same = refl
+
+      pub put_written : (q : ℕ) → events_in after q ≡ with_event_on (events_in before) (w, e) q
+      put_written q = ap of_journey (written q) ∙ put_by q (nat_eq w q) refl
+
+    module _ (filed : AreJourneyEntries before) (written : (q : ℕ) → lookup (nat_eq q) after ≡ cond (nat_eq w q) (Some k) (lookup (nat_eq q) before)) where
+      still_begun : (events : List Event) → is_unknown (events ++ e ∷ []) ≡ false
+      still_begun [] = refl
+      still_begun (first ∷ events) = refl
+
+      here : IsJourneyEntry w j
+      here = subst (λ (o : Option Journey). IfSome o (IsJourneyEntry w)) found (filed w)
+
+      there : IsJourneyEntry w k
+      there = record {
+        wagon = ap (λ (t : Journey). t.wagon) put ∙ here.wagon;
+        begun = ap (λ (t : Journey). is_unknown t.events) put ∙ still_begun j.events;
+      }
+
+      filed_by : (q : ℕ) (b : Bool) → nat_eq w q ≡ b → IfSome (cond b (Some k) (lookup (nat_eq q) before)) (IsJourneyEntry q)
+      filed_by q true same = subst (λ (v : ℕ). IsJourneyEntry v k) (eqb-true w q same) there
+      filed_by q false same = filed q
+
+      pub put_filed : AreJourneyEntries after
+      put_filed q = subst (λ (o : Option Journey). IfSome o (IsJourneyEntry q)) (sym (written q)) (filed_by q (nat_eq w q) refl)
+
+-- a wagon that is none of the keys is not found
+absent : (w : ℕ) (es : List (ℕ × Journey)) → AllByRecursion (λ k. nat_eq w k ≡ false) (keys_of es) → lookup (nat_eq w) es ≡ None
+absent w [] h = refl
+absent w (e ∷ es) h = ap (λ (b : Bool). cond b (Some e.1) (lookup (nat_eq w) es)) h.0 ∙ absent w es h.1
+
+some_same : (j k : Journey) → Some j ≡ Some k → j ≡ k
+some_same j k h = cc
+
+head_same : (v w : ℕ) (vs ws : List ℕ) → v ∷ vs ≡ w ∷ ws → v ≡ w
+head_same v w vs ws h = cc
+
+tail_same : (v w : ℕ) (vs ws : List ℕ) → v ∷ vs ≡ w ∷ ws → vs ≡ ws
+tail_same v w vs ws h = cc
+
+-- one entry of two tables with the same keys in which the same is found
+module _ (e f : ℕ × Journey) (es fs : List (ℕ × Journey)) (apart : AllByRecursion (λ k. nat_eq f.0 k ≡ false) (keys_of fs)) (key : e.0 ≡ f.0) (keys : keys_of es ≡ keys_of fs)
+    (finds : (q : ℕ) → lookup (nat_eq q) (e ∷ es) ≡ lookup (nat_eq q) (f ∷ fs))
+  where
+    first_same : e.1 ≡ f.1
+    first_same =
+        some_same e.1 f.1
+        (sym (ap (λ (b : Bool). cond b (Some e.1) (lookup (nat_eq f.0) es)) (ap (nat_eq f.0) key ∙ numbers.itself f.0)) ∙ finds f.0 ∙
+        ap (λ (b : Bool). cond b (Some f.1) (lookup (nat_eq f.0) fs)) (numbers.itself f.0))
+
+    others_by : (q : ℕ) (b : Bool) → nat_eq q f.0 ≡ b → lookup (nat_eq q) es ≡ lookup (nat_eq q) fs
+    others_by q true same =
+        subst (λ (w : ℕ). lookup (nat_eq w) es ≡ lookup (nat_eq w) fs) (sym (eqb-true q f.0 same))
+        (absent f.0 es (subst (AllByRecursion (λ k. nat_eq f.0 k ≡ false)) (sym keys) apart) ∙ sym (absent f.0 fs apart))
+    others_by q false differs =
+        sym (ap (λ (b : Bool). cond b (Some e.1) (lookup (nat_eq q) es)) (ap (nat_eq q) key ∙ differs)) ∙ finds q ∙
+        ap (λ (b : Bool). cond b (Some f.1) (lookup (nat_eq q) fs)) differs
+
+    others_same : (q : ℕ) → lookup (nat_eq q) es ≡ lookup (nat_eq q) fs
+    others_same q = others_by q (nat_eq q f.0) refl
+
+-- tables with the same keys, all different, in which the same is found have the same entries
+pub same_entries : (es fs : List (ℕ × Journey)) → IsDistinct nat_eq (keys_of fs) → keys_of es ≡ keys_of fs → ((q : ℕ) → lookup (nat_eq q) es ≡ lookup (nat_eq q) fs) → es ≡ fs
+unfolding IsDistinct
+same_entries [] [] d k h = refl
+same_entries [] (f ∷ fs) d k h = cc
+same_entries (e ∷ es) [] d k h = cc
+same_entries (e ∷ es) (f ∷ fs) d k h =
+    let key = head_same e.0 f.0 (keys_of es) (keys_of fs) k in
+    let keys = tail_same e.0 f.0 (keys_of es) (keys_of fs) k in
+    let first = first_same e f es fs d.0 key keys h in
+    let others = same_entries es fs d.1 keys (others_same e f es fs d.0 key keys h) in
+    λ i. (key i, first i) ∷ others i
+
+-- a journey that is written as it was
+module _ (before after : List (ℕ × Journey)) (w : ℕ) (j : Journey) (found : lookup (nat_eq w) before ≡ Some j)
+    (written : (q : ℕ) → lookup (nat_eq q) after ≡ cond (nat_eq w q) (Some j) (lookup (nat_eq q) before))
+  where
+    kept_by : (q : ℕ) (b : Bool) → nat_eq w q ≡ b → cond b (Some j) (lookup (nat_eq q) before) ≡ lookup (nat_eq q) before
+    kept_by q true same = sym found ∙ ap (λ v. lookup (nat_eq v) before) (eqb-true w q same)
+    kept_by q false same = refl
+
+    kept : (q : ℕ) → lookup (nat_eq q) after ≡ lookup (nat_eq q) before
+    kept q = written q ∙ kept_by q (nat_eq w q) refl
+
+    pub kept_entries : IsDistinct nat_eq (keys_of before) → keys_of after ≡ keys_of before → after ≡ before
+    kept_entries distinct keys = same_entries after before distinct keys kept
+
+-- a table into which entries are put one after another
+module _ {K V S : Type 0} (eq : K → K → Bool) (before table next : IndexMap K V S) (all items rest : List (K × V)) (key : K) (value : V) (steps : items ≡ (key, value) ∷ rest) where
+  pub entered_more : next.entries ≡ insert_entry eq table.entries key value → insert_all eq table.entries items ≡ insert_all eq before.entries all → insert_all eq next.entries rest ≡ insert_all eq before.entries all
+  entered_more entry h =
+      ap (λ (es : List (K × V)). insert_all eq es rest) entry ∙ ap (λ (xs : List (K × V)). insert_all eq table.entries xs) (sym steps) ∙ h
+
+  pub values_more : ((q : K) → get eq next q ≡ cond (eq key q) (Some value) (get eq table q)) → ((q : K) → update_all eq (get eq table) items q ≡ update_all eq (get eq before) all q) →
+      (q : K) → update_all eq (get eq next) rest q ≡ update_all eq (get eq before) all q
+  values_more updates h q =
+      ap (λ (f : K → Option V). update_all eq f rest q) (λ i k. updates k i) ∙ ap (λ (xs : List (K × V)). update_all eq (get eq table) xs q) (sym steps) ∙ h q

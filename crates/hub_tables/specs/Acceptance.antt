@@ -1,0 +1,58 @@
+-- How the tables take a message.
+use Rattle.std.specs.Prelude.{◌≡◌, ℕ, ◌<◌, ◌+◌, ◌^◌, ◌==◌, true, false, if◌then◌else◌, List, [], ◌∷◌, ◌++◌, length, None, unwrap_or, bytes_eq}
+use Rattle.std.specs.Option.{option_or}
+use Rattle.std.specs.Map.{lookup, keys_of}
+use Rattle.taf_codes.specs.declared.code.Railway.{Railway}
+use Rattle.taf_codes.specs.declared.code.UnitCode.{UnitCode}
+use Rattle.taf_codes.specs.declared.name.ConsignmentId.{ConsignmentId}
+use Rattle.taf_messages.specs.declared.message.Message.{Message}
+use Rattle.journey.specs.declared.event.Event.{Event}
+use Rattle.journey.specs.Stages.{is_plan}
+use Rattle.journey.specs.Checks.{refusal}
+use Rattle.eti_chain.specs.Estimates.{fits}
+use Rattle.interchange.specs.OfferTable.{offer_of, is_standing}
+use Rattle.hub_model.specs.HubState.{journey_after}
+use Rattle.hub_model.specs.Faults.{is_unknown}
+use Rattle.hub_model.specs.Updates.{plan_given, unit_plan_given, offer_given, opening_given, planned_in, fleet_after}
+use Rattle.hub_tables.specs.TableStates.{TableEntries, events_in, table_state}
+
+-- the event may come next in a journey
+pub record MayComeNext (events : List Event) (e : Event) : Type 0 where
+  pub begun : is_unknown events ≡ false
+  pub allowed : refusal events e.by e.body ≡ None
+  pub fits_after : fits (events ++ e ∷ []) ≡ true
+
+-- the same, and there is room for it
+pub record IsAdmitted (events : List Event) (e : Event) : Type 0 where
+  pub next : MayComeNext events e
+  pub room : length events + 1 < 2 ^ 63
+
+-- a journey may begin with the event
+pub record IsBeginning (e : Event) : Type 0 where
+  pub plan : is_plan e.body ≡ true
+  pub fits_after : fits (e ∷ []) ≡ true
+
+-- the events of each wagon once the share of one is put at the end of its journey
+abbrev pub with_event_on : (ℕ → List Event) → ℕ × Event → ℕ → List Event
+with_event_on events s w = if s.0 == w then events w ++ s.1 ∷ [] else events w
+
+-- each share may come next once those before it are put
+abbrev pub AreAdmitted : (ℕ → List Event) → List (ℕ × Event) → Type 0
+AreAdmitted events [] = Unit {0}
+AreAdmitted events (s ∷ events) = IsAdmitted (events s.0) s.1 × AreAdmitted (with_event_on events s) events
+
+-- journeys go on by a message, and plans stay
+pub record ContinuesJourneys (old new : TableEntries) (m : Message) : Type 0 where
+  pub events : (w : ℕ) → events_in new.wagons w ≡ journey_after (table_state old) m w
+  pub keys : keys_of new.wagons ≡ keys_of old.wagons
+  pub plans : new.plans ≡ old.plans
+  pub units : new.units ≡ old.units
+
+-- each look-up has taken the message
+pub record HasAccepted (old new : TableEntries) (m : Message) : Type 0 where
+  pub events : (w : ℕ) → events_in new.wagons w ≡ journey_after (table_state old) m w
+  pub plans : (c : ConsignmentId) → lookup (bytes_eq c) new.plans ≡ option_or (plan_given m.body c) (lookup (bytes_eq c) old.plans)
+  pub units : (u : UnitCode) → lookup (bytes_eq u) new.units ≡ option_or (unit_plan_given m.body u) (lookup (bytes_eq u) old.units)
+  pub offers : (by : Railway) (n : ℕ) → offer_of new.offers by n ≡ option_or (offer_given m m.body by n) (offer_of old.offers by n)
+  pub opens : (by : Railway) (n : ℕ) → is_standing new.offers by n ≡ unwrap_or (opening_given m m.body by n) (is_standing old.offers by n)
+  pub keys : keys_of new.wagons ≡ fleet_after (keys_of old.wagons) (planned_in m.body)

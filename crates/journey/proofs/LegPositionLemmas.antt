@@ -1,0 +1,38 @@
+-- What one more event does to stage, leg index and legs.
+use Rattle.std.proofs.Common.{◌≡◌, ℕ, ◌+◌, zero, suc, cond, List, [], ◌∷◌, ◌++◌, length, refl, ap, ◌∙◌}
+use Rattle.std.specs.List.{fold}
+use Rattle.std.specs.Option.{option_or}
+use Rattle.std.proofs.lemmas.List.Sums.{fold-append}
+use Rattle.trip_plan.specs.declared.parts.Leg.{Leg}
+use Rattle.journey.specs.declared.event.Event.{Event}
+use Rattle.journey.specs.Stages.{stage, stage_after, leg_index, is_reception, plan, plan_in}
+use Rattle.journey.specs.Legs.{LegPosition, leg_position, leg_position_after, index_after, legs, legs_after, timed}
+use Rattle.journey.proofs.NewestLemmas.{newest-push}
+
+pub stage-push : (events : List Event) (e : Event) → stage (events ++ e ∷ []) ≡ option_or (stage_after e.body) (stage events)
+stage-push events e = newest-push (λ d. stage_after d.body) events e
+
+pub plan-push : (events : List Event) (e : Event) → plan (events ++ e ∷ []) ≡ option_or (plan_in e.body) (plan events)
+plan-push events e = newest-push (λ d. plan_in d.body) events e
+
+pub leg_index-push : (events : List Event) (e : Event) → leg_index (events ++ e ∷ []) ≡ index_after (leg_index events) e.body
+leg_index-push events e = fold-append (λ a d. a + cond (is_reception d.body) 1 0) 0 events (e ∷ [])
+
+index_from : (leg_position : LegPosition) (events : List Event) → (fold leg_position_after leg_position events).index ≡ fold (λ a d. a + cond (is_reception d.body) 1 0) leg_position.index events
+index_from leg_position [] = refl
+index_from leg_position (e ∷ events) = index_from (leg_position_after leg_position e) events
+
+-- the course counts the legs that are behind
+pub course_index : (events : List Event) → (leg_position events).index ≡ leg_index events
+course_index events = index_from (record { index = 0; legs = [] }) events
+
+pub legs-push : (events : List Event) (e : Event) → legs (events ++ e ∷ []) ≡ legs_after (leg_index events) (legs events) e.body
+legs-push events e =
+    ap (λ c. c.legs) (fold-append leg_position_after (record { index = 0; legs = [] }) events (e ∷ [])) ∙
+    ap (λ c. legs_after c (legs events) e.body) (course_index events)
+
+-- a leg's time leaves the number of legs
+pub timed_length : (ls : List Leg) (i minutes : ℕ) → length (timed ls i minutes) ≡ length ls
+timed_length [] i minutes = refl
+timed_length (l ∷ ls) zero minutes = refl
+timed_length (l ∷ ls) (suc i) minutes = ap suc (timed_length ls i minutes)

@@ -1,0 +1,223 @@
+-- The legs of a journey are those that the newest events set.
+use Rattle.std.proofs.Common.{◌≡◌, ℕ, ◌+◌, ◌-◌, ◌<◌, ◌≤◌, zero, suc, Bool, true, false, cond, List, [], ◌∷◌, ◌++◌, length, take, Option, Some, None, refl, ap, ◌∙◌, sym, inl, inr, ◌⊎◌, arith, ◌==◌, append-nil, append_assoc}
+use Rattle.std.specs.Prelude.{fold, slice_get, option_map, unwrap_or, nat_lt, if◌then◌else◌}
+use Rattle.std.specs.Option.{option_or}
+use Rattle.std.proofs.lemmas.Bool.{lt-ltb, le-ltb}
+use Rattle.std.proofs.lemmas.Bool.Decides.{eqb_tells}
+use Rattle.std.proofs.lemmas.List.{length-append, length-take-le}
+use Rattle.std.proofs.lemmas.Option.{slice_get_past, slice_get_within}
+use Rattle.taf_codes.specs.Words.{first_of}
+use Rattle.trip_plan.specs.declared.parts.Leg.{Leg}
+use Rattle.journey.specs.declared.event.Event.{Event}
+use Rattle.journey.specs.declared.event.EventBody.{EventBody}
+use Rattle.journey.specs.declared.event.EventBody.TheVariants.{Planned, Moved, EstimateAsked, LegTimed, Offered, Answered, Withdrawn, Rerouted}
+use Rattle.journey.specs.Words.{newest}
+use Rattle.journey.specs.Stages.{leg_index, is_reception}
+use Rattle.journey.specs.Legs.{legs, legs_after, index_after, timed}
+use Rattle.journey.specs.JourneyStates.{journey_state, journey_state_after}
+use Rattle.journey.specs.Checks.{checks}
+use Rattle.journey.specs.TrackStates.{IsSound}
+use Rattle.journey.specs.NewestLegs.{EventOnLeg, with_minutes, events_on_legs_from, events_on_legs, route_leg, leg_set, minutes_set, count_set, count_by_newest, leg_by_newest, IsPlanOfLegs, AllAdmitted, IsJourney, OnLegsByCount, LegsAreTheNewest, AsManyLegs, RerouteUndoesTimes}
+use Rattle.journey.proofs.NewestLemmas.{newest-push}
+use Rattle.journey.proofs.LegPositionLemmas.{legs-push, timed_length}
+use Rattle.journey.proofs.SoundStateLemmas.{journey_state-push, sound-after}
+
+events_on_legs_from-push : (c : ℕ) (events : List Event) (e : Event) →
+    events_on_legs_from c (events ++ e ∷ []) ≡ events_on_legs_from c events ++ record { on = fold (λ a d. a + cond (is_reception d.body) 1 0) c events; says = e.body } ∷ []
+events_on_legs_from-push c [] e = refl
+events_on_legs_from-push c (d ∷ events) e = ap (λ rest. record { on = c; says = d.body } ∷ rest) (events_on_legs_from-push (index_after c d.body) events e)
+
+pub placed_by_count : OnLegsByCount
+placed_by_count events e = events_on_legs_from-push 0 events e
+
+-- leg i of n legs, which is set like this and with these minutes
+abbrev leg_from : ℕ → Option ℕ → Option Leg → ℕ → Option Leg
+leg_from n minutes put i = if nat_lt i n then option_map (λ (l : Leg). with_minutes (unwrap_or minutes l.minutes) l) put else None
+
+-- legs that are those which the newest events set
+record Agree (events : List EventOnLeg) (ls : List Leg) : Type 0 where
+  as_many : length ls ≡ count_by_newest events
+  each : (i : ℕ) → slice_get ls i ≡ leg_by_newest events i
+
+-- leg i after one event more, by what it says and by what was said before
+abbrev leg_next : ℕ → EventBody → ℕ → Option ℕ → Option ℕ → Option Leg → Option Leg
+leg_next c body i count minutes put =
+    leg_from (unwrap_or (option_or (count_set c body) count) 0) (option_or (minutes_set c body i) minutes) (option_or (leg_set c body i) put) i
+
+leg_by_newest-push : (events : List EventOnLeg) (c : ℕ) (body : EventBody) (i : ℕ) →
+    leg_by_newest (events ++ record { on = c; says = body } ∷ []) i ≡
+    leg_next c body i (newest (λ e. count_set e.on e.says) events) (newest (λ e. minutes_set e.on e.says i) events) (newest (λ e. leg_set e.on e.says i) events)
+leg_by_newest-push events c body i =
+    let last : EventOnLeg = record { on = c; says = body } in
+    let counts = newest-push (λ (e : EventOnLeg). count_set e.on e.says) events last in
+    let times = newest-push (λ (e : EventOnLeg). minutes_set e.on e.says i) events last in
+    let set = newest-push (λ (e : EventOnLeg). leg_set e.on e.says i) events last in
+    λ j. leg_from (unwrap_or (counts j) 0) (times j) (set j) i
+
+below : (i n : ℕ) → i < n → nat_lt i n ≡ true
+below i n h = lt-ltb i n h
+
+not_below : (i n : ℕ) → n ≤ i → nat_lt i n ≡ false
+not_below i n h = le-ltb i n h
+
+split : (i c : ℕ) → (i ≤ c) ⊎ (c < i)
+split zero c = inl (omega arith)
+split (suc i) zero = inr (omega arith)
+split (suc i) (suc c) = elim (split i c) [
+  | inl h ↦ inl (omega arith)
+  | inr h ↦ inr (omega arith)
+]
+
+-- a leg that is set now
+leg_set_now : (n i : ℕ) (o : Option Leg) (minutes : Option ℕ) (put : Option Leg) → (o ≡ None → n ≤ i) → ((l : Leg) → o ≡ Some l → i < n) →
+    o ≡ leg_from n (option_or (option_map (λ l. l.minutes) o) minutes) (option_or o put) i
+leg_set_now n i None minutes put past within = rw (not_below i n (past refl)) refl
+leg_set_now n i (Some l) minutes put past within = rw (below i n (within l refl)) refl
+
+-- a leg that is not there is none of the list
+past_end : (ls : List Leg) (i : ℕ) → slice_get ls i ≡ None → length ls ≤ i
+past_end [] i h = omega arith
+past_end (l ∷ ls) zero h = cc
+past_end (l ∷ ls) (suc i) h = let rest = past_end ls i h in omega arith
+
+planned_leg : (ls : List Leg) (i : ℕ) (minutes : Option ℕ) (put : Option Leg) →
+    slice_get ls i ≡ leg_from (length ls) (option_or (option_map (λ l. l.minutes) (slice_get ls i)) minutes) (option_or (slice_get ls i) put) i
+planned_leg ls i minutes put = leg_set_now (length ls) i (slice_get ls i) minutes put (past_end ls i) (λ l h. slice_get_within ls i l h)
+
+-- a leg behind the first n
+routed_behind : (n : ℕ) (ls route : List Leg) (i k : ℕ) → n ≤ length ls → i ≡ n + k → slice_get (take n ls ++ route) i ≡ slice_get route k
+routed_behind zero ls route i k h e = let same : i ≡ k = omega arith in ap (slice_get route) same
+routed_behind (suc n) [] route i k h e = absurd (omega arith)
+routed_behind (suc n) (l ∷ ls) route zero k h e = absurd (omega arith)
+routed_behind (suc n) (l ∷ ls) route (suc i) k h e = routed_behind n ls route i k (omega arith) (omega arith)
+
+-- one of the first n
+routed_before : (n : ℕ) (ls route : List Leg) (i : ℕ) → n ≤ length ls → i < n → slice_get (take n ls ++ route) i ≡ slice_get ls i
+routed_before zero ls route i h e = absurd (omega arith)
+routed_before (suc n) [] route i h e = absurd (omega arith)
+routed_before (suc n) (l ∷ ls) route zero h e = refl
+routed_before (suc n) (l ∷ ls) route (suc i) h e = routed_before n ls route i (omega arith) (omega arith)
+
+-- the same leg, however many there are
+same_leg : (n m i : ℕ) (minutes : Option ℕ) (put : Option Leg) → i < n → i < m → leg_from n minutes put i ≡ leg_from m minutes put i
+same_leg n m i minutes put h k = rw (below i n h, below i m k) refl
+
+routed_leg : (ls route : List Leg) (c i n : ℕ) (minutes : Option ℕ) (put : Option Leg) → c < length ls → length ls ≡ n →
+    slice_get ls i ≡ leg_from n minutes put i →
+    slice_get (take (c + 1) ls ++ route) i ≡
+    leg_from (c + 1 + length route) (option_or (option_map (λ l. l.minutes) (route_leg c route i)) minutes) (option_or (route_leg c route i) put) i
+routed_leg ls route c i n minutes put on size h = elim (split i c) [
+  | inl k ↦ rw (not_below c i k) (routed_before (c + 1) ls route i (omega arith) (omega arith) ∙ h ∙ same_leg n (c + 1 + length route) i minutes put (omega arith) (omega arith))
+  | inr k ↦ rw (below c i k) (routed_behind (c + 1) ls route i (i - (c + 1)) (omega arith) (omega arith) ∙
+      leg_set_now (c + 1 + length route) i (slice_get route (i - (c + 1))) minutes put
+      (λ none. let past = past_end route (i - (c + 1)) none in omega arith)
+      (λ l some. let within = slice_get_within route (i - (c + 1)) l some in omega arith))
+]
+
+-- the leg that takes other minutes
+timed_same : (ls : List Leg) (t minutes : ℕ) → slice_get (timed ls t minutes) t ≡ option_map (with_minutes minutes) (slice_get ls t)
+timed_same [] t minutes = refl
+timed_same (l ∷ ls) zero minutes = refl
+timed_same (l ∷ ls) (suc t) minutes = timed_same ls t minutes
+
+-- any other leg
+timed_other : (ls : List Leg) (t minutes i : ℕ) → (i ≡ t → ⊥) → slice_get (timed ls t minutes) i ≡ slice_get ls i
+timed_other [] t minutes i h = refl
+timed_other (l ∷ ls) zero minutes zero h = absurd (h refl)
+timed_other (l ∷ ls) zero minutes (suc i) h = refl
+timed_other (l ∷ ls) (suc t) minutes zero h = refl
+timed_other (l ∷ ls) (suc t) minutes (suc i) h = timed_other ls t minutes i (λ e. h (ap suc e))
+
+slice_get-timed : (ls : List Leg) (t minutes i : ℕ) →
+    slice_get (timed ls t minutes) i ≡ (if i == t then option_map (with_minutes minutes) (slice_get ls i) else slice_get ls i)
+slice_get-timed ls t minutes i = elim (eqb_tells i t) [
+  | inl h ↦ rw (h.0, h.1) (timed_same ls t minutes)
+  | inr h ↦ rw h.0 (timed_other ls t minutes i h.1)
+]
+
+timed_leg : (here there : Bool) (m : ℕ) (minutes : Option ℕ) (put : Option Leg) →
+    (if here then option_map (with_minutes m) (if there then option_map (λ (l : Leg). with_minutes (unwrap_or minutes l.minutes) l) put else None)
+    else (if there then option_map (λ (l : Leg). with_minutes (unwrap_or minutes l.minutes) l) put else None)) ≡
+    (if there then option_map (λ (l : Leg). with_minutes (unwrap_or (option_or (if here then Some m else None) minutes) l.minutes) l) put else None)
+timed_leg true true m minutes None = refl
+timed_leg true true m minutes (Some l) = refl
+timed_leg true false m minutes put = refl
+timed_leg false there m minutes put = refl
+
+next_leg : (ls : List Leg) (c : ℕ) (body : EventBody) (i : ℕ) (count minutes : Option ℕ) (put : Option Leg) → c < length ls → length ls ≡ unwrap_or count 0 →
+    slice_get ls i ≡ leg_from (unwrap_or count 0) minutes put i → slice_get (legs_after c ls body) i ≡ leg_next c body i count minutes put
+next_leg ls c (Planned plan) i count minutes put on size h = planned_leg plan.legs i minutes put
+next_leg ls c (Rerouted route) i count minutes put on size h = routed_leg ls route c i (unwrap_or count 0) minutes put on size h
+next_leg ls c (LegTimed t m) i count minutes put on size h =
+    slice_get-timed ls t m i ∙ ap (λ o. if i == t then option_map (with_minutes m) o else o) h ∙
+    timed_leg (i == t) (nat_lt i (unwrap_or count 0)) m minutes put
+next_leg ls c (Moved what) i count minutes put on size h = h
+next_leg ls c EstimateAsked i count minutes put on size h = h
+next_leg ls c (Offered place to) i count minutes put on size h = h
+next_leg ls c (Answered place received) i count minutes put on size h = h
+next_leg ls c (Withdrawn place) i count minutes put on size h = h
+
+next_count : (ls : List Leg) (c : ℕ) (body : EventBody) (count : Option ℕ) → c < length ls → length ls ≡ unwrap_or count 0 →
+    length (legs_after c ls body) ≡ unwrap_or (option_or (count_set c body) count) 0
+next_count ls c (Planned plan) count on size = refl
+next_count ls c (Rerouted route) count on size =
+    length-append (take (c + 1) ls) route ∙ ap (λ n. n + length route) (length-take-le (c + 1) ls (omega arith))
+next_count ls c (LegTimed t m) count on size = timed_length ls t m ∙ size
+next_count ls c (Moved what) count on size = size
+next_count ls c EstimateAsked count on size = size
+next_count ls c (Offered place to) count on size = size
+next_count ls c (Answered place received) count on size = size
+next_count ls c (Withdrawn place) count on size = size
+
+agree-push : (events : List EventOnLeg) (ls : List Leg) (c : ℕ) (body : EventBody) → Agree events ls → c < length ls → Agree (events ++ record { on = c; says = body } ∷ []) (legs_after c ls body)
+agree-push events ls c body a on = record {
+  as_many = next_count ls c body (newest (λ e. count_set e.on e.says) events) on a.as_many ∙
+      ap (λ o. unwrap_or o 0) (sym (newest-push (λ (e : EventOnLeg). count_set e.on e.says) events (record { on = c; says = body })));
+  each = λ i. next_leg ls c body i (newest (λ e. count_set e.on e.says) events) (newest (λ e. minutes_set e.on e.says i) events) (newest (λ e. leg_set e.on e.says i) events) on a.as_many (a.each i) ∙
+      sym (leg_by_newest-push events c body i);
+}
+
+-- the journey is sound, and its legs are those that the newest events set
+record IsLawful (events : List Event) : Type 0 where
+  sound : IsSound (journey_state events)
+  agree : Agree (events_on_legs events) (legs events)
+
+lawful-push : (events : List Event) (e : Event) → IsLawful events → first_of (checks (journey_state events) e.by e.body) ≡ None → IsLawful (events ++ e ∷ [])
+lawful-push events e k admitted = record {
+  sound = rw (journey_state-push events e) (sound-after (journey_state events) e k.sound admitted);
+  agree = rw (placed_by_count events e, legs-push events e) (agree-push (events_on_legs events) (legs events) (leg_index events) e.body k.agree k.sound.on_a_leg);
+}
+
+lawful_all : (before events : List Event) → IsLawful before → AllAdmitted before events → IsLawful (before ++ events)
+lawful_all before [] k a = rw (append-nil before) k
+lawful_all before (e ∷ events) k a =
+    rw (← append_assoc before (e ∷ []) events) (lawful_all (before ++ e ∷ []) events (lawful-push before e k a.0) a.1)
+
+lawful_plan : (e : Event) → IsPlanOfLegs e.body → IsLawful (e ∷ [])
+lawful_plan e h = by e.by e.no e.at e.body h
+  where
+    by : (sender : _) (number : _) (at : _) (body : EventBody) → IsPlanOfLegs body → IsLawful (record { by = sender; no = number; at = at; body = body } ∷ [])
+    by sender number at (Planned plan) h = record {
+      sound = record { staged = refl; on_a_leg = h.0; few_legs = h.1; next_leg = λ o. cc };
+      agree = record { as_many = refl; each = λ i. planned_leg plan.legs i None None ∙ sym (leg_by_newest-push [] 0 (Planned plan) i) };
+    }
+    by sender number at _ h = absurd h
+
+lawful : (events : List Event) → IsJourney events → IsLawful events
+lawful [] h = absurd h
+lawful (e ∷ events) h = lawful_all (e ∷ []) events (lawful_plan e h.0) h.1
+
+pub legs_are_the_newest : LegsAreTheNewest
+legs_are_the_newest events h i = (lawful events h).agree.each i
+
+pub as_many_legs : AsManyLegs
+as_many_legs events h = (lawful events h).agree.as_many
+
+pub reroute_undoes_times : RerouteUndoesTimes
+reroute_undoes_times = record {
+  is_journey = ((omega arith, omega arith), (refl, (refl, (refl, tt))));
+  planned = refl;
+  timed = refl;
+  rerouted = refl;
+  timed_again = refl;
+}

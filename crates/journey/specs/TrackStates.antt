@@ -1,0 +1,47 @@
+-- What a track and a step keep.
+use Rattle.std.specs.Prelude.{◌≡◌, ◌+◌, ◌<◌, ◌≤◌, true, false, List, [], ◌∷◌, length, slice_index_or, Option, Some, None, is_some}
+use Rattle.trip_plan.specs.Trip.{Trip}
+use Rattle.taf_messages.specs.declared.record.Stage.TheVariants as stage_is
+use Rattle.journey.specs.declared.event.Event.{Event}
+use Rattle.journey.specs.declared.event.EventBody.TheVariants.{EstimateAsked}
+use Rattle.journey.specs.declared.journey_state.JourneyState.{JourneyState}
+use Rattle.journey.specs.Stages.{plan, plan_in, has_later_plan}
+use Rattle.journey.specs.Legs.{HaveRoom}
+use Rattle.journey.specs.Journey.{NextEvent, after}
+use Rattle.journey.specs.JourneyStates.{journey_state}
+use Rattle.journey.specs.Checks.{refusal}
+
+-- the wagon is on one of its legs, of which there are at most eight, and is offered only where there is a next one
+pub record IsSound (s : JourneyState) : Type 0 where
+  pub staged : is_some s.stage ≡ true
+  pub on_a_leg : s.leg_index < length s.legs
+  pub few_legs : length s.legs ≤ 8
+  pub next_leg : s.stage ≡ Some stage_is.Offered → s.leg_index + 1 < length s.legs
+
+-- the plan that the first event brings
+abbrev pub first_plan : List Event → Option Trip
+first_plan [] = None
+first_plan (e ∷ events) = plan_in e.body
+
+-- the first event is the only plan of the journey, and the kept situation is that of the events
+pub record IsTrackState (events : List Event) (s : JourneyState) : Type 0 where
+  pub planned : is_some (first_plan events) ≡ true
+  pub one_plan : plan events ≡ first_plan events
+  pub no_later_plan : has_later_plan events ≡ false
+  pub have_room : HaveRoom 0 events
+  pub state_is : s ≡ journey_state events
+  pub sound : IsSound s
+
+-- the event may come next, and the kept situation is that of the events with it
+pub record IsTransition (o : NextEvent) (s : JourneyState) : Type 0 where
+  pub admitted : refusal o.before o.event.by o.event.body ≡ None
+  pub state_is : s ≡ journey_state (after o)
+  pub on_a_leg : s.leg_index < length s.legs
+
+-- what stands for the event where there is none
+abbrev pub blank : Event
+blank = record { by = []; no = 0; at = None; body = EstimateAsked }
+
+-- the event of a list that has one
+abbrev pub only : List Event → Event
+only events = slice_index_or events 0 blank

@@ -1,0 +1,152 @@
+ghost use Rattle.std.specs.Prelude.{◌≡◌, ◌<◌, ◌≤◌, length, slice_get};
+ghost use Rattle.journey.specs.Legs.{HasRoom, legs_after, place_in};
+ghost use Rattle.journey.specs.JourneyStates.{on_its_way, responsible_in, runner_in, journey_state_after, planned_state, target_in};
+
+use crate::event::{Event, EventBody};
+use crate::legs::Legs;
+use taf_codes::{Place, Railway};
+use taf_messages::Stage;
+use trip_plan::Plan;
+
+/// What the events of a journey come to.
+#[derive(Debug, Drop)]
+pub struct JourneyState {
+    /// How far the journey has come.
+    pub stage: Option<Stage>,
+    /// How many legs are behind the wagon.
+    pub leg_index: usize,
+    pub legs: Legs,
+    pub lead: Option<Railway>,
+    pub has_departed: bool,
+    pub is_delivered: bool,
+    /// The railway that took the wagon over last.
+    pub new_responsible: Option<Railway>,
+    /// The yard where the wagon stands, or stood last.
+    pub yard: Option<Place>,
+}
+
+impl JourneyState {
+    /// The situation of a wagon that has only been planned.
+    pub(crate) fn planned(plan: &Plan) -> JourneyState
+        ensures value { result ≡ planned_state plan.now }
+        ensures some { 0 < length plan.now.legs }
+        ensures few { length plan.now.legs ≤ 8 }
+    {
+        JourneyState {
+            stage: Some(Stage::Planned),
+            leg_index: 0,
+            legs: Legs::of(plan.legs()),
+            lead: Some(plan.lead()),
+            has_departed: false,
+            is_delivered: false,
+            new_responsible: None,
+            yard: None,
+        }
+    }
+
+    /// The situation after one event more.
+    pub(crate) fn after(&self, event: &Event) -> JourneyState
+        requires on_a_leg { self.now.leg_index < length self.now.legs }
+        requires few_legs { length self.now.legs ≤ 8 }
+        requires room { HasRoom self.now.leg_index event.now.body }
+        ensures { result ≡ journey_state_after self.now event.now }
+    {
+        let mut next = self.copy();
+        next.advance(event);
+        next
+    }
+
+    /// Goes on by one event more.
+    pub(crate) fn advance(&mut self, event: &Event)
+        requires on_a_leg { self.old.leg_index < length self.old.legs }
+        requires few_legs { length self.old.legs ≤ 8 }
+        requires room { HasRoom self.old.leg_index event.now.body }
+        ensures { self.new ≡ journey_state_after self.old event.now }
+    {
+        let body = &event.body;
+        self.change_legs(body);
+        self.stage = body.stage_after().or(self.stage);
+        self.leg_index += usize::from(body.is_reception());
+        self.lead = body.lead().or(self.lead);
+        self.has_departed = self.has_departed || body.is_departure();
+        self.is_delivered = self.is_delivered || body.is_delivery();
+        self.last_receiver = event.new_responsible().or(self.last_receiver);
+        self.yard = body.yard().or(self.yard);
+    }
+
+    // Changes the legs as an event says; few do.
+    fn change_legs(&mut self, body: &EventBody)
+        requires on_a_leg { self.old.leg_index < length self.old.legs }
+        requires room { HasRoom self.old.leg_index body.now }
+        ensures { self.new ≡ record self.old { legs = legs_after self.old.leg_index self.old.legs body.now } }
+    {
+        match body {
+            EventBody::Planned(plan) => self.legs = Legs::of(plan.legs()),
+            EventBody::Rerouted(route) => self.legs.reroute(self.leg_index, route.legs()),
+            EventBody::LegTimed { leg, minutes } => {
+                self.legs.time(leg.get() as usize, minutes.get() as u32);
+            }
+            _ => {}
+        }
+    }
+
+    /// The same situation.
+    pub fn copy(&self) -> JourneyState
+        ensures { result ≡ self.now }
+    {
+        JourneyState {
+            stage: self.stage,
+            leg_index: self.leg_index,
+            legs: self.legs.copy(),
+            lead: self.lead,
+            has_departed: self.has_departed,
+            is_delivered: self.is_delivered,
+            new_responsible: self.last_receiver,
+            yard: self.yard,
+        }
+    }
+
+    /// Whether the wagon has departed and was not delivered.
+    pub fn is_on_its_way(&self) -> bool
+        ensures { result ≡ on_its_way self.now }
+    {
+        self.has_departed && !self.is_delivered
+    }
+
+    /// The railway that answers for the wagon, while it is on its way.
+    pub fn responsible(&self) -> Option<Railway>
+        ensures { result ≡ responsible_in self.now }
+    {
+        if self.is_on_its_way() {
+            self.last_receiver
+        } else {
+            None
+        }
+    }
+
+    /// Where the wagon is, if it is at a place.
+    pub fn place(&self) -> Option<Place>
+        ensures { result ≡ place_in self.now.stage self.now.legs self.now.yard }
+    {
+        match self.stage? {
+            Stage::Planned | Stage::Released => self.legs.leg(0).map(|leg| leg.origin),
+            Stage::Running => None,
+            Stage::InYard | Stage::Offered => self.yard,
+            Stage::Arrived | Stage::Delivered => self.legs.as_slice().last().map(|leg| leg.target),
+        }
+    }
+
+    /// The railway of a leg.
+    pub(crate) fn runner(&self, leg: usize) -> Option<Railway>
+        ensures { result ≡ runner_in self.now leg }
+    {
+        self.legs.leg(leg).map(|leg| leg.ru)
+    }
+
+    /// Where the current leg ends.
+    pub(crate) fn current_target(&self) -> Option<Place>
+        ensures { result ≡ target_in self.now }
+    {
+        self.legs.leg(self.leg_index).map(|leg| leg.target)
+    }
+}

@@ -1,0 +1,118 @@
+ghost use Rattle.std.specs.Prelude.{◌≡◌, ◌≤◌, ◌<◌, ◌+◌, IfOk, OnOk, vec_len};
+
+use std::alloc::{AllocError, Global};
+use std::marker::Model;
+
+/// All the memory that could be had, but for what was given back.
+#[derive(Drop)]
+pub struct MemoryLimit {
+    large: Vec<Vec<u8>>,
+    small: Vec<Vec<u8>>,
+    alloc: Global,
+}
+
+impl Model for MemoryLimit {
+    ghost use Rattle.std.specs.Prelude.{vec_len};
+    ghost use Rattle.memory_limit.specs.Blocks.{Blocks};
+
+    ghost Value = { Blocks };
+
+    ghost view = { λ b. record { large = vec_len b.large; small = vec_len b.small } };
+}
+
+/// How many blocks of each kind are held at most.
+const MOST: usize = 200_000;
+
+/// The large blocks are of 2^36 bytes, of half as many, and so on down to the greatest small block.
+const GREATEST: usize = 1 << 36;
+
+/// The small blocks are of 2^22 bytes, of half as many, and so on down to a few.
+const GREATEST_SMALL: usize = 1 << 22;
+
+/// What is set aside to be split, while the small blocks are taken.
+const PLUG: usize = 4096;
+
+/// What is set aside for the budgets, while the large blocks are taken: four of the greatest small blocks, so that it may
+/// come to lie in pieces.
+const ROOM: usize = 1 << 24;
+
+impl MemoryLimit {
+    /// Takes all large blocks, but for room for a budget of up to 2^21 bytes.
+    pub fn new(alloc: Global) -> Result<MemoryLimit, AllocError>
+        ensures { IfOk result (λ memory_limit. memory_limit.small ≡ 0) }
+    {
+        let mut large = Vec::with_capacity(alloc, MOST)?;
+        let small = Vec::with_capacity(alloc, MOST)?;
+        let room: Vec<u8> = Vec::with_capacity(alloc, ROOM)?;
+        take_halves(alloc, &mut large, GREATEST, 15);
+        drop(room);
+        Ok(MemoryLimit {
+            large,
+            small,
+            alloc,
+        })
+    }
+
+    /// Leaves about so many bytes, and no more. Up to 2^21 of them there is room for.
+    pub fn leave(&mut self, bytes: usize) -> Result<(), AllocError>
+        ensures large { self.new.large ≡ self.old.large }
+        ensures none_given_back { self.old.small ≤ self.new.small }
+        ensures taken { OnOk result (self.old.small < self.new.small) }
+    {
+        let budget: Vec<u8> = Vec::with_capacity(self.alloc, PLUG.saturating_add(bytes))?;
+        take_halves(self.alloc, &mut self.small, GREATEST_SMALL, 20);
+        drop(budget);
+        let plug = Vec::with_capacity(self.alloc, PLUG)?;
+        self.small.push(plug)?;
+        Ok(())
+    }
+
+    /// Gives the small blocks back.
+    pub fn ease(&mut self)
+        ensures { self.new ≡ record self.old { small = 0 } }
+    {
+        self.small.clear();
+    }
+
+    /// How many large blocks it holds.
+    pub fn large_blocks(&self) -> usize
+        ensures { result ≡ self.now.large }
+    {
+        self.large.len()
+    }
+
+    /// How many small blocks it holds.
+    pub fn small_blocks(&self) -> usize
+        ensures { result ≡ self.now.small }
+    {
+        self.small.len()
+    }
+}
+
+// Takes blocks of this size, then of half of it, and so on.
+fn take_halves(alloc: Global, blocks: &mut Vec<Vec<u8>>, greatest: usize, sizes: u32)
+    ensures { vec_len blocks.old ≤ vec_len blocks.new }
+{
+    let mut size = greatest;
+    for _ in 0..sizes {
+        take_blocks(alloc, blocks, size);
+        size /= 2;
+    }
+}
+
+// Takes blocks of this size until one is refused.
+fn take_blocks(alloc: Global, blocks: &mut Vec<Vec<u8>>, size: usize)
+    ensures { vec_len blocks.old ≤ vec_len blocks.new }
+{
+    for _ in 0..MOST {
+        if blocks.len() >= MOST {
+            return;
+        }
+        let Ok(block) = Vec::with_capacity(alloc, size) else {
+            return;
+        };
+        let Ok(()) = blocks.push(block) else {
+            return;
+        };
+    }
+}

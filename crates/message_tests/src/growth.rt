@@ -1,0 +1,291 @@
+//! Each growth refused in turn: the answer is Memory, nothing is lost, and the call made again gives
+//! what it gives with ample memory.
+use crate::calls::plan;
+use crate::checks::shown;
+use crate::items::items;
+use crate::lines::{MESSAGES, messages};
+use crate::parts::leg;
+use crate::records::running;
+use crate::replies::replies;
+use memory_limit::MemoryLimit;
+use call_reader::read_call;
+use reply_writer::{
+    append_fault, append_reply, write_fault, write_item, write_record, write_reply,
+};
+use std::alloc::Global;
+use std::test::Fail;
+use taf_codes::{Memory, UnitCode};
+use taf_messages::{
+    Call, Field, Item, ItemBody, Message, Record, RecordFault, Reply, copy, copy_call, copy_item,
+    copy_reply,
+};
+use trip_plan::{Plan, PlanFault, Route};
+
+// How many budgets are tried, each of sixteen bytes more than the one before.
+const BUDGETS: usize = 4000;
+
+// What is made with little memory, beside what it is with ample memory.
+#[derive(Drop)]
+enum Attempt<'a> {
+    Read(&'a str, &'a Result<Call, RecordFault>),
+    Reply(&'a Reply, &'a [u8]),
+    AppendedReply(&'a Reply, &'a [u8]),
+    Item(&'a Item, &'a [u8]),
+    Record(&'a Record, &'a [u8]),
+    Fault(RecordFault, &'a [u8]),
+    AppendedFault(RecordFault, &'a [u8]),
+    Plan(&'a Plan),
+    Route(&'a Route),
+}
+
+impl Attempt<'_> {
+    // Whether it is made as with ample memory: none where memory was refused. What is appended goes to `out`.
+    fn is_made(&self, alloc: Global, out: &mut Vec<u8>) -> Option<bool> {
+        match self {
+            Attempt::Read(line, whole) => is_read(read_call(alloc, line.as_bytes()), whole),
+            Attempt::Reply(reply, text) => is_text(write_reply(alloc, reply), text),
+            Attempt::AppendedReply(reply, text) => {
+                let appended = append_reply(alloc, out, reply);
+                is_appended(appended, out, text)
+            }
+            Attempt::Item(item, text) => is_text(write_item(alloc, item), text),
+            Attempt::Record(known, text) => is_text(write_record(alloc, known), text),
+            Attempt::Fault(fault, text) => is_fault(alloc, *fault, text),
+            Attempt::AppendedFault(fault, text) => is_fault_appended(alloc, out, *fault, text),
+            Attempt::Plan(plan) => is_whole(planned_again(alloc, plan), plan),
+            Attempt::Route(route) => is_whole(Route::new(alloc, route.legs()), route),
+        }
+    }
+}
+
+fn is_read(answer: Result<Call, RecordFault>, whole: &Result<Call, RecordFault>) -> Option<bool> {
+    if answer == Err(RecordFault::Memory) {
+        None
+    } else {
+        Some(answer == *whole)
+    }
+}
+
+fn is_text(answer: Result<Vec<u8>, Memory>, text: &[u8]) -> Option<bool> {
+    let answer = answer.ok()?;
+    Some(answer.as_slice() == text)
+}
+
+// A text that is refused leaves what was there.
+fn is_appended(appended: Result<(), Memory>, out: &[u8], text: &[u8]) -> Option<bool> {
+    let rest = out.strip_prefix(b"before")?;
+    match appended {
+        Ok(()) => Some(rest == text),
+        Err(Memory) if rest.is_empty() => None,
+        Err(Memory) => Some(false),
+    }
+}
+
+fn is_fault(alloc: Global, fault: RecordFault, text: &[u8]) -> Option<bool> {
+    if fault == RecordFault::Memory {
+        return None;
+    }
+    is_text(write_fault(alloc, &fault), text)
+}
+
+fn is_fault_appended(
+    alloc: Global,
+    out: &mut Vec<u8>,
+    fault: RecordFault,
+    text: &[u8],
+) -> Option<bool> {
+    if fault == RecordFault::Memory {
+        return None;
+    }
+    let appended = append_fault(alloc, out, &fault);
+    is_appended(appended, out, text)
+}
+
+fn planned_again(alloc: Global, plan: &Plan) -> Result<Plan, PlanFault> {
+    let units = plan.units();
+    if units.len() > 120 {
+        return Err(PlanFault::BadPlan(0));
+    }
+    Plan::with_units(
+        alloc,
+        plan.lead(),
+        plan.consignment(),
+        plan.load(),
+        plan.wagons(),
+        plan.legs(),
+        units,
+        plan.commit(),
+    )
+}
+
+fn is_whole<T: PartialEq + Drop>(answer: Result<T, PlanFault>, whole: &T) -> Option<bool> {
+    match answer {
+        Ok(made) => Some(made == *whole),
+        Err(PlanFault::Memory) => None,
+        Err(PlanFault::BadPlan(_)) => Some(false),
+    }
+}
+
+// How often it was refused before it was made. Each time that it was refused, it is made with ample memory then.
+fn refusals(alloc: Global, memory_limit: &mut MemoryLimit, attempt: &Attempt) -> Result<usize, Fail> {
+    for budget in 0..BUDGETS {
+        let mut out = Vec::from_slice(alloc, b"before")?;
+        memory_limit.leave(budget * 16)?;
+        let made = attempt.is_made(alloc, &mut out);
+        memory_limit.ease();
+        match made {
+            Some(true) => return Ok(budget),
+            Some(false) => return Err(Fail::new("made otherwise")),
+            None => {}
+        }
+        if attempt.is_made(alloc, &mut out) != Some(true) {
+            return Err(Fail::new("not made afterwards"));
+        }
+    }
+    Err(Fail::new("always refused"))
+}
+
+static QUESTIONS: &str = r#"{"kind":"ask","from":"R100","wagon":"318066552148"}
+{"kind":"deviation","from":"R100","consignment":"C-1"}
+{"kind":"fetch","from":"R100","limit":0}
+{"kind":"ack","item":[1,2,{"a":"b"}]}"#;
+
+#[test]
+fn reading(rt: HostRuntime) -> Result<(), Fail> {
+    let alloc = rt.alloc();
+    let mut memory_limit = MemoryLimit::new(alloc)?;
+    let mut refused: usize = 0;
+    for line in MESSAGES.lines().chain(QUESTIONS.lines()) {
+        let whole = read_call(alloc, line.as_bytes());
+        let attempt = Attempt::Read(line, &whole);
+        refused = refused.saturating_add(refusals(alloc, &mut memory_limit, &attempt)?);
+    }
+    // A record without lists takes so little that what was just given back may serve it. The others are refused often.
+    assert!(rt; refused > 20, "{refused}");
+    Ok(())
+}
+
+#[test]
+fn writing_replies(rt: HostRuntime) -> Result<(), Fail> {
+    let alloc = rt.alloc();
+    let mut memory_limit = MemoryLimit::new(alloc)?;
+    for reply in replies(alloc)?.iter() {
+        let text = write_reply(alloc, reply)?;
+        let attempt = Attempt::Reply(reply, &text);
+        assert!(rt; refusals(alloc, &mut memory_limit, &attempt)? > 0);
+        let attempt = Attempt::AppendedReply(reply, &text);
+        assert!(rt; refusals(alloc, &mut memory_limit, &attempt)? > 0);
+    }
+    Ok(())
+}
+
+#[test]
+fn writing_items(rt: HostRuntime) -> Result<(), Fail> {
+    let alloc = rt.alloc();
+    let mut memory_limit = MemoryLimit::new(alloc)?;
+    for item in items(alloc)?.iter() {
+        let text = write_item(alloc, item)?;
+        let attempt = Attempt::Item(item, &text);
+        assert!(rt; refusals(alloc, &mut memory_limit, &attempt)? > 0);
+    }
+    Ok(())
+}
+
+#[test]
+fn writing_a_record(rt: HostRuntime) -> Result<(), Fail> {
+    let alloc = rt.alloc();
+    let mut memory_limit = MemoryLimit::new(alloc)?;
+    let known = running(alloc, true)?;
+    let text = write_record(alloc, &known)?;
+    let attempt = Attempt::Record(&known, &text);
+    assert!(rt; refusals(alloc, &mut memory_limit, &attempt)? > 1);
+    Ok(())
+}
+
+#[test]
+fn writing_a_fault(rt: HostRuntime) -> Result<(), Fail> {
+    let alloc = rt.alloc();
+    let mut memory_limit = MemoryLimit::new(alloc)?;
+    let fault = RecordFault::BadField(Field::Consignment);
+    let text = br#"{"fault":"bad_field","field":"consignment"}"#;
+    let attempt = Attempt::Fault(fault, text);
+    assert!(rt; refusals(alloc, &mut memory_limit, &attempt)? > 0);
+    let attempt = Attempt::AppendedFault(fault, text);
+    assert!(rt; refusals(alloc, &mut memory_limit, &attempt)? > 0);
+    Ok(())
+}
+
+// Whether it is the copy that was asked for. Copies share what they hold and take no memory.
+fn is_copy<T: PartialEq + Drop>(copied: Result<T, Memory>, source: &T) -> bool {
+    match copied {
+        Ok(copied) => copied == *source,
+        Err(Memory) => false,
+    }
+}
+
+// A plan is made of three lists and what they are kept in.
+#[test]
+fn making_a_plan(rt: HostRuntime) -> Result<(), Fail> {
+    let plan = plan(rt.alloc(), Some(UnitCode::read("CSQU3054383")?))?;
+    let mut memory_limit = MemoryLimit::new(rt.alloc())?;
+    let attempt = Attempt::Plan(&plan);
+    assert!(rt; refusals(rt.alloc(), &mut memory_limit, &attempt)? > 3);
+    memory_limit.leave(0)?;
+    let copied = is_copy(plan.copy(), &plan);
+    memory_limit.ease();
+    assert!(rt; copied);
+    Ok(())
+}
+
+#[test]
+fn making_a_route(rt: HostRuntime) -> Result<(), Fail> {
+    let leg = leg("R103", "AT00002", "CH00004", 180)?;
+    let route = Route::new(rt.alloc(), &[leg])?;
+    let mut memory_limit = MemoryLimit::new(rt.alloc())?;
+    let attempt = Attempt::Route(&route);
+    assert!(rt; refusals(rt.alloc(), &mut memory_limit, &attempt)? > 1);
+    memory_limit.leave(0)?;
+    let copied = is_copy(route.copy(), &route);
+    memory_limit.ease();
+    assert!(rt; copied);
+    Ok(())
+}
+
+// Whether copies are made where no memory is left.
+fn are_copied(
+    memory_limit: &mut MemoryLimit,
+    message: &Message,
+    call: &Call,
+    item: &Item,
+) -> Result<bool, Fail> {
+    memory_limit.leave(0)?;
+    let copied = is_copy(copy(message), message)
+        && is_copy(copy_call(call), call)
+        && is_copy(copy_item(item), item);
+    memory_limit.ease();
+    Ok(copied)
+}
+
+#[test]
+fn copying_messages(rt: HostRuntime) -> Result<(), Fail> {
+    let mut memory_limit = MemoryLimit::new(rt.alloc())?;
+    for message in messages(rt.alloc())? {
+        let call = Call::Send(message.clone()?);
+        let body = ItemBody::Notice(message.clone()?);
+        let item = Item { number: 1, body };
+        assert!(rt; are_copied(&mut memory_limit, message.get(), &call, &item)?);
+    }
+    Ok(())
+}
+
+#[test]
+fn copying_replies(rt: HostRuntime) -> Result<(), Fail> {
+    let mut memory_limit = MemoryLimit::new(rt.alloc())?;
+    for reply in replies(rt.alloc())?.iter() {
+        memory_limit.leave(0)?;
+        let copied = is_copy(copy_reply(reply), reply);
+        memory_limit.ease();
+        assert!(rt; copied);
+    }
+    Ok(())
+}
