@@ -60,7 +60,8 @@ impl Run {
 
     /// Delays the wagon by a minute, this many times.
     pub fn delay(&mut self, times: u64) -> Result<()>
-        ensures { OnOk result (length self.new.track.events ≡ length self.old.track.events + times) }
+        ensures { OnOk result (length self.new.track.events
+            ≡ length self.old.track.events + times) }
     {
         let delay = samples::delay()?;
         for _ in 0..times {

@@ -15,7 +15,7 @@ use taf_codes::Railway;
 use taf_messages::Call;
 use wagon_number::WagonNumber;
 
-/// How many jobs a queue holds at most.
+// How many jobs a queue holds at most.
 const PLACES: usize = 16;
 
 // What all jobs ask: one railway, of one wagon.

@@ -19,7 +19,8 @@ const USUAL_SCHEDULES: u64 = 1_000;
 
 /// What the words after the program's name ask for.
 pub fn read_words(words: &[String]) -> Result<Asked>
-    ensures { IfOk result (λ asked. bench_in asked ≡ option_and_then bench_named (option_map string_bytes (slice_get words.now 0))) }
+    ensures { IfOk result (λ asked. bench_in asked
+        ≡ option_and_then bench_named (option_map string_bytes (slice_get words.now 0))) }
 {
     let Some(name) = words.get(0) else {
         return Ok(Asked::Names);

@@ -111,7 +111,8 @@ impl Fields<'_, '_> {
 
     // The value of a field that may be absent or null.
     fn read_if<T: FromJson>(self, field: Field) -> Result<Option<T>, RecordFault>
-        ensures { Gives result (reading.optional_field_of T.good field (json_value_data self.entry.value)) }
+        ensures { Gives result
+            (reading.optional_field_of T.good field (json_value_data self.entry.value)) }
     {
         match self.value.get(field.name()) {
             None => Ok(None),

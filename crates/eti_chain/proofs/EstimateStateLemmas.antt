@@ -88,7 +88,7 @@ anchor-push events e =
     ap (λ d. option_map (with_delays d) (option_or (anchor_in e.at e.body) (newest (λ d. anchor_in d.at d.body) events))) (delays-push events e) ∙
     later_anchor (anchor_in e.at e.body) (newest (λ d. anchor_in d.at d.body) events) (delays events) (delay_in e.body) (is_anchor e.body) (no_anchor_in e.at e.body) (no_delays e.at e.body)
 
--- what the estimates are reckoned from goes along with the events
+-- what the estimates are counted from goes along with the events
 pub estimate_basis-transition : (events : List Event) (e : Event) (s : JourneyState) (a next : Option Anchor) → s ≡ journey_state (events ++ e ∷ []) → a ≡ anchor events → next ≡ anchor_after a e →
     basis_from s.leg_index s.legs next ≡ estimate_basis (events ++ e ∷ [])
 estimate_basis-transition events e s a next situated newest is =

@@ -54,7 +54,7 @@ with_delay_of before body = option_map (λ a. with_delays (delays_after a.delays
 abbrev pub anchor_after : Option Anchor → Event → Option Anchor
 anchor_after before e = option_or (anchor_in e.at e.body) (with_delay_of before e.body)
 
--- what estimates are reckoned from: the current leg, all legs, and the newest anchor
+-- what estimates are counted from: the current leg, all legs, and the newest anchor
 pub record EstimateBasis : Type 0 where
   pub leg_index : ℕ
   pub legs : List Leg
@@ -64,7 +64,7 @@ pub record EstimateBasis : Type 0 where
 abbrev pub basis_from : ℕ → List Leg → Option Anchor → EstimateBasis
 basis_from c ls a = record { leg_index = c; legs = ls; anchor = a }
 
--- what the estimates of a journey are reckoned from
+-- what the estimates of a journey are counted from
 abbrev pub estimate_basis : List Event → EstimateBasis
 estimate_basis events = basis_from (leg_index events) (legs events) (anchor events)
 
@@ -80,7 +80,7 @@ base_in r = option_map (λ a. a.at + (if a.runs_leg then minutes_in r else 0)) r
 abbrev pub delays_of : Option Anchor → ℕ
 delays_of a = option_map_or (λ a. a.delays) a 0
 
--- the same of a reckoning
+-- the same of a basis
 abbrev pub delays_in : EstimateBasis → ℕ
 delays_in r = delays_of r.anchor
 
@@ -92,16 +92,16 @@ end_in r j = estimate_from r.leg_index r.legs (base_in r) (delays_in r) j
 abbrev pub fits_in : EstimateBasis → Bool
 fits_in r = list_all (λ e. nat_le e.at last_minute) (estimates_from r.leg_index r.legs (base_in r) (delays_in r))
 
--- the moment that was promised to the customer
+-- the moment to which the plan committed
 abbrev pub commitment : List Event → Option ℕ
 commitment events = option_map (λ p. p.commit) (plan events)
 
--- the estimates: what they are reckoned from, and the moment that was promised to the customer
+-- the estimates: what they are counted from, and the moment to which the plan committed
 pub record EstimatesState : Type 0 where
   pub estimate_basis : EstimateBasis
   pub commit : Option ℕ
 
--- this reckoning with this promise
+-- this basis with this commitment
 abbrev pub state_with_commitment : EstimateBasis → Option ℕ → EstimatesState
 state_with_commitment r commit = record { estimate_basis = r; commit = commit }
 
@@ -109,12 +109,12 @@ state_with_commitment r commit = record { estimate_basis = r; commit = commit }
 abbrev pub estimates_state : List Event → EstimatesState
 estimates_state events = state_with_commitment (estimate_basis events) (commitment events)
 
--- what is kept for the estimates: the newest anchor, and the moment that was promised to the customer
+-- what is kept for the estimates: the newest anchor, and the moment to which the plan committed
 pub record EstimateAnchor : Type 0 where
   pub newest : Option Anchor
   pub commit : Option ℕ
 
--- this anchor with this promise
+-- this anchor with this commitment
 abbrev pub anchor_with_commitment : Option Anchor → Option ℕ → EstimateAnchor
 anchor_with_commitment newest commit = record { newest = newest; commit = commit }
 
@@ -126,7 +126,7 @@ estimate_anchor events = anchor_with_commitment (anchor events) (commitment even
 abbrev pub eta_in : EstimateBasis → Option ℕ
 eta_in r = end_in r (length r.legs - 1)
 
--- by how many minutes the wagon is expected after what was promised
+-- by how many minutes the wagon is expected after what the plan committed to
 abbrev pub late_by_in : EstimatesState → Option ℕ
 late_by_in c = option_and_then (λ commit. option_and_then (lateness commit) (eta_in c.estimate_basis)) c.commit
 

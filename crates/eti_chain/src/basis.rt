@@ -1,4 +1,4 @@
-//! What estimates are reckoned from.
+//! What estimates are counted from.
 ghost use Rattle.std.specs.Prelude.{◌≡◌, ◌+◌, ◌*◌, ◌<◌, ◌≤◌, ◌^◌, length, fold, IfSome, None};
 ghost use Rattle.std.specs.List.{sum_by};
 ghost use Rattle.taf_moment.specs.Calendar.{last_minute};
@@ -13,7 +13,7 @@ use std::marker::Model;
 use taf_moment::Moment;
 use trip_plan::Leg;
 
-/// 2199-12-31T23:59Z, in minutes since 1970.
+// 2199-12-31T23:59Z, in minutes since 1970.
 const LAST_MINUTE: u128 = 120_968_639;
 
 /// The legs of a wagon with the current one, and the newest anchor. It borrows the legs.
@@ -35,7 +35,7 @@ impl<'a> Model for EstimateBasis<'a> {
 }
 
 impl<'a> EstimateBasis<'a> {
-    /// What the estimates of a track are reckoned from. It walks the events.
+    /// What the estimates of a track are counted from. It walks the events.
     pub(crate) fn of(track: &'a Track) -> EstimateBasis<'a>
         ensures value { result ≡ of.estimate_basis track.now.events }
         ensures on_a_leg { result.leg_index < length result.legs }
@@ -57,13 +57,14 @@ impl<'a> EstimateBasis<'a> {
         }
     }
 
-    /// The same after a step, from the newest anchor before it.
+    /// The same after a transition, from the newest anchor before it.
     pub(crate) fn after(anchor: Option<Anchor>, transition: &'a Transition<'_>) -> EstimateBasis<'a>
         requires newest { anchor ≡ of.anchor transition.now.before }
         requires small { of.delays_of anchor ≤ last_minute }
         ensures value { result ≡ of.estimate_basis (after transition.now) }
         ensures on_a_leg { result.leg_index < length result.legs }
-        ensures admitted { refusal transition.now.before transition.now.event.by transition.now.event.body ≡ None }
+        ensures admitted { refusal transition.now.before transition.now.event.by
+            transition.now.event.body ≡ None }
     {
         let next = transition.journey_state();
         EstimateBasis {

@@ -59,7 +59,8 @@ impl EstimateAnchor {
         requires of_track { self.old ≡ estimate_anchor track.old.events }
         requires admitted { refusal track.old.events event.by event.body ≡ None }
         requires fits { of.fits (track.old.events ++ event ∷ []) ≡ true }
-        ensures track { OnOk result (track.new ≡ record track.old { events = track.old.events ++ event ∷ [] }) }
+        ensures track { OnOk result (track.new
+            ≡ record track.old { events = track.old.events ++ event ∷ [] }) }
         ensures kept { OnOk result (self.new ≡ estimate_anchor (track.old.events ++ event ∷ [])) }
         ensures same_track { OnErr result (track.new ≡ track.old) }
         ensures same { OnErr result (self.new ≡ self.old) }

@@ -18,7 +18,7 @@ pub struct Estimates<'a> {
     leg_index: usize,
     legs: HeldLegs<'a>,
     anchor: Option<Anchor>,
-    // The moment that was promised to the customer.
+    // The moment to which the plan committed.
     commit: Moment,
 }
 
@@ -38,7 +38,7 @@ impl<'a> Estimates<'a> {
     ghost use Rattle.std.specs.Prelude.{Some};
     ghost use Rattle.eti_chain.specs.EstimateStates.{IsWithin, estimates_state, state_with_commitment};
 
-    /// The estimates that are reckoned from this.
+    /// The estimates that are counted from this.
     pub(crate) fn by(basis: EstimateBasis<'a>, commit: Moment) -> Estimates<'a>
         requires { IsWithin basis }
         ensures { result ≡ state_with_commitment basis.entry (Some commit) }
@@ -93,7 +93,7 @@ impl<'a> Estimates<'a> {
         self.transition_passes_calendar(&track.transition(event))
     }
 
-    /// Whether with the event of a step an estimate would pass the last minute of the calendar.
+    /// Whether with the event of a transition an estimate would pass the last minute of the calendar.
     pub fn transition_passes_calendar(&self, transition: &Transition<'_>) -> bool
         requires { self.now ≡ estimates_state transition.now.before }
         ensures { result ≡ not (of.fits (after transition.now)) }
@@ -101,7 +101,7 @@ impl<'a> Estimates<'a> {
         !EstimateBasis::after(self.anchor, transition).fits()
     }
 
-    /// The estimates of the track with the event of a step, which does not pass the calendar. It takes
+    /// The estimates of the track with the event of a transition, which does not pass the calendar. It takes
     /// no walk.
     pub fn followed<'b>(&self, transition: &'b Transition<'_>) -> Estimates<'b>
         requires of_track { self.now ≡ estimates_state transition.now.before }
@@ -114,33 +114,37 @@ impl<'a> Estimates<'a> {
     /// When the wagon is expected at the end of this leg: none without an event to count from,
     /// before the current leg and past the last one.
     pub fn estimate(&self, leg: usize) -> Option<Moment>
-        ensures { (events : List Event) → self.now ≡ estimates_state events → result ≡ of.estimate events leg }
+        ensures { (events : List Event) → self.now ≡ estimates_state events → result
+            ≡ of.estimate events leg }
     {
         self.basis().moment(leg)
     }
 
     /// When the wagon is expected at the end of its last leg.
     pub fn eta(&self) -> Option<Moment>
-        ensures { (events : List Event) → self.now ≡ estimates_state events → result ≡ of.eta events }
+        ensures { (events : List Event) → self.now ≡ estimates_state events → result
+            ≡ of.eta events }
     {
         self.basis().last_moment()
     }
 
-    /// Whether the wagon is expected after what was promised to the customer.
+    /// Whether the wagon is expected after what the plan committed to to the customer.
     pub fn late(&self) -> bool
-        ensures { (events : List Event) → self.now ≡ estimates_state events → result ≡ of.is_late events }
+        ensures { (events : List Event) → self.now ≡ estimates_state events → result
+            ≡ of.is_late events }
     {
         self.late_by().is_some()
     }
 
-    /// By how many minutes the wagon is expected after what was promised, if it is.
+    /// By how many minutes the wagon is expected after what the plan committed to, if it is.
     pub fn late_by(&self) -> Option<u32>
-        ensures { (events : List Event) → self.now ≡ estimates_state events → result ≡ of.late_by events }
+        ensures { (events : List Event) → self.now ≡ estimates_state events → result
+            ≡ of.late_by events }
     {
         lateness(self.commit, self.basis().last_moment()?)
     }
 
-    // What the estimates are reckoned from.
+    // What the estimates are counted from.
     fn basis(&self) -> EstimateBasis<'_>
         ensures value { result ≡ self.now.estimate_basis }
         ensures within { IsWithin result }

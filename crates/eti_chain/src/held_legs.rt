@@ -4,7 +4,7 @@ ghost use Rattle.eti_chain.specs.Held.{legs_in};
 
 use journey::Legs;
 
-/// The legs of a wagon: those of a track or a step, or their own.
+/// The legs of a wagon: those of a track or a transition, or their own.
 #[derive(Drop)]
 pub(crate) enum HeldLegs<'a> {
     Lent(&'a Legs),

@@ -5,11 +5,11 @@
 //! an arrival or a delivery. The current leg ends at the anchor's moment or, after a release, a departure or a
 //! reception, once the minutes of the leg have passed since. Delays after the anchor and the minutes of later legs come
 //! on top (`specs/Estimates.antt`). The estimate of the last leg is the estimated time of arrival, which is compared
-//! with the moment that was promised to the customer.
+//! with the moment to which the plan committed.
 //!
 //! [`Estimates`] are those of one track, whose legs they borrow, or copy in place once they follow an event. Contracts see them as the `estimates_state` of the track's
-//! events: the leg index, the legs, the newest anchor with the delays since, and the promised moment
-//! (`specs/EstimateStates.antt`). [`EstimateAnchor`] is what is kept for them beside a track: the anchor and the promise alone.
+//! events: the leg index, the legs, the newest anchor with the delays since, and the committed moment
+//! (`specs/EstimateStates.antt`). [`EstimateAnchor`] is what is kept for them beside a track: the anchor and the commitment alone.
 //!
 //! - [`Estimates::fits`] says whether no estimate of a track passes 2199-12-31T23:59Z. [`Estimates::of`] and
 //!   [`EstimateAnchor::of`] walk its events.
@@ -18,7 +18,7 @@
 //! - [`Estimates::follow`] goes from the estimates of a track to those of the track with one event more.
 //!   [`Estimates::would_pass_calendar`] says beforehand whether one would pass the calendar.
 //! - [`Estimates::followed`] and [`Estimates::transition_passes_calendar`] do the same by a [`Transition`](journey::Step), whose
-//!   situation they don't make anew and whose legs they borrow.
+//!   state they don't make anew and whose legs they borrow.
 //! - [`Estimates::estimate`], [`Estimates::eta`], [`Estimates::late`] and [`Estimates::late_by`] read them.
 //!
 //! Promised: each answer is that of the definitions over the track's events, and what `add` and `put` keep is what `of` would

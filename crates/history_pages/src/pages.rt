@@ -6,7 +6,7 @@ use std::marker::Model;
 use std::mem;
 use taf_codes::Memory;
 
-/// How many entries a page holds.
+// How many entries a page holds.
 const PAGE: usize = 1024;
 
 /// A list in pages.
@@ -95,7 +95,8 @@ impl<T> Pages<T> {
     pub fn push_reserved(&mut self, entry: T)
         requires room { 0 < self.old.spare }
         requires few { length self.old.entries < 2 ^ 62 }
-        ensures { self.new ≡ record { entries = self.old.entries ++ entry ∷ []; spare = self.old.spare - 1 } }
+        ensures { self.new ≡ record { entries = self.old.entries
+            ++ entry ∷ []; spare = self.old.spare - 1 } }
     {
         self.current.push_reserved(entry);
     }

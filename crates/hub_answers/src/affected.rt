@@ -46,7 +46,7 @@ impl<'a> AffectedWagons<'a> {
         }
     }
 
-    /// The wagons of one list.
+    // The wagons of one list.
     fn listed(wagons: &'a [WagonNumber]) -> AffectedWagons<'a>
         ensures { result ≡ wagons.now }
     {
@@ -57,9 +57,10 @@ impl<'a> AffectedWagons<'a> {
         }
     }
 
-    /// The wagons of an answer, and those of the offer that it answers.
+    // The wagons of an answer, and those of the offer that it answers.
     fn answered(tables: &'a Tables, answer: &'a TrainAnswer) -> AffectedWagons<'a>
-        ensures { result ≡ answer.now.received ++ answer.now.refused ++ wagons_of ((table_state tables.now).offer answer.now.offerer answer.now.offer) }
+        ensures { result ≡ answer.now.received ++ answer.now.refused
+            ++ wagons_of ((table_state tables.now).offer answer.now.offerer answer.now.offer) }
     {
         AffectedWagons {
             named_wagons: answer.received.as_slice(),
@@ -68,7 +69,7 @@ impl<'a> AffectedWagons<'a> {
         }
     }
 
-    /// One wagon.
+    // One wagon.
     fn one(wagon: &'a WagonNumber) -> AffectedWagons<'a>
         ensures { result ≡ wagon.now ∷ [] }
     {
@@ -92,7 +93,7 @@ impl<'a> AffectedWagons<'a> {
     }
 }
 
-/// The wagons of an offer; none where there is no such offer.
+// The wagons of an offer; none where there is no such offer.
 fn offered(tables: &Tables, by: Railway, number: MessageNumber) -> &[WagonNumber]
     ensures { result.now ≡ wagons_of ((table_state tables.now).offer by number) }
 {
@@ -102,14 +103,14 @@ fn offered(tables: &Tables, by: Railway, number: MessageNumber) -> &[WagonNumber
     }
 }
 
-/// Whether the wagon is among these.
+// Whether the wagon is among these.
 fn has(wagons: &[WagonNumber], wagon: WagonNumber) -> bool
     ensures { result ≡ has wagons.now wagon }
 {
     wagons.iter().any(|w| *w == wagon)
 }
 
-/// Whether one of these wagons is among the others.
+// Whether one of these wagons is among the others.
 fn any_in(wagons: &[WagonNumber], others: &AffectedWagons) -> bool
     ensures { result ≡ list_any (has others.now) wagons.now }
 {

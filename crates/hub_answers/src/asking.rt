@@ -36,8 +36,8 @@ pub fn ask_unit(
     }
 }
 
-/// The record of the wagon for a railway that may see it. It is refused by `unknown` where there is
-/// no such wagon, and else as not the railway's own. A refusal names the wagon that is `told`.
+// The record of the wagon for a railway that may see it. It is refused by `unknown` where there is
+// no such wagon, and else as not the railway's own. A refusal names the wagon that is `told`.
 fn record_reply(
     alloc: Global,
     tables: &Tables,
@@ -62,7 +62,7 @@ fn record_reply(
     }
 }
 
-/// A wagon of the tables has a record: its journey has a plan and a stage.
+// A wagon of the tables has a record: its journey has a plan and a stage.
 fn has_record(wagon: &Wagon)
     ensures { is_some (record_of wagon.now.wagon wagon.now.events) ≡ true }
 {

@@ -38,7 +38,7 @@ pub fn deviation(
     }
 }
 
-/// The late wagons of the plan that are still on it, in the plan's order.
+// The late wagons of the plan that are still on it, in the plan's order.
 fn deviating_records(alloc: Global, tables: &Tables, plan: &Plan) -> Result<Vec<Record>, Memory>
     ensures { IfOk result (λ v. v.items ≡ of.deviating_records (table_state tables.now) plan.now) }
 {
@@ -51,7 +51,7 @@ fn deviating_records(alloc: Global, tables: &Tables, plan: &Plan) -> Result<Vec<
     Ok(late)
 }
 
-/// The record of the wagon, if it is late and still on the plan.
+// The record of the wagon, if it is late and still on the plan.
 fn deviating_record(
     alloc: Global,
     tables: &Tables,

@@ -22,7 +22,7 @@ pub fn view(alloc: Global, tables: &Tables) -> Result<Vec<Record>, Memory>
     Ok(records)
 }
 
-/// The record of the wagon at this place of the fleet, from 0.
+// The record of the wagon at this place of the fleet, from 0.
 fn record_at(alloc: Global, tables: &Tables, i: usize) -> Result<Record, Memory>
     requires { i < length (table_state tables.now).fleet }
     ensures { let s = table_state tables.now in

@@ -26,23 +26,24 @@ pub fn apart(tables: &Tables, first: &Message, second: &Message) -> bool
         && !same_name(first, second)
 }
 
-/// Whether the first message loads a unit that the second counts with.
+// Whether the first message loads a unit that the second counts with.
 fn loads_affected(tables: &Tables, first: &Message, second: &Message) -> bool
     ensures { result ≡ of.loads_affected (table_state tables.now) first.now second.now }
 {
     any_affected(tables, second, units_in(first.body()))
 }
 
-/// Whether the message counts with one of the units.
+// Whether the message counts with one of the units.
 fn any_affected(tables: &Tables, message: &Message, loads: &[UnitLoad]) -> bool
-    ensures { result ≡ list_any (λ l. of.affects_unit (table_state tables.now) message.now l.unit) loads.now }
+    ensures { result ≡ list_any (λ l. of.affects_unit (table_state tables.now) message.now l.unit)
+        loads.now }
 {
     loads
         .iter()
         .any(|load| affects_unit(tables, message, load.unit))
 }
 
-/// Whether the message loads the unit, or counts with the unit's wagon.
+// Whether the message loads the unit, or counts with the unit's wagon.
 fn affects_unit(tables: &Tables, message: &Message, unit: UnitCode) -> bool
     ensures { result ≡ of.affects_unit (table_state tables.now) message.now unit }
 {
@@ -55,14 +56,14 @@ fn affects_unit(tables: &Tables, message: &Message, unit: UnitCode) -> bool
     }
 }
 
-/// Whether the unit is among these loads.
+// Whether the unit is among these loads.
 fn loads(units: &[UnitLoad], unit: UnitCode) -> bool
     ensures { result ≡ loads units.now unit }
 {
     units.iter().any(|load| load.unit == unit)
 }
 
-/// The consignment of a plan.
+// The consignment of a plan.
 fn consignment_in(body: &Body) -> Option<ConsignmentId>
     ensures { result ≡ of.consignment_in body.now }
 {
@@ -72,7 +73,7 @@ fn consignment_in(body: &Body) -> Option<ConsignmentId>
     }
 }
 
-/// The name of the offer that a message makes, answers or withdraws.
+// The name of the offer that a message makes, answers or withdraws.
 fn offer_named(message: &Message) -> Option<(Railway, MessageNumber)>
     ensures { result ≡ of.offer_named message.now message.now.body }
 {
@@ -84,7 +85,7 @@ fn offer_named(message: &Message) -> Option<(Railway, MessageNumber)>
     }
 }
 
-/// Whether both are there, and are the same.
+// Whether both are there, and are the same.
 fn both_same<T: PartialEq + Copy>(first: Option<T>, second: Option<T>) -> bool
     ensures { result ≡ of.both_same T.eq first second }
 {
@@ -94,7 +95,7 @@ fn both_same<T: PartialEq + Copy>(first: Option<T>, second: Option<T>) -> bool
     }
 }
 
-/// Whether the messages have the same name.
+// Whether the messages have the same name.
 fn same_name(first: &Message, second: &Message) -> bool
     ensures { result ≡ same_name first.now.by first.now.no second.now.by second.now.no }
 {

@@ -29,7 +29,7 @@ answer_admitted s m a w e f o h =
     let among : has (named_wagons s.offer m) w ≡ true → has (a.received ++ a.refused) w ≡ true = λ n. rw e at n in
     rw e (answered_known (s.journey w) m.by (event_body_for s.offer m.by (body.Answer a) w) refl (o w a.offer a.offerer (parts.0, listed _ _ w parts.1 (among h))))
 
--- the check of the calendar, by the wagon's events and its share of the message
+-- the check of the calendar, by the wagon's events and its event of the message
 pub calendar_by : (s : HubState) (m : Message) (w : ℕ) (events : List Event) (e : Event) (beyond : Bool) → has (named_wagons s.offer m) w ≡ true → known_fault s m w ≡ None →
     s.journey w ≡ events → event_for s.offer m w ≡ e → is_calendar_checked e.body && not (fits (events ++ e ∷ [])) ≡ beyond → calendar_fault s m w ≡ cond beyond (Some BeyondCalendar) None
 calendar_by s m w events e beyond h k j is b =
@@ -44,7 +44,7 @@ asked_after : {A : Type 0} (first : Option A) (a b : Option A) → (first ≡ No
 asked_after None a b h = h refl
 asked_after (Some x) a b h = refl
 
--- both checks of a wagon that is known, by its events and its share of the message
+-- both checks of a wagon that is known, by its events and its event of the message
 pub either_by : (s : HubState) (m : Message) (w : ℕ) (events : List Event) (e : Event) → has (named_wagons s.offer m) w ≡ true → is_unknown (s.journey w) ≡ false →
     s.journey w ≡ events → event_for s.offer m w ≡ e →
     option_or (known_fault s m w) (calendar_fault s m w) ≡ option_or (refusal events e.by e.body) (cond (is_calendar_checked e.body && not (fits (events ++ e ∷ []))) (Some BeyondCalendar) None)

@@ -37,10 +37,12 @@ fn first_fault(
     message: &Message,
     wagons: &[WagonNumber],
 ) -> Result<Option<Fault>, Memory>
-    requires whole { of.whole_fault (table_state tables.now) message.now.by message.now.body ≡ None }
+    requires whole { of.whole_fault (table_state tables.now) message.now.by message.now.body
+        ≡ None }
     requires offered { OpenIsOffered (table_state tables.now) }
     requires are_named { wagons.now ≡ named_wagons (table_state tables.now).offer message.now }
-    ensures { IfOk result (λ f. f ≡ of.first_fault (table_state tables.now) message.now wagons.now) }
+    ensures { IfOk result (λ f. f
+        ≡ of.first_fault (table_state tables.now) message.now wagons.now) }
 {
     for wagon in wagons {
         if let Some(why) = wagon_fault(tables, message, *wagon)? {

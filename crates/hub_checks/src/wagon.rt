@@ -22,10 +22,12 @@ pub(crate) fn wagon_fault(
     message: &Message,
     wagon: WagonNumber,
 ) -> Result<Option<Why>, Memory>
-    requires whole { of.whole_fault (table_state tables.now) message.now.by message.now.body ≡ None }
+    requires whole { of.whole_fault (table_state tables.now) message.now.by message.now.body
+        ≡ None }
     requires offered { OpenIsOffered (table_state tables.now) }
     requires is_named { has (named_wagons (table_state tables.now).offer message.now) wagon ≡ true }
-    ensures { IfOk result (λ why. why ≡ of.wagon_fault (table_state tables.now) message.now message.now.body wagon) }
+    ensures { IfOk result (λ why. why
+        ≡ of.wagon_fault (table_state tables.now) message.now message.now.body wagon) }
 {
     match message.body() {
         Body::Plan(_) => Ok(busy_fault(tables, wagon)),
@@ -41,7 +43,8 @@ pub(crate) fn wagon_fault(
 
 // A wagon is planned anew once it is delivered.
 fn busy_fault(tables: &Tables, wagon: WagonNumber) -> Option<Why>
-    ensures { result ≡ (if of.is_busy ((table_state tables.now).journey wagon) then Some Why.WagonBusy else None) }
+    ensures { result ≡ (if of.is_busy ((table_state tables.now).journey wagon)
+        then Some Why.WagonBusy else None) }
 {
     if is_busy(tables, wagon) {
         Some(Why::WagonBusy)
@@ -76,9 +79,12 @@ fn either_fault(
     message: &Message,
     wagon: WagonNumber,
 ) -> Result<Option<Why>, Memory>
-    requires whole { of.whole_fault (table_state tables.now) message.now.by message.now.body ≡ None }
+    requires whole { of.whole_fault (table_state tables.now) message.now.by message.now.body
+        ≡ None }
     requires is_named { has (named_wagons (table_state tables.now).offer message.now) wagon ≡ true }
-    ensures { IfOk result (λ why. why ≡ option_or (of.known_fault (table_state tables.now) message.now wagon) (of.calendar_fault (table_state tables.now) message.now wagon)) }
+    ensures { IfOk result (λ why. why
+        ≡ option_or (of.known_fault (table_state tables.now) message.now wagon)
+        (of.calendar_fault (table_state tables.now) message.now wagon)) }
 {
     match tables.wagon(wagon) {
         Some(found) => {
@@ -89,9 +95,12 @@ fn either_fault(
     }
 }
 
-// The same of a wagon that is known, by its share of the message.
+// The same of a wagon that is known, by its event of the message.
 fn event_fault(wagon: &Wagon, event: &Event) -> Option<Why>
-    ensures { result ≡ option_or (refusal wagon.now.events event.now.by event.now.body) (if estimates.is_calendar_checked event.now.body && not (estimates.fits (wagon.now.events ++ event.now ∷ [])) then Some Why.BeyondCalendar else None) }
+    ensures { result ≡ option_or (refusal wagon.now.events event.now.by event.now.body)
+        (if estimates.is_calendar_checked event.now.body && not
+        (estimates.fits (wagon.now.events ++ event.now ∷ [])) then Some Why.BeyondCalendar
+        else None) }
 {
     match wagon.track().admits(event) {
         Some(why) => Some(why),
@@ -106,10 +115,12 @@ fn calendar_fault(
     message: &Message,
     wagon: WagonNumber,
 ) -> Result<Option<Why>, Memory>
-    requires whole { of.whole_fault (table_state tables.now) message.now.by message.now.body ≡ None }
+    requires whole { of.whole_fault (table_state tables.now) message.now.by message.now.body
+        ≡ None }
     requires is_named { has (named_wagons (table_state tables.now).offer message.now) wagon ≡ true }
     requires admitted { of.known_fault (table_state tables.now) message.now wagon ≡ None }
-    ensures { IfOk result (λ why. why ≡ of.calendar_fault (table_state tables.now) message.now wagon) }
+    ensures { IfOk result (λ why. why
+        ≡ of.calendar_fault (table_state tables.now) message.now wagon) }
 {
     let event = tables.event_for(message, wagon)?;
     match tables.wagon(wagon) {
@@ -122,7 +133,8 @@ fn calendar_fault(
 // With the event, which its journey admits, an estimate of the wagon would pass the calendar.
 fn is_beyond(wagon: &Wagon, event: &Event) -> bool
     requires { refusal wagon.now.events event.now.by event.now.body ≡ None }
-    ensures { result ≡ (estimates.is_calendar_checked event.now.body && not (estimates.fits (wagon.now.events ++ event.now ∷ []))) }
+    ensures { result ≡ (estimates.is_calendar_checked event.now.body && not
+        (estimates.fits (wagon.now.events ++ event.now ∷ []))) }
 {
     is_calendar_checked(&event.body) && would_pass_calendar(wagon, event)
 }

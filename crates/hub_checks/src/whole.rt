@@ -28,7 +28,8 @@ pub(crate) fn whole_fault(tables: &Tables, by: Railway, says: &Body) -> Option<W
 
 // A plan needs a consignment of its own.
 fn plan_fault(tables: &Tables, plan: &Plan) -> Option<Why>
-    ensures { (by : Railway) → result ≡ whole_fault (table_state tables.now) by (body.Plan plan.now) }
+    ensures { (by : Railway) → result
+        ≡ whole_fault (table_state tables.now) by (body.Plan plan.now) }
 {
     if tables.plan(plan.consignment()).is_some() {
         Some(Why::ConsignmentTaken)

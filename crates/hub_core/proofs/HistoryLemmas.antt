@@ -1,4 +1,4 @@
--- What keeps the books, where a history has one more entry.
+-- What keeps the state, where a history has one more entry.
 use Rattle.std.proofs.Common.{◌≡◌, ℕ, ◌<◌, ◌≤◌, Bool, true, false, cond, length, List, [], ◌∷◌, ◌++◌, Option, Some, None, refl, ap, ◌∙◌, sym, subst, arith}
 use Rattle.std.proofs.lemmas.Option.{slice_get_within}
 use Rattle.std.proofs.lemmas.List.{length-append}
@@ -63,7 +63,7 @@ module _ (history : List Entry) (call : Call) (looked_up : HubState) (position :
   abbrev pub e : Entry
   e = record { call = call; reply = answer history call }
 
-  -- the books of the longer history
+  -- the state of the longer history
   pub kept_more : (s looked_up' : HubState) (position' : Railway → ℕ → Option ℕ) (box' : Railway → OutboxState) → after (state_of history) e ≡ s → looked_up' ≡ table_part s →
       ((by : Railway) (n : ℕ) → LeadsTo (history ++ e ∷ []) (position' by n) (s.first_send by n)) → ((r : Railway) → Keeps (box' r) (s.outbox r) (s.acknowledged r)) → OffersWereSent s →
       Represents (history ++ e ∷ []) looked_up' position' box'

@@ -1,4 +1,4 @@
--- When the hub's books are kept.
+-- When the hub's state is consistent with its history.
 use Rattle.std.specs.Prelude.{◌≡◌, ℕ, ◌≤◌, List, length, slice_get, Option, Some, None, Result, Ok, Err}
 use Rattle.taf_codes.specs.declared.code.Railway.{Railway}
 use Rattle.taf_messages.specs.declared.call.Call.TheVariants.{Send}
@@ -47,7 +47,7 @@ pub record Represents (history : List Entry) (looked_up : HubState) (position : 
   pub boxes : (r : Railway) → Keeps (box r) ((state_of history).outbox r) ((state_of history).acknowledged r)
   pub offers : OffersWereSent (state_of history)
 
--- the books of a hub are kept
+-- the state of a hub represents its history
 abbrev pub IsConsistent : State → Type 0
 IsConsistent b = Represents b.history.entries (table_state b.tables) (position_of b.seen) (outbox_state_of b.outboxes)
 

@@ -11,7 +11,7 @@ use outbox::{AckAhead, boxes_keep_the_lists};
 use taf_codes::{Memory, Railway};
 use taf_messages::{Call, ItemNumber, Reply, Why};
 
-/// The reply to an acknowledgement that stands, or is ahead.
+// The reply to an acknowledgement that stands, or is ahead.
 fn reply_of(outcome: Result<u64, AckAhead>) -> Reply
     ensures { result ≡ ack_outcome_reply outcome }
 {
@@ -32,7 +32,8 @@ pub fn apply_ack(state: &mut State, by: Railway, item: ItemNumber) -> Result<Rep
     requires room { length state.old.history.entries < 1000000 }
     ensures kept { IsConsistent state.new }
     ensures answered { IfOk result (λ r. r ≡ answer state.old.history.entries (call.Ack by item)) }
-    ensures grows { IfOk result (λ r. state.new.history.entries ≡ state.old.history.entries ++ record { call = call.Ack by item; reply = r } ∷ []) }
+    ensures grows { IfOk result (λ r. state.new.history.entries ≡ state.old.history.entries
+        ++ record { call = call.Ack by item; reply = r } ∷ []) }
     ensures err { OnErr result (state.new.history.entries ≡ state.old.history.entries) }
 {
     boxes_keep_the_lists();

@@ -1,4 +1,4 @@
-//! What each call does to the books.
+//! What each call does to the state.
 ghost use Rattle.std.specs.Prelude.{◌≡◌, ◌<◌, ◌∷◌, [], ◌++◌, length, IfOk, OnErr};
 ghost use Rattle.hub_model.specs.Histories.{answer};
 ghost use Rattle.hub_core.specs.States.{IsConsistent};
@@ -11,13 +11,14 @@ use std::alloc::Global;
 use taf_codes::Memory;
 use taf_messages::{Call, Reply};
 
-/// Takes a call, and gives the reply to be told. Where memory is refused, nothing that is looked up changes.
+/// Takes a call, and gives the reply. Where memory is refused, nothing that is looked up changes.
 pub fn apply_call(alloc: Global, state: &mut State, call: Call) -> Result<Reply, Memory>
     requires kept { IsConsistent state.old }
     requires room { length state.old.history.entries < 1000000 }
     ensures kept { IsConsistent state.new }
     ensures answered { IfOk result (λ r. r ≡ answer state.old.history.entries call) }
-    ensures grows { IfOk result (λ r. state.new.history.entries ≡ state.old.history.entries ++ record { call = call; reply = r } ∷ []) }
+    ensures grows { IfOk result (λ r. state.new.history.entries ≡ state.old.history.entries
+        ++ record { call = call; reply = r } ∷ []) }
     ensures err { OnErr result (state.new.history.entries ≡ state.old.history.entries) }
 {
     match call {

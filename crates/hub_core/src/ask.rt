@@ -45,7 +45,8 @@ pub fn deviation_reply(
     consignment: ConsignmentId,
 ) -> Result<Reply, Memory>
     requires { IsConsistent state.now }
-    ensures { IfOk result (λ r. r ≡ answer state.now.history.entries (call.Deviation by consignment)) }
+    ensures { IfOk result (λ r. r
+        ≡ answer state.now.history.entries (call.Deviation by consignment)) }
 {
     deviation(alloc, &state.tables, by, consignment)
 }

@@ -25,7 +25,8 @@ pub fn make_room_for(outboxes: &mut Outboxes, items: &[AddressedItem]) -> Result
 pub fn deliver(outboxes: &mut Outboxes, items: Vec<AddressedItem>)
     requires ready { AreReady outboxes.old (2 ^ 62) (length items.items) items.items }
     requires few { length items.items < 2 ^ 62 }
-    ensures { (r : Railway) → outbox_state_of outboxes.new r ≡ with_items (outbox_state_of outboxes.old r) (items_to r items.items) }
+    ensures { (r : Railway) → outbox_state_of outboxes.new r
+        ≡ with_items (outbox_state_of outboxes.old r) (items_to r items.items) }
 {
     for item in items {
         let _number = outboxes.put(item.to, item.body);

@@ -86,8 +86,10 @@ impl Hub {
 
     /// Takes a call, and gives its position in the history and its reply.
     pub fn apply(&mut self, call: Call) -> Result<(u64, Reply), HubFault>
-        ensures answered { IfOk result (λ r. (r.0 ≡ length self.old) × (r.1 ≡ answer self.old call)) }
-        ensures grows { IfOk result (λ r. self.new ≡ self.old ++ record { call = call; reply = r.1 } ∷ []) }
+        ensures answered { IfOk result (λ r. (r.0 ≡ length self.old)
+            × (r.1 ≡ answer self.old call)) }
+        ensures grows { IfOk result (λ r. self.new ≡ self.old
+            ++ record { call = call; reply = r.1 } ∷ []) }
         ensures room { IfOk result (λ r. r.0 < 1000000) }
         ensures fault { IfErr result (λ f. IsFault f call (length self.old)) }
         ensures full { length self.old ≡ 1000000 → result ≡ Err (HubFault.Full call) }

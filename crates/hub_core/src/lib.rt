@@ -4,10 +4,10 @@
 //! defines after all calls before it. The history grows by exactly that call and reply. A call that meets a full history
 //! is handed back, and where memory is refused all stays as it was.
 //!
-//! Contracts see a [`Hub`] as its history, the list of its entries. Behind it stand the hub's *books*: the history in
-//! pages, the tables of wagons, plans and offers, the first sends by their names, and the outboxes. The books are *kept*:
-//! the history is legal, and each of them answers as the model does after it (`specs/States.antt`). No function looks
-//! through the history, so a call takes no longer when it is long.
+//! Contracts see a [`Hub`] as its history, the list of its entries. Behind it stands its `State`: the history in
+//! pages, the tables of wagons, plans and offers, the first sends by their names, and the outboxes. The state is
+//! *consistent*: the history is legal, and each part answers as the model does after it (`specs/States.antt`). No function
+//! looks through the history, so a call takes no longer when it is long.
 //!
 //! A message is taken in two steps. First comes all that may be refused memory: the items, their places in the outboxes,
 //! room in the history and among the names, and the tables' own step, which is all or nothing. Then come steps that
@@ -17,19 +17,27 @@
 //! |---|---|
 //! | `ask` | the replies to questions, and to a fetch of items |
 //! | `ack` | acknowledgements |
-//! | `send` | messages: sent before, refused, accepted |
+//! | `send` | messages: each is new, or was sent before |
+//! | `repeats` | messages that were sent before |
+//! | `refusals` | new messages that are refused |
+//! | `acceptance` | new messages that are accepted |
+//! | `verdicts` | the reply to a new message, and its entry |
 //! | `delivery` | items on their way into the outboxes |
 //! | `applying` | each call to its part |
 #![tactic(auto)]
 
+mod acceptance;
 mod ack;
+mod applying;
 mod ask;
-mod state;
 mod delivery;
 mod fault;
 mod hub;
+mod refusals;
+mod repeats;
 mod send;
-mod applying;
+mod state;
+mod verdicts;
 mod view;
 
 pub use fault::HubFault;

@@ -1,4 +1,4 @@
-//! The hub's books.
+//! The hub's state: all that it keeps.
 ghost use Rattle.std.specs.Prelude.{◌≡◌, ◌<◌, ◌^◌, [], ◌∷◌, ◌++◌, length, IfOk, OnOk, OnErr};
 ghost use Rattle.hub_model.specs.Updates.{after};
 ghost use Rattle.hub_model.specs.Histories.{answer, state_of};
@@ -24,7 +24,7 @@ pub struct State {
 }
 
 impl State {
-    /// The books of a hub that has taken no call.
+    /// The state of a hub that has taken no call.
     pub fn new(alloc: Global) -> State
         ensures history { result.history.entries ≡ [] }
         ensures kept { IsConsistent result }
@@ -39,16 +39,18 @@ impl State {
 }
 
 #[tactic(auto, using(crate::proofs::HistoryLemmas::kept_entered))]
-/// Enters a call with its answer, which changes nothing that is looked up. Gives the reply to be told.
+/// Enters a call with its answer, which changes nothing that is looked up. Gives the reply.
 pub fn append_entry(state: &mut State, call: Call, reply: Reply) -> Result<Reply, Memory>
     requires kept { IsConsistent state.old }
     requires room { length state.old.history.entries < 1000000 }
     requires answered { reply ≡ answer state.old.history.entries call }
-    requires quiet { after (state_of state.old.history.entries) (record { call = call; reply = reply }) ≡ state_of state.old.history.entries }
+    requires quiet { after (state_of state.old.history.entries)
+        (record { call = call; reply = reply }) ≡ state_of state.old.history.entries }
     requires limits { IsSend KeepsLimits call }
     ensures kept { IsConsistent state.new }
     ensures reply_copy { IfOk result (λ reply_copy. reply_copy ≡ reply) }
-    ensures entered { OnOk result (state.new.history.entries ≡ state.old.history.entries ++ record { call = call; reply = reply } ∷ []) }
+    ensures entered { OnOk result (state.new.history.entries ≡ state.old.history.entries
+        ++ record { call = call; reply = reply } ∷ []) }
     ensures err { OnErr result (state.new.history.entries ≡ state.old.history.entries) }
 {
     let reply_copy = copy_reply(&reply)?;

@@ -29,7 +29,7 @@ none_taken : {A B : Type 0} (f : A → Option B) → ((x : A) → f x ≡ None) 
 none_taken f none [] = refl
 none_taken f none (x ∷ xs) = rw (none x) (none_taken f none xs)
 
--- the share of a plan
+-- the event of a plan
 abbrev pub planned : Railway → ℕ → Trip → Event
 planned by number p = record { by = by; no = number; at = None; body = Planned p }
 

@@ -1,4 +1,4 @@
--- A journey with one event more.
+-- A journey with one event more: the transition of a wagon.
 use Rattle.std.specs.Prelude.{◌≡◌, ℕ, Bool, true, false, List, Option, None, option_map, option_to_list, filter, flat_map}
 use Rattle.taf_messages.specs.declared.movement.MovementKind.TheVariants.{YardArrival, YardDeparture}
 use Rattle.taf_messages.specs.declared.record.EstimateAt.{EstimateAt}

@@ -17,7 +17,8 @@ pub(crate) fn put_alerts(
     items: &mut Vec<AddressedItem>,
     change: &WagonChange<'_>,
 ) -> Result<(), Memory>
-    ensures { OnOk result (items.new.items ≡ items.old.items ++ of.alert_items change.now.before (after change.now) change.now.wagon) }
+    ensures { OnOk result (items.new.items ≡ items.old.items
+        ++ of.alert_items change.now.before (after change.now) change.now.wagon) }
 {
     match alert(change) {
         Some(says) => put_alert(alloc, items, change, &says),
@@ -33,7 +34,8 @@ fn put_alert(
     says: &ItemBody,
 ) -> Result<(), Memory>
     requires { of.alert change.now.before (after change.now) change.now.wagon ≡ Some says.now }
-    ensures { OnOk result (items.new.items ≡ items.old.items ++ of.alert_items change.now.before (after change.now) change.now.wagon) }
+    ensures { OnOk result (items.new.items ≡ items.old.items
+        ++ of.alert_items change.now.before (after change.now) change.now.wagon) }
 {
     let railways = alert_receivers(alloc, change)?;
     put_each(items, says, railways.as_slice())?;

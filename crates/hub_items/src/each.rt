@@ -11,7 +11,8 @@ pub(crate) fn put_each(
     says: &ItemBody,
     railways: &[Railway],
 ) -> Result<(), Memory>
-    ensures { OnOk result (items.new.items ≡ items.old.items ++ map (λ r. record { to = r; body = says.now }) railways.now) }
+    ensures { OnOk result (items.new.items ≡ items.old.items
+        ++ map (λ r. record { to = r; body = says.now }) railways.now) }
 {
     for railway in railways {
         items.push(AddressedItem {

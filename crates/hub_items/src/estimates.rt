@@ -14,7 +14,8 @@ pub(crate) fn put_estimates(
     items: &mut Vec<AddressedItem>,
     change: &WagonChange<'_>,
 ) -> Result<(), Memory>
-    ensures { OnOk result (items.new.items ≡ items.old.items ++ of.estimate_items change.now.before (after change.now) change.now.wagon) }
+    ensures { OnOk result (items.new.items ≡ items.old.items
+        ++ of.estimate_items change.now.before (after change.now) change.now.wagon) }
 {
     for leg in 0..change.leg_count() {
         put_of_leg(items, change, leg)?;
@@ -58,7 +59,9 @@ fn put_news(
     change: &WagonChange<'_>,
     estimate: &EstimateAt,
 ) -> Result<(), Memory>
-    ensures { OnOk result (items.new.items ≡ items.old.items ++ (if of.is_news change.now.before (after change.now) estimate.now then of.estimate_item (after change.now) change.now.wagon estimate.now else [])) }
+    ensures { OnOk result (items.new.items ≡ items.old.items
+        ++ (if of.is_news change.now.before (after change.now) estimate.now
+        then of.estimate_item (after change.now) change.now.wagon estimate.now else [])) }
 {
     if let Some(item) = news_item(change, estimate) {
         items.push(item)?;
@@ -68,7 +71,9 @@ fn put_news(
 
 // The item of the estimate, if that is news.
 fn news_item(change: &WagonChange<'_>, estimate: &EstimateAt) -> Option<AddressedItem>
-    ensures { option_to_list result ≡ (if of.is_news change.now.before (after change.now) estimate.now then of.estimate_item (after change.now) change.now.wagon estimate.now else []) }
+    ensures { option_to_list result
+        ≡ (if of.is_news change.now.before (after change.now) estimate.now
+        then of.estimate_item (after change.now) change.now.wagon estimate.now else []) }
 {
     if is_news(change, estimate) {
         estimate_item(change, estimate)
@@ -79,7 +84,8 @@ fn news_item(change: &WagonChange<'_>, estimate: &EstimateAt) -> Option<Addresse
 
 // The estimate for the railway of the next leg, or of the last leg for the lead.
 fn estimate_item(change: &WagonChange<'_>, estimate: &EstimateAt) -> Option<AddressedItem>
-    ensures { option_to_list result ≡ of.estimate_item (after change.now) change.now.wagon estimate.now }
+    ensures { option_to_list result
+        ≡ of.estimate_item (after change.now) change.now.wagon estimate.now }
 {
     let wagon = change.wagon();
     let EstimateAt { leg, at } = *estimate;

@@ -21,7 +21,7 @@ use taf_codes::{Memory, Railway};
 use taf_messages::{Body, ItemBody, Message, Movement, Shared};
 use wagon_number::WagonNumber;
 
-/// What an acceptable message has the railways told, in order; nothing goes to its own sender.
+/// What an acceptable message makes for the railways, in order; nothing goes to its own sender.
 pub fn items(
     alloc: Global,
     tables: &Tables,
@@ -93,7 +93,9 @@ fn notice_alone(
     notice: &Shared<Message>,
     receiver: Option<Railway>,
 ) -> Result<Vec<AddressedItem>, Memory>
-    ensures { IfOk result (λ v. v.items ≡ map (λ r. record { to = r; body = ItemBody.Notice notice.now }) (option_to_list receiver)) }
+    ensures { IfOk result (λ v. v.items
+        ≡ map (λ r. record { to = r; body = ItemBody.Notice notice.now }) (option_to_list receiver))
+        }
 {
     let mut items = Vec::new(alloc);
     put_notice(&mut items, notice, receiver)?;
@@ -107,7 +109,10 @@ fn items_of_one(
     receiver: Option<Railway>,
     change: &WagonChange<'_>,
 ) -> Result<Vec<AddressedItem>, Memory>
-    ensures { IfOk result (λ v. v.items ≡ map (λ r. record { to = r; body = ItemBody.Notice notice.now }) (option_to_list receiver) ++ of.estimate_items change.now.before (after change.now) change.now.wagon ++ of.alert_items change.now.before (after change.now) change.now.wagon) }
+    ensures { IfOk result (λ v. v.items
+        ≡ map (λ r. record { to = r; body = ItemBody.Notice notice.now }) (option_to_list receiver)
+        ++ of.estimate_items change.now.before (after change.now) change.now.wagon
+        ++ of.alert_items change.now.before (after change.now) change.now.wagon) }
 {
     let mut items = notice_alone(alloc, notice, receiver)?;
     put_estimates(&mut items, change)?;
@@ -121,7 +126,9 @@ fn put_notice(
     notice: &Shared<Message>,
     receiver: Option<Railway>,
 ) -> Result<(), Memory>
-    ensures { OnOk result (items.new.items ≡ items.old.items ++ map (λ r. record { to = r; body = ItemBody.Notice notice.now }) (option_to_list receiver)) }
+    ensures { OnOk result (items.new.items ≡ items.old.items
+        ++ map (λ r. record { to = r; body = ItemBody.Notice notice.now })
+        (option_to_list receiver)) }
 {
     if let Some(to) = receiver {
         let body = ItemBody::Notice(notice.clone()?);
@@ -175,8 +182,12 @@ fn put_of_wagons(
 ) -> Result<(), Memory>
     requires acceptable { IsAcceptable (table_state tables.now) message.now }
     requires are_named { wagons.now ≡ named_wagons (table_state tables.now).offer message.now }
-    ensures estimates { OnOk result (items.new.items ≡ items.old.items ++ flat_map (λ w. of.estimate_items ((table_state tables.now).journey w) (journey_after (table_state tables.now) message.now w) w) wagons.now) }
-    ensures alerts { OnOk result (alerts.new.items ≡ alerts.old.items ++ flat_map (λ w. of.alert_items ((table_state tables.now).journey w) (journey_after (table_state tables.now) message.now w) w) wagons.now) }
+    ensures estimates { OnOk result (items.new.items ≡ items.old.items
+        ++ flat_map (λ w. of.estimate_items ((table_state tables.now).journey w)
+        (journey_after (table_state tables.now) message.now w) w) wagons.now) }
+    ensures alerts { OnOk result (alerts.new.items ≡ alerts.old.items
+        ++ flat_map (λ w. of.alert_items ((table_state tables.now).journey w)
+        (journey_after (table_state tables.now) message.now w) w) wagons.now) }
 {
     for wagon in wagons {
         put_of_wagon(alloc, items, alerts, tables, message, *wagon)?;
@@ -195,8 +206,12 @@ fn put_of_wagon(
 ) -> Result<(), Memory>
     requires acceptable { IsAcceptable (table_state tables.now) message.now }
     requires is_named { has (named_wagons (table_state tables.now).offer message.now) wagon ≡ true }
-    ensures estimates { OnOk result (items.new.items ≡ items.old.items ++ of.estimate_items ((table_state tables.now).journey wagon) (journey_after (table_state tables.now) message.now wagon) wagon) }
-    ensures alerts { OnOk result (alerts.new.items ≡ alerts.old.items ++ of.alert_items ((table_state tables.now).journey wagon) (journey_after (table_state tables.now) message.now wagon) wagon) }
+    ensures estimates { OnOk result (items.new.items ≡ items.old.items
+        ++ of.estimate_items ((table_state tables.now).journey wagon)
+        (journey_after (table_state tables.now) message.now wagon) wagon) }
+    ensures alerts { OnOk result (alerts.new.items ≡ alerts.old.items
+        ++ of.alert_items ((table_state tables.now).journey wagon)
+        (journey_after (table_state tables.now) message.now wagon) wagon) }
 {
     match message.body() {
         Body::Plan(plan) => put_alert_end(alerts, tables, plan.lead(), wagon),
@@ -218,8 +233,10 @@ fn put_of_change(
     alerts: &mut Vec<AddressedItem>,
     change: &WagonChange<'_>,
 ) -> Result<(), Memory>
-    ensures estimates { OnOk result (items.new.items ≡ items.old.items ++ of.estimate_items change.now.before (after change.now) change.now.wagon) }
-    ensures alerts { OnOk result (alerts.new.items ≡ alerts.old.items ++ of.alert_items change.now.before (after change.now) change.now.wagon) }
+    ensures estimates { OnOk result (items.new.items ≡ items.old.items
+        ++ of.estimate_items change.now.before (after change.now) change.now.wagon) }
+    ensures alerts { OnOk result (alerts.new.items ≡ alerts.old.items
+        ++ of.alert_items change.now.before (after change.now) change.now.wagon) }
 {
     put_estimates(items, change)?;
     put_alerts(alloc, alerts, change)
@@ -232,7 +249,9 @@ fn put_alert_end(
     lead: Railway,
     wagon: WagonNumber,
 ) -> Result<(), Memory>
-    ensures { OnOk result (items.new.items ≡ items.old.items ++ (if is_late ((table_state tables.now).journey wagon) then record { to = lead; body = ItemBody.AlertEnds wagon } ∷ [] else [])) }
+    ensures { OnOk result (items.new.items ≡ items.old.items
+        ++ (if is_late ((table_state tables.now).journey wagon)
+        then record { to = lead; body = ItemBody.AlertEnds wagon } ∷ [] else [])) }
 {
     if is_late(tables, wagon) {
         items.push(AddressedItem {

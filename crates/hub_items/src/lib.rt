@@ -1,4 +1,4 @@
-//! What an accepted message has the railways told (4.2.6, 4.2.7, 4.2.8).
+//! What an accepted message makes for the railways (4.2.6, 4.2.7, 4.2.8).
 //!
 //! [`items`] lists the items of an accepted message, each with the railway that it goes to, in the order in which they
 //! are put into the outboxes:
@@ -9,7 +9,7 @@
 //!    leg to the lead;
 //! 4. of each wagon of the message, the alert that begins or ends: to the lead, and to the railway that answers for it.
 //!
-//! None goes to the sender of the message. Nothing is changed: what the message leads to is reckoned by one step from
+//! None goes to the sender of the message. Nothing is changed: what the message leads to is counted by one step from
 //! what the tables have of its wagons.
 #![tactic(auto)]
 

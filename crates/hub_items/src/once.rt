@@ -19,7 +19,8 @@ pub(crate) fn each_once(alloc: Global, railways: &[Railway]) -> Result<Vec<Railw
 
 // Adds the railway, if it is not among those before it.
 fn put_new(once: &mut Vec<Railway>, before: &[Railway], railway: Railway) -> Result<(), AllocError>
-    ensures { OnOk result (once.new.items ≡ once.old.items ++ (if list_any (λ r. bytes_eq r railway) before.now then [] else railway ∷ [])) }
+    ensures { OnOk result (once.new.items ≡ once.old.items
+        ++ (if list_any (λ r. bytes_eq r railway) before.now then [] else railway ∷ [])) }
 {
     if !before.contains(&railway) {
         once.push(railway)?;

@@ -26,7 +26,9 @@ pub(crate) fn notice_receivers(
 ) -> Result<Vec<Railway>, Memory>
     requires acceptable { IsAcceptable (table_state tables.now) message.now }
     requires many { has_one_receiver message.now.body ≡ false }
-    ensures { IfOk result (λ v. v.items ≡ of.notice_receivers (table_state tables.now) (journey_after (table_state tables.now) message.now) message.now.by message.now.body) }
+    ensures { IfOk result (λ v. v.items
+        ≡ of.notice_receivers (table_state tables.now)
+        (journey_after (table_state tables.now) message.now) message.now.by message.now.body) }
 {
     match message.body() {
         Body::Plan(plan) => Ok(runners(alloc, plan.legs())?),
@@ -62,7 +64,7 @@ fn runners(alloc: Global, legs: &[Leg]) -> Result<Vec<Railway>, AllocError>
     legs.iter().map(|leg| leg.ru).collect(alloc)
 }
 
-/// Who is told of a movement.
+/// Who gets the notice of a movement.
 pub(crate) fn movement_receivers(change: &WagonChange<'_>, what: MovementKind) -> Option<Railway>
     ensures { option_to_list result ≡ of.movement_receivers (after change.now) what }
 {
@@ -78,7 +80,7 @@ pub(crate) fn movement_receivers(change: &WagonChange<'_>, what: MovementKind) -
     }
 }
 
-// Who is told of new legs: the current leg's railway, and those of the legs taken away and set.
+// Who gets the notice of new legs: the current leg's railway, and those of the legs taken away and set.
 fn route_receivers(alloc: Global, track: &Track, route: &[Leg]) -> Result<Vec<Railway>, AllocError>
     ensures { IfOk result (λ v. v.items ≡ of.route_receivers track.now.events route.now) }
 {
@@ -91,7 +93,7 @@ fn route_receivers(alloc: Global, track: &Track, route: &[Leg]) -> Result<Vec<Ra
     Ok(railways)
 }
 
-// Who is told of an answer: who made the offer, and the leads of the wagons.
+// Who gets the notice of an answer: who made the offer, and the leads of the wagons.
 fn answer_receivers(
     alloc: Global,
     tables: &Tables,
@@ -100,7 +102,9 @@ fn answer_receivers(
 ) -> Result<Vec<Railway>, Memory>
     requires acceptable { IsAcceptable (table_state tables.now) message.now }
     requires is_answer { message.now.body ≡ body.Answer answer.now }
-    ensures { IfOk result (λ v. v.items ≡ of.notice_receivers (table_state tables.now) (journey_after (table_state tables.now) message.now) message.now.by message.now.body) }
+    ensures { IfOk result (λ v. v.items
+        ≡ of.notice_receivers (table_state tables.now)
+        (journey_after (table_state tables.now) message.now) message.now.by message.now.body) }
 {
     let mut railways = listed(alloc, Some(answer.offerer))?;
     let wagons = tables.named_wagons(alloc, message)?;
@@ -118,7 +122,9 @@ fn put_leads(
     requires acceptable { IsAcceptable (table_state tables.now) message.now }
     requires no_plan { continues_journeys message.now.body ≡ true }
     requires are_named { wagons.now ≡ named_wagons (table_state tables.now).offer message.now }
-    ensures { OnOk result (railways.new.items ≡ railways.old.items ++ filter_map (λ w. legs_of.lead_of (journey_after (table_state tables.now) message.now w)) wagons.now) }
+    ensures { OnOk result (railways.new.items ≡ railways.old.items
+        ++ filter_map (λ w. legs_of.lead_of (journey_after (table_state tables.now) message.now w))
+        wagons.now) }
 {
     for wagon in wagons {
         put_lead(railways, &WagonEvent::of(tables, message, *wagon)?)?;
@@ -128,7 +134,8 @@ fn put_leads(
 
 // Adds the lead of a wagon.
 fn put_lead(railways: &mut Vec<Railway>, next: &WagonEvent<'_>) -> Result<(), AllocError>
-    ensures { OnOk result (railways.new.items ≡ railways.old.items ++ option_to_list (legs_of.lead_of (after next.now))) }
+    ensures { OnOk result (railways.new.items ≡ railways.old.items
+        ++ option_to_list (legs_of.lead_of (after next.now))) }
 {
     if let Some(lead) = next.lead() {
         railways.push(lead)?;

@@ -1,4 +1,4 @@
-//! A journey with one event more.
+//! A journey with one event more: the transition of a wagon.
 ghost use Rattle.std.specs.Prelude.{◌≡◌, ℕ, ◌≤◌, ◌++◌, ◌∷◌, [], length, true, None, IfOk};
 ghost use Rattle.trip_plan.specs.Rules.{has};
 ghost use Rattle.journey.specs.Stages as stages;
@@ -39,7 +39,7 @@ impl<'a> Model for WagonEvent<'a> {
 }
 
 impl<'a> WagonEvent<'a> {
-    /// A wagon that an acceptable message names, which is no plan, with its share of the message.
+    /// A wagon that an acceptable message names, which is no plan, with its event of the message.
     pub(crate) fn of(
         tables: &'a Tables,
         message: &Message,
@@ -47,11 +47,14 @@ impl<'a> WagonEvent<'a> {
     ) -> Result<WagonEvent<'a>, Memory>
         requires acceptable { IsAcceptable (table_state tables.now) message.now }
         requires no_plan { continues_journeys message.now.body ≡ true }
-        requires is_named { has (named_wagons (table_state tables.now).offer message.now) wagon ≡ true }
+        requires is_named { has (named_wagons (table_state tables.now).offer message.now) wagon
+            ≡ true }
         ensures wagon { IfOk result (λ n. n.wagon ≡ wagon) }
         ensures before { IfOk result (λ n. n.before ≡ (table_state tables.now).journey wagon) }
-        ensures after { IfOk result (λ n. after n ≡ journey_after (table_state tables.now) message.now wagon) }
-        ensures says { IfOk result (λ n. n.event.body ≡ event_body_for (table_state tables.now).offer message.now.by message.now.body wagon) }
+        ensures after { IfOk result (λ n. after n
+            ≡ journey_after (table_state tables.now) message.now wagon) }
+        ensures says { IfOk result (λ n. n.event.body
+            ≡ event_body_for (table_state tables.now).offer message.now.by message.now.body wagon) }
     {
         let event = tables.event_for(message, wagon)?;
         match tables.wagon(wagon) {
@@ -70,11 +73,13 @@ impl<'a> WagonEvent<'a> {
         self.wagon.track().journey_state().lead
     }
 
-    /// Whether the event leaves all estimates as they are. Nothing is told of them then.
+    /// Whether the event leaves all estimates as they are. Then it makes no item of them.
     pub(crate) fn keeps_estimates(&self) -> bool
         ensures value { result ≡ keeps_estimates self.now.event.body }
-        ensures estimates { (w : ℕ) → result ≡ true → estimate_items self.now.before (after self.now) w ≡ [] }
-        ensures alerts { (w : ℕ) → result ≡ true → alert_items self.now.before (after self.now) w ≡ [] }
+        ensures estimates { (w : ℕ) → result ≡ true
+            → estimate_items self.now.before (after self.now) w ≡ [] }
+        ensures alerts { (w : ℕ) → result ≡ true → alert_items self.now.before (after self.now) w
+            ≡ [] }
     {
         keeps_estimates(&self.event.body)
     }

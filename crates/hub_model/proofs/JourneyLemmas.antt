@@ -1,4 +1,4 @@
--- The journey that is carried along is the part of the wagon's shares from the last plan on.
+-- The journey that is carried along is the part of the wagon's events from the last plan on.
 use Rattle.std.proofs.Common.{◌≡◌, ℕ, Bool, true, false, cond, List, [], ◌∷◌, ◌++◌, refl, ap, ◌∙◌, sym, append_assoc, append-nil}
 use Rattle.std.specs.Prelude.{◌||◌}
 use Rattle.std.specs.Option.{option_or}
@@ -22,7 +22,7 @@ use Rattle.hub_model.specs.AcceptedMessages.{accepts, accepted_message, accepted
 use Rattle.hub_model.proofs.StepLemmas.{step-journey, step-offer}
 use Rattle.hub_model.proofs.ListLemmas.{newest-append, newest_step, acks_offer}
 
--- the shares that a wagon has of messages, which come after those before, each by the offers known at its place
+-- the events that a wagon has of messages, which come after those before, each by the offers known at its place
 abbrev pub shares_after : List Message → List Message → ℕ → List Event
 shares_after before [] w = []
 shares_after before (m ∷ messages) w =
@@ -44,7 +44,7 @@ carried_named : (h : Bool) (events : List Event) (e : Event) → cond h (with_ev
 carried_named true events e = refl
 carried_named false events e = refl
 
--- an accepted message carries the journey on by its share
+-- an accepted message carries the journey on by its event
 carried_taken : (s : HubState) (before : List Message) (m : Message) (w : ℕ) (b : Bool) → s.offer ≡ offers_in before →
     cond b (cond (has (named_wagons s.offer m) w) (with_event (s.journey w) (event_for s.offer m w)) (s.journey w)) (s.journey w) ≡
     fold with_event (s.journey w) (shares_after before (cond b (m ∷ []) []) w)

@@ -1,4 +1,4 @@
--- A share by the offers known before its message is the share by the offers of the whole list.
+-- A share by the offers known before its message is the event by the offers of the whole list.
 use Rattle.std.proofs.Common.{◌≡◌, ℕ, Bool, true, false, cond, List, [], ◌∷◌, ◌++◌, Option, Some, None, refl, ap, ◌∙◌, sym, inl, inr}
 use Rattle.std.specs.Prelude.{◌&&◌, is_some, is_none, filter_map}
 use Rattle.std.specs.Option.{option_or}
@@ -123,7 +123,7 @@ stands_through s sent (call ∷ calls) by n h =
     let same = one.0 by n h in
     stands_through (step s call) one.1 calls by n (ap is_some same ∙ h) ∙ same
 
--- the share of one message
+-- the event of one message
 one_share : (h : Bool) (x : Event) → cond h (x ∷ []) [] ++ [] ≡ cons_option (cond h (Some x) None) []
 one_share true x = refl
 one_share false x = refl
@@ -156,7 +156,7 @@ shares_later s before e sent w (call ∷ calls) =
     ap (λ es. filter_map (λ n. event_if_named after n w) (accepted_message s call) ++ es) (shares_later (step s call) (before ++ accepted_message s call) (offers_step s before call e) ((offers_stand s sent call).1) w calls) ∙
     sym (filter_map-append (λ n. event_if_named after n w) (accepted_message s call) rest)
 
--- the shares of the accepted messages, by the offers among them
+-- the events of the accepted messages, by the offers among them
 pub shares_of_all : (w : ℕ) (calls : List Call) → shares_after [] (accepted_from new_state calls) w ≡ events_from (accepted_from new_state calls) w
 shares_of_all w calls =
     shares_later new_state [] refl (λ by n h. absurd (false≢true h)) w calls ∙

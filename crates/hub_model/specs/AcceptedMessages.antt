@@ -47,11 +47,11 @@ accepted_in calls = accepted_from new_state calls
 abbrev pub offers_in : List Message → Offers
 offers_in messages by n = newest (λ m. offer_given m m.body by n) messages
 
--- the wagon's share of a message, if the message names the wagon
+-- the wagon's event of a message, if the message names the wagon
 abbrev pub event_if_named : Offers → Message → ℕ → Option Event
 event_if_named offers m w = if has (named_wagons offers m) w then Some (event_for offers m w) else None
 
--- the shares that a wagon has of messages, by the offers among them
+-- the events that a wagon has of messages, by the offers among them
 abbrev pub events_from : List Message → ℕ → List Event
 events_from messages w = filter_map (λ m. event_if_named (offers_in messages) m w) messages
 

@@ -94,7 +94,7 @@ event_body_for offers by (body.Reroute v route) w = Rerouted route
 abbrev pub named_wagons : Offers → Message → List ℕ
 named_wagons offers m = wagons_in offers m.by m.body
 
--- the wagon's share of a message that names it
+-- the wagon's event of a message that names it
 abbrev pub event_for : Offers → Message → ℕ → Event
 event_for offers m w = record { by = m.by; no = m.no; at = moment_in m.body; body = event_body_for offers m.by m.body w }
 

@@ -1,4 +1,4 @@
--- What an accepted message has the railways told (4.2.6, 4.2.7, 4.2.8).
+-- What an accepted message makes for the railways (4.2.6, 4.2.7, 4.2.8).
 use Rattle.std.specs.Prelude.{ℕ, ◌+◌, ◌==◌, nat_eq, not, ◌||◌, Bool, if◌then◌else◌, List, [], ◌∷◌, ◌++◌, length, map, filter, flat_map, filter_map, drop, Option, Some, None, option_map, option_to_list, bytes_eq}
 use Rattle.std.specs.Option.{option_eq}
 use Rattle.taf_codes.specs.declared.code.Railway.{Railway}
@@ -30,13 +30,13 @@ each_once (r ∷ rs) = r ∷ filter (λ q. not (bytes_eq q r)) (each_once rs)
 abbrev pub runners : List Leg → List Railway
 runners ls = map (λ l. l.ru) ls
 
--- who is told of a movement, given the wagon's events after it: of a release the first railway, of an estimate nobody, else the lead (4.2.7)
+-- who gets the notice of a movement, given the wagon's events after it: of a release the first railway, of an estimate nobody, else the lead (4.2.7)
 abbrev pub movement_receivers : List Event → MovementKind → List Railway
 movement_receivers after Release = option_to_list (runner_of after 0)
 movement_receivers after Estimate = []
 movement_receivers after _ = option_to_list (lead_of after)
 
--- who is told of new legs, given the events before: the current leg's railway, and those of the legs taken away and set
+-- who gets the notice of new legs, given the events before: the current leg's railway, and those of the legs taken away and set
 abbrev pub route_receivers : List Event → List Leg → List Railway
 route_receivers before route =
     runners (option_to_list (current_leg before)) ++ runners (drop (leg_index before + 1) (legs before)) ++ runners route
@@ -52,7 +52,7 @@ notice_receivers s after by (body.Answer a) = a.offerer ∷ filter_map (λ w. le
 notice_receivers s after by (body.Withdraw at n) = option_to_list (asked_by (s.offer by n))
 notice_receivers s after by (body.Reroute w route) = route_receivers (s.journey w) route
 
--- what the manager is told of an answer that received wagons (4.2.8)
+-- what the manager gets of an answer that received wagons (4.2.8)
 abbrev pub sub_item : Railway → TrainAnswer → Railway → AddressedItem
 sub_item by a manager =
     record { to = manager; body = item.Sub (record { at = a.at; from = by; offer = a.offer; offerer = a.offerer; wagons = a.received }) }

@@ -40,7 +40,7 @@ pub fn histories_are_runs()
 /// What is looked up after calls is what the lists of accepted messages, sends and
 /// acknowledgements say.
 ///
-/// A journey is the wagon's shares of the accepted messages from its last plan on, each read by the
+/// A journey is the wagon's events of the accepted messages from its last plan on, each read by the
 /// offers of the whole list. An offer is open when no accepted answer or withdrawal names it. An
 /// outbox is the items of all accepted messages to its railway, in order. The acknowledged number is
 /// the greatest that was not ahead.

@@ -5,9 +5,9 @@
 //! the definitions in `specs/` say what each call is answered and what each railway is told:
 //!
 //! - `HubState`: what is looked up after calls (journeys, plans, offers, first sends, outboxes,
-//!   the fleet), the wagons that a message names, and a wagon's share of it;
+//!   the fleet), the wagons that a message names, and a wagon's event of it;
 //! - `Faults`: why a new message is refused; `Units`: where the intermodal units are;
-//! - `Items`: what an accepted message has the railways told;
+//! - `Items`: what an accepted message makes for the railways;
 //! - `Answers`: the reply to each call, what it changes, and the histories whose replies are these;
 //! - `Accepted`: the accepted messages, and the lists that the look-ups are of;
 //! - `Accepting`, `Responsibility`, `Laws`, `Bounds`: what holds of them at every moment;

@@ -45,7 +45,8 @@ where
     K: Sink + Send + Drop,
     G: Gate + Sync,
     R: Threads + Wait + Sync,
-    requires lanes { (1 ≤ length lanes.now) × (length lanes.now ≤ 8) × (vec_len workers ≡ length lanes.now) }
+    requires lanes { (1 ≤ length lanes.now) × (length lanes.now ≤ 8)
+        × (vec_len workers ≡ length lanes.now) }
     requires answers { (length answers.now ≡ vec_len sessions) × (vec_len sessions ≤ 64) }
     requires workers { EachAt (λ k w. (w.seat ≡ new_seat 1)
         × ((d : _) → w.pass ≡ new_pass (slice_index_or lanes.now k d).id 1)) workers.items }
@@ -62,8 +63,20 @@ where
         thread::scope_env(),
         rt,
         move |scope| -> Result<Back<L>, ShiftFault>
-            requires { (1 ≤ length lanes.now) × (length lanes.now ≤ 8) × (vec_len workers ≡ length lanes.now) × (length answers.now ≡ vec_len sessions) × (vec_len sessions ≤ 64) × EachAt (λ k w. (w.seat ≡ new_seat 1) × ((d : _) → w.pass ≡ new_pass (slice_index_or lanes.now k d).id 1)) workers.items × EachAt (λ i s. (s.session ≡ i) × ((d : _) → s.pass ≡ new_pass (slice_index_or lanes.now (i % length lanes.now) d).id 1)) sessions.items × (serving.items ≡ []) × (vec_len sessions ≤ vec_capacity serving) × (working.items ≡ []) × (vec_len workers ≤ vec_capacity working) }
-            ensures { IfOk result (λ b. EachPair (λ i s r. IsServed i s.pass r.end r.tally.entries r.pass) sessions.items b.served.items × EachPair (λ k s r. IsWorked s.pass r.pass r.seat) workers.items b.worked.items) }
+            requires { (1 ≤ length lanes.now) × (length lanes.now ≤ 8)
+                × (vec_len workers ≡ length lanes.now) × (length answers.now ≡ vec_len sessions)
+                × (vec_len sessions ≤ 64)
+                × EachAt (λ k w. (w.seat ≡ new_seat 1)
+                × ((d : _) → w.pass ≡ new_pass (slice_index_or lanes.now k d).id 1)) workers.items
+                × EachAt (λ i s. (s.session ≡ i)
+                × ((d : _) → s.pass ≡ new_pass
+                (slice_index_or lanes.now (i % length lanes.now) d).id 1)) sessions.items
+                × (serving.items ≡ []) × (vec_len sessions ≤ vec_capacity serving)
+                × (working.items ≡ []) × (vec_len workers ≤ vec_capacity working) }
+            ensures { IfOk result
+                (λ b. EachPair (λ i s r. IsServed i s.pass r.end r.tally.entries r.pass)
+                sessions.items b.served.items
+                × EachPair (λ k s r. IsWorked s.pass r.pass r.seat) workers.items b.worked.items) }
         {
             let (mut serving, mut working) = (serving, working);
             let mut all = true;
@@ -97,7 +110,8 @@ where
                     promise,
                     move || -> Served
                         requires { (start.pass.inbox ≡ jobs.now.id) × (start.pass.put ≡ []) }
-                        ensures { IsServed start.session start.pass result.end result.tally.entries result.pass }
+                        ensures { IsServed start.session start.pass result.end result.tally.entries
+                            result.pass }
                     { serve::<S, K, R>(rt, alloc, opening, jobs, queue, start) },
                 ) {
                     Ok(thread) => serving.push_reserved(thread),

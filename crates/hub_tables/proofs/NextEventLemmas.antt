@@ -1,4 +1,4 @@
--- The shares by which journeys go on.
+-- The events by which journeys go on.
 use Rattle.std.proofs.Common.{◌≡◌, ℕ, ◌+◌, ◌<◌, ◌≤◌, ◌^◌, ◌==◌, ◌||◌, Bool, true, false, cond, List, [], ◌∷◌, ◌++◌, length, map, get_or, refl, sym, ap, subst, ◌∙◌, arith, true≢false, if◌then◌else◌, inl, inr}
 use Rattle.std.specs.Prelude.{nat_lt, fold}
 use Rattle.std.specs.List.{list_all}
@@ -116,7 +116,7 @@ module _ (e : ℕ → Event) where
   put_first f ws v w out false apart rest =
       rest ∙ ap (λ (es : List Event). if has ws w then es ++ e w ∷ [] else es) (put_other f (v, e v) w apart)
 
-  -- each of the named wagons has its share at the end
+  -- each of the named wagons has its event at the end
   pub put_each : (f : ℕ → List Event) (ws : List ℕ) → Differ ws → (w : ℕ) → fold with_event_on f (events ws) w ≡ more f (has ws w) w
   put_each f [] d w = refl
   put_each f (v ∷ ws) d w = put_first f ws v w d.0 (v == w) refl (put_each (with_event_on f (v, e v)) ws d.1 w)

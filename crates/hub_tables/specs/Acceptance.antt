@@ -32,11 +32,11 @@ pub record IsBeginning (e : Event) : Type 0 where
   pub plan : is_plan e.body ≡ true
   pub fits_after : fits (e ∷ []) ≡ true
 
--- the events of each wagon once the share of one is put at the end of its journey
+-- the events of each wagon once the event of one is put at the end of its journey
 abbrev pub with_event_on : (ℕ → List Event) → ℕ × Event → ℕ → List Event
 with_event_on events s w = if s.0 == w then events w ++ s.1 ∷ [] else events w
 
--- each share may come next once those before it are put
+-- each event may come next once those before it are put
 abbrev pub AreAdmitted : (ℕ → List Event) → List (ℕ × Event) → Type 0
 AreAdmitted events [] = Unit {0}
 AreAdmitted events (s ∷ events) = IsAdmitted (events s.0) s.1 × AreAdmitted (with_event_on events s) events

@@ -24,7 +24,7 @@ pub record TableEntries : Type 0 where
   pub units : List (UnitCode × Trip)
   pub offers : OfferTable
 
--- the events that are filed of a wagon
+-- the events that stand in the tables of a wagon
 abbrev pub events_in : List (ℕ × Journey) → ℕ → List Event
 events_in wagons w = option_map_or (λ j. j.events) (lookup (nat_eq w) wagons) []
 
@@ -55,7 +55,7 @@ pub record IsJourneyEntry (w : ℕ) (j : Journey) : Type 0 where
   pub wagon : j.wagon ≡ w
   pub begun : is_unknown j.events ≡ false
 
--- each journey is filed
+-- each journey stands under its wagon
 abbrev pub AreJourneyEntries : List (ℕ × Journey) → Type 0
 AreJourneyEntries wagons = (w : ℕ) → IfSome (lookup (nat_eq w) wagons) (IsJourneyEntry w)
 

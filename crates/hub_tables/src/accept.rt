@@ -26,7 +26,8 @@ impl Tables {
     /// where memory is refused, and where a journey that is to go on has 2^62 events or more: then all is as it was.
     pub fn accept(&mut self, alloc: Global, message: &Message) -> Result<(), Memory>
         requires { IsAcceptable (table_state self.old) message.now }
-        ensures ok { OnOk result (table_state self.new ≡ table_part (after_acceptance (table_state self.old) message.now)) }
+        ensures ok { OnOk result (table_state self.new
+            ≡ table_part (after_acceptance (table_state self.old) message.now)) }
         ensures err { OnErr result (table_state self.new ≡ table_state self.old) }
     {
         match message.body() {
@@ -44,7 +45,7 @@ impl Tables {
         }
     }
 
-    /// A plan: its journeys begin, and it is found by its consignment and by its units.
+    // A plan: its journeys begin, and it is found by its consignment and by its units.
     fn accept_plan(&mut self, alloc: Global, message: &Message, plan: &Plan) -> Result<(), Memory>
         requires acceptable { IsAcceptable (table_state self.old) message.now }
         requires plan { message.now.body ≡ says.Plan plan.now }
@@ -63,7 +64,7 @@ impl Tables {
         Ok(())
     }
 
-    /// An offer: its wagons' journeys go on, and it is open.
+    // An offer: its wagons' journeys go on, and it is open.
     fn accept_offer(
         &mut self,
         alloc: Global,
@@ -83,7 +84,7 @@ impl Tables {
         Ok(())
     }
 
-    /// An answer or a withdrawal: its wagons' journeys go on, and the offer is closed.
+    // An answer or a withdrawal: its wagons' journeys go on, and the offer is closed.
     fn settle(
         &mut self,
         alloc: Global,
@@ -93,11 +94,16 @@ impl Tables {
     ) -> Result<(), Memory>
         requires acceptable { IsAcceptable (table_state self.old) message.now }
         requires continues_journeys { continues_journeys message.now.body ≡ true }
-        requires differ { all_differ (named_wagons (table_state self.old).offer message.now) ≡ true }
+        requires differ { all_differ (named_wagons (table_state self.old).offer message.now)
+            ≡ true }
         requires open { is_standing self.old.offers by offer ≡ true }
         ensures ok { OnOk result (ContinuesJourneys self.old self.new message.now) }
-        ensures finds { OnOk result ((also : Railway) (other : ℕ) → offer_of self.new.offers also other ≡ offer_of self.old.offers also other) }
-        ensures closes { OnOk result ((also : Railway) (other : ℕ) → is_standing self.new.offers also other ≡ (if same_name by offer also other then false else is_standing self.old.offers also other)) }
+        ensures finds { OnOk result ((also : Railway) (other : ℕ)
+            → offer_of self.new.offers also other ≡ offer_of self.old.offers also other) }
+        ensures closes { OnOk result ((also : Railway) (other : ℕ)
+            → is_standing self.new.offers also other
+            ≡ (if same_name by offer also other then false
+            else is_standing self.old.offers also other)) }
         ensures err { OnErr result (self.new ≡ self.old) }
     {
         self.accept_events(alloc, message)?;
@@ -105,11 +111,12 @@ impl Tables {
         Ok(())
     }
 
-    /// The journeys of the named wagons go on.
+    // The journeys of the named wagons go on.
     fn accept_events(&mut self, alloc: Global, message: &Message) -> Result<(), Memory>
         requires acceptable { IsAcceptable (table_state self.old) message.now }
         requires continues_journeys { continues_journeys message.now.body ≡ true }
-        requires differ { all_differ (named_wagons (table_state self.old).offer message.now) ≡ true }
+        requires differ { all_differ (named_wagons (table_state self.old).offer message.now)
+            ≡ true }
         ensures ok { OnOk result (ContinuesJourneys self.old self.new message.now) }
         ensures offers { self.new.offers ≡ self.old.offers }
         ensures err { OnErr result (self.new ≡ self.old) }
@@ -124,7 +131,7 @@ impl Tables {
         }
     }
 
-    /// The journey of the one wagon that the message names goes on.
+    // The journey of the one wagon that the message names goes on.
     fn accept_event(&mut self, message: &Message, wagon: WagonNumber) -> Result<(), Memory>
         requires acceptable { IsAcceptable (table_state self.old) message.now }
         requires continues_journeys { continues_journeys message.now.body ≡ true }
@@ -138,7 +145,7 @@ impl Tables {
         Ok(())
     }
 
-    /// The wagons of an offer that was made are all different.
+    // The wagons of an offer that was made are all different.
     fn offered_differ(&self, by: Railway, offer: MessageNumber)
         ensures { all_differ (wagons_of ((table_state self.now).offer by offer)) ≡ true }
     {
@@ -148,9 +155,10 @@ impl Tables {
     }
 }
 
-/// The wagon of a message that names one.
+// The wagon of a message that names one.
 fn alone(message: &Message) -> Option<WagonNumber>
-    ensures { IfSome result (λ w. (offer : Railway → ℕ → Option Offer) → named_wagons offer message.now ≡ w ∷ []) }
+    ensures { IfSome result (λ w. (offer : Railway → ℕ → Option Offer)
+        → named_wagons offer message.now ≡ w ∷ []) }
 {
     match message.body() {
         Body::Movement(movement) => Some(movement.wagon),
@@ -161,14 +169,14 @@ fn alone(message: &Message) -> Option<WagonNumber>
     }
 }
 
-/// The wagons of an offer are all different.
+// The wagons of an offer are all different.
 fn differ(wagons: &OfferedWagons)
     ensures { all_differ wagons.now ≡ true }
 {
     let _wagons = wagons.as_slice();
 }
 
-/// Each unit with a copy of the plan.
+// Each unit with a copy of the plan.
 fn unit_plans(
     alloc: Global,
     plan: &Plan,
@@ -183,9 +191,11 @@ fn unit_plans(
     Ok(plans)
 }
 
-/// The offer that the message makes.
+// The offer that the message makes.
 fn made_by(message: &Message, offer: &TrainOffer) -> Result<Offer, Memory>
-    ensures { IfOk result (λ o. o ≡ record { by = message.now.by; no = message.now.no; to = offer.now.to; place = offer.now.place; wagons = offer.now.wagons }) }
+    ensures { IfOk result (λ o. o
+        ≡ record { by = message.now.by; no = message.now.no; to = offer.now.to; place
+        = offer.now.place; wagons = offer.now.wagons }) }
 {
     Ok(Offer {
         by: message.by(),

@@ -16,21 +16,23 @@ use wagon_number::WagonNumber;
 pub(crate) fn enter<K: Eq + Hash + Drop, V: Drop>(table: &mut IndexMap<K, V>, entries: Vec<(K, V)>)
     requires { length entries.items ≤ spare table.old }
     ensures entries { table.new.entries ≡ insert_all K.eq table.old.entries entries.items }
-    ensures values { (key : K) → get K.eq table.new key ≡ update_all K.eq (get K.eq table.old) entries.items key }
+    ensures values { (key : K) → get K.eq table.new key
+        ≡ update_all K.eq (get K.eq table.old) entries.items key }
 {
     for (key, value) in entries {
         let _before = table.insert(key, value).unwrap();
     }
 }
 
-/// Puts each share at the end of its wagon's journey, in turn.
+/// Puts each event at the end of its wagon's journey, in turn.
 pub(crate) fn put_all(
     wagons: &mut IndexMap<WagonNumber, Wagon>,
     events: Vec<(WagonNumber, PreparedEvent)>,
 )
     requires filed { AreJourneyEntries wagons.old.entries }
     requires admitted { AreAdmitted (events_in wagons.old.entries) events.items }
-    ensures events { (w : ℕ) → events_in wagons.new.entries w ≡ fold with_event_on (events_in wagons.old.entries) events.items w }
+    ensures events { (w : ℕ) → events_in wagons.new.entries w
+        ≡ fold with_event_on (events_in wagons.old.entries) events.items w }
     ensures keys { keys_of wagons.new.entries ≡ keys_of wagons.old.entries }
     ensures filed { AreJourneyEntries wagons.new.entries }
 {
@@ -39,11 +41,12 @@ pub(crate) fn put_all(
     }
 }
 
-/// Puts a share at the end of its wagon's journey.
+/// Puts an event at the end of its wagon's journey.
 pub(crate) fn put(wagons: &mut IndexMap<WagonNumber, Wagon>, wagon: WagonNumber, event: PreparedEvent)
     requires filed { AreJourneyEntries wagons.old.entries }
     requires admitted { IsAdmitted (events_in wagons.old.entries wagon) event }
-    ensures events { (w : ℕ) → events_in wagons.new.entries w ≡ with_event_on (events_in wagons.old.entries) (wagon, event) w }
+    ensures events { (w : ℕ) → events_in wagons.new.entries w
+        ≡ with_event_on (events_in wagons.old.entries) (wagon, event) w }
     ensures keys { keys_of wagons.new.entries ≡ keys_of wagons.old.entries }
     ensures filed { AreJourneyEntries wagons.new.entries }
 {
@@ -53,7 +56,7 @@ pub(crate) fn put(wagons: &mut IndexMap<WagonNumber, Wagon>, wagon: WagonNumber,
     }
 }
 
-/// Adds a share at the end of its wagon's journey. Where memory is refused, all is as it was.
+/// Adds an event at the end of its wagon's journey. Where memory is refused, all is as it was.
 pub(crate) fn add(
     wagons: &mut IndexMap<WagonNumber, Wagon>,
     wagon: WagonNumber,
@@ -61,7 +64,8 @@ pub(crate) fn add(
 ) -> Result<(), Memory>
     requires filed { AreJourneyEntries wagons.old.entries }
     requires next { MayComeNext (events_in wagons.old.entries wagon) event }
-    ensures ok { OnOk result ((w : ℕ) → events_in wagons.new.entries w ≡ with_event_on (events_in wagons.old.entries) (wagon, event) w) }
+    ensures ok { OnOk result ((w : ℕ) → events_in wagons.new.entries w
+        ≡ with_event_on (events_in wagons.old.entries) (wagon, event) w) }
     ensures err { OnErr result (wagons.new.entries ≡ wagons.old.entries) }
     ensures keys { keys_of wagons.new.entries ≡ keys_of wagons.old.entries }
     ensures filed { AreJourneyEntries wagons.new.entries }

@@ -2,11 +2,11 @@
 //! and estimates (4.2.6, 4.2.7), plans by consignment and by intermodal unit, and offers at interchange (4.2.8).
 //!
 //! In contracts [`Tables`] is the record of its entries, `TableEntries`, and `table_state` is what is known by them: a `HubState` of
-//! the crate `hub_model` but for first sends and outboxes, which are kept elsewhere. Each look-up answers what the standing
+//! the crate `hub_model` but for first sends and outboxes, which are kept elsewhere. Each look-up answers what the model's state
 //! says, and [`Tables::event`] what a message says of one of its wagons.
 //!
 //! [`Tables::accept`] takes a message that may be accepted (`IsAcceptable`), and what is known then is what `after_acceptance` of
-//! `hub_model` says. First comes all that may be refused memory: of several wagons each one's share in a node of its own,
+//! `hub_model` says. First comes all that may be refused memory: of several wagons each one's event in a node of its own,
 //! copies of a plan, room in each table. Then come steps that cannot fail, or the one step of a single wagon's journey, which
 //! changes nothing where it fails. So where it answers [`Memory`](taf_codes::Memory), all is as it was.
 #![tactic(auto)]

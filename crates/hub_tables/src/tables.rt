@@ -51,7 +51,8 @@ impl Tables {
 
     /// The wagon of this number with its journey, if an accepted plan names it.
     pub fn wagon(&self, wagon: WagonNumber) -> Option<&Wagon>
-        ensures found { IfSome result (λ w. w.now ≡ record { wagon = wagon; events = (table_state self.now).journey wagon }) }
+        ensures found { IfSome result (λ w. w.now
+            ≡ record { wagon = wagon; events = (table_state self.now).journey wagon }) }
         ensures none { IfNone result ((table_state self.now).journey wagon ≡ []) }
         ensures known { is_unknown ((table_state self.now).journey wagon) ≡ is_none result }
     {
@@ -96,7 +97,8 @@ impl Tables {
     /// The wagon at this place of the fleet, from 0, in the order of first plans.
     pub fn at(&self, i: usize) -> Option<(WagonNumber, &Wagon)>
         ensures found { IfSome result (λ p. slice_get (table_state self.now).fleet i ≡ Some p.0) }
-        ensures journey { IfSome result (λ p. p.1.now ≡ record { wagon = p.0; events = (table_state self.now).journey p.0 }) }
+        ensures journey { IfSome result (λ p. p.1.now
+            ≡ record { wagon = p.0; events = (table_state self.now).journey p.0 }) }
         ensures none { IfNone result (length (table_state self.now).fleet ≤ i) }
     {
         match self.wagons.get_index(i) {

@@ -12,7 +12,7 @@ use taf_codes::Memory;
 use trip_plan::Plan;
 use wagon_number::WagonNumber;
 
-/// The most events of a journey that goes on: 2^62. Memory could not hold as many.
+// The most events of a journey that goes on: 2^62. Memory could not hold as many.
 const MOST_EVENTS: usize = 1 << 62;
 
 /// A wagon with its journey, of which no estimate passes the calendar.
@@ -81,7 +81,8 @@ impl Wagon {
     pub(crate) fn add(&mut self, event: Event) -> Result<(), Memory>
         requires admitted { refusal self.old.events event.by event.body ≡ None }
         requires fits { fits (self.old.events ++ event ∷ []) ≡ true }
-        ensures ok { OnOk result (self.new ≡ record self.old { events = self.old.events ++ event ∷ [] }) }
+        ensures ok { OnOk result (self.new
+            ≡ record self.old { events = self.old.events ++ event ∷ [] }) }
         ensures err { OnErr result (self.new ≡ self.old) }
     {
         self.kept.add(&mut self.track, event)

@@ -19,7 +19,7 @@ use taf_messages::{Body, Message, MessageNumber, TrainAnswer};
 use taf_moment::Moment;
 use wagon_number::WagonNumber;
 
-/// The moment that a message gives, if its kind gives one.
+// The moment that a message gives, if its kind gives one.
 fn moment_in(body: &Body) -> Option<Moment>
     ensures { result ≡ moment_in body.now }
 {
@@ -32,14 +32,14 @@ fn moment_in(body: &Body) -> Option<Moment>
     }
 }
 
-/// Whether the answer receives the wagon.
+// Whether the answer receives the wagon.
 fn receives(answer: &TrainAnswer, wagon: WagonNumber) -> bool
     ensures { result ≡ has answer.now.received wagon }
 {
     has(answer.received.as_slice(), wagon)
 }
 
-/// The wagons of both lists.
+// The wagons of both lists.
 fn both(
     alloc: Global,
     first: &[WagonNumber],
@@ -61,7 +61,8 @@ impl Tables {
         alloc: Global,
         message: &'a Message,
     ) -> Result<CowSlice<'a, WagonNumber>, Memory>
-        ensures { IfOk result (λ ws. cow_slice_items ws ≡ named_wagons (table_state self.now).offer message.now) }
+        ensures { IfOk result (λ ws. cow_slice_items ws
+            ≡ named_wagons (table_state self.now).offer message.now) }
     {
         let wagons = match message.body() {
             Body::Plan(plan) => plan.wagons(),
@@ -80,7 +81,7 @@ impl Tables {
         Ok(CowSlice::Borrowed(wagons))
     }
 
-    /// The wagons of an offer; none where there is no such offer.
+    // The wagons of an offer; none where there is no such offer.
     fn offered(&self, by: Railway, no: MessageNumber) -> &[WagonNumber]
         ensures { result.now ≡ wagons_of ((table_state self.now).offer by no) }
     {
@@ -90,7 +91,7 @@ impl Tables {
         }
     }
 
-    /// The place of an offer that there is.
+    // The place of an offer that there is.
     fn place(&self, by: Railway, no: MessageNumber) -> Place
         requires { is_none ((table_state self.now).offer by no) ≡ false }
         ensures { result ≡ place_of ((table_state self.now).offer by no) }
@@ -105,7 +106,8 @@ impl Tables {
     /// copied. `Memory` where one is shared too often.
     pub fn event_body(&self, message: &Message, wagon: WagonNumber) -> Result<EventBody, Memory>
         requires { whole_fault (table_state self.now) message.now.by message.now.body ≡ None }
-        ensures { IfOk result (λ says. says ≡ event_body_for (table_state self.now).offer message.now.by message.now.body wagon) }
+        ensures { IfOk result (λ says. says
+            ≡ event_body_for (table_state self.now).offer message.now.by message.now.body wagon) }
     {
         Ok(match message.body() {
             Body::Plan(plan) => EventBody::Planned(plan.copy()?),
@@ -130,7 +132,7 @@ impl Tables {
         })
     }
 
-    /// The wagon's share of a message that names it, and is not refused as a whole: an event of its journey. `Memory` as in
+    /// The wagon's event of a message that names it, and is not refused as a whole: an event of its journey. `Memory` as in
     /// [`Tables::event_body`].
     pub fn event_for(&self, message: &Message, wagon: WagonNumber) -> Result<Event, Memory>
         requires { whole_fault (table_state self.now) message.now.by message.now.body ≡ None }
@@ -144,7 +146,7 @@ impl Tables {
         })
     }
 
-    /// Each of the wagons with its share of the message in memory of its own.
+    // Each of the wagons with its event of the message in memory of its own.
     fn prepared(
         &self,
         alloc: Global,
@@ -152,7 +154,8 @@ impl Tables {
         wagons: &[WagonNumber],
     ) -> Result<Vec<(WagonNumber, PreparedEvent)>, Memory>
         requires { whole_fault (table_state self.now) message.now.by message.now.body ≡ None }
-        ensures { IfOk result (λ v. v.items ≡ map (λ w. (w, event_for (table_state self.now).offer message.now w)) wagons.now) }
+        ensures { IfOk result (λ v. v.items
+            ≡ map (λ w. (w, event_for (table_state self.now).offer message.now w)) wagons.now) }
     {
         let mut events = Vec::with_capacity(alloc, wagons.len())?;
         for wagon in wagons {
@@ -162,7 +165,7 @@ impl Tables {
         Ok(events)
     }
 
-    /// The shares by which journeys go on.
+    /// The events by which journeys go on.
     pub(crate) fn next_events(
         &self,
         alloc: Global,
@@ -170,9 +173,12 @@ impl Tables {
     ) -> Result<Vec<(WagonNumber, PreparedEvent)>, Memory>
         requires acceptable { IsAcceptable (table_state self.now) message.now }
         requires continues_journeys { continues_journeys message.now.body ≡ true }
-        requires differ { all_differ (named_wagons (table_state self.now).offer message.now) ≡ true }
+        requires differ { all_differ (named_wagons (table_state self.now).offer message.now)
+            ≡ true }
         ensures admitted { IfOk result (λ v. AreAdmitted (events_in self.now.wagons) v.items) }
-        ensures after { IfOk result (λ v. (w : ℕ) → fold with_event_on (events_in self.now.wagons) v.items w ≡ journey_after (table_state self.now) message.now w) }
+        ensures after { IfOk result (λ v. (w : ℕ)
+            → fold with_event_on (events_in self.now.wagons) v.items w
+            ≡ journey_after (table_state self.now) message.now w) }
     {
         let wagons = self.named_wagons(alloc, message)?;
         if !have_room(self, wagons.as_slice()) {
@@ -182,19 +188,21 @@ impl Tables {
         Ok(events)
     }
 
-    /// The share by which the journey of the one wagon that the message names goes on.
+    /// The event by which the journey of the one wagon that the message names goes on.
     pub(crate) fn next_event_for(&self, message: &Message, wagon: WagonNumber) -> Result<Event, Memory>
         requires acceptable { IsAcceptable (table_state self.now) message.now }
         requires continues_journeys { continues_journeys message.now.body ≡ true }
         requires alone { named_wagons (table_state self.now).offer message.now ≡ wagon ∷ [] }
         ensures next { IfOk result (λ e. MayComeNext (events_in self.now.wagons wagon) e) }
-        ensures after { IfOk result (λ e. (w : ℕ) → with_event_on (events_in self.now.wagons) (wagon, e) w ≡ journey_after (table_state self.now) message.now w) }
+        ensures after { IfOk result (λ e. (w : ℕ)
+            → with_event_on (events_in self.now.wagons) (wagon, e) w
+            ≡ journey_after (table_state self.now) message.now w) }
     {
         let event = self.event_for(message, wagon)?;
         Ok(event)
     }
 
-    /// Each of the wagons with a journey that begins with its share of the message.
+    /// Each of the wagons with a journey that begins with its event of the message.
     pub(crate) fn begun(
         &self,
         alloc: Global,
@@ -202,8 +210,12 @@ impl Tables {
         wagons: &[WagonNumber],
     ) -> Result<Vec<(WagonNumber, Wagon)>, Memory>
         requires sound { whole_fault (table_state self.now) message.now.by message.now.body ≡ None }
-        requires begins { (w : ℕ) → has wagons.now w ≡ true → IsBeginning (event_for (table_state self.now).offer message.now w) }
-        ensures { IfOk result (λ v. v.items ≡ map (λ w. (w, record { wagon = w; events = event_for (table_state self.now).offer message.now w ∷ [] })) wagons.now) }
+        requires begins { (w : ℕ) → has wagons.now w ≡ true
+            → IsBeginning (event_for (table_state self.now).offer message.now w) }
+        ensures { IfOk result (λ v. v.items
+            ≡ map (λ w. (w, record
+            { wagon = w; events = event_for (table_state self.now).offer message.now w ∷ [] }))
+            wagons.now) }
     {
         let mut begun = Vec::with_capacity(alloc, wagons.len())?;
         for wagon in wagons {
@@ -214,9 +226,10 @@ impl Tables {
     }
 }
 
-/// Whether the journey of each of the wagons has room for one event more.
+// Whether the journey of each of the wagons has room for one event more.
 fn have_room(tables: &Tables, wagons: &[WagonNumber]) -> bool
-    ensures { result ≡ list_all (λ w. nat_lt (length ((table_state tables.now).journey w)) (2 ^ 62)) wagons.now }
+    ensures { result ≡ list_all (λ w. nat_lt (length ((table_state tables.now).journey w)) (2 ^ 62))
+        wagons.now }
 {
     wagons.iter().all(|wagon| has_room(tables, *wagon))
 }
@@ -230,7 +243,7 @@ fn has_room(tables: &Tables, wagon: WagonNumber) -> bool
     }
 }
 
-/// Whether the wagon is among these.
+// Whether the wagon is among these.
 fn has(wagons: &[WagonNumber], wagon: WagonNumber) -> bool
     ensures { result ≡ has wagons.now wagon }
 {

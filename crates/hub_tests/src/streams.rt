@@ -19,7 +19,7 @@ const BLANK_LINES: &str = "\n \t\n  ";
 // Lines that are no calls or are blank, a departure, and what came of it.
 static EXAMPLE: &[&str] = &[BAD_LINES, BLANK_LINES, DEPARTED, AFTER_DEPARTURE];
 
-/// Two calls and fourteen faults of the bad lines; a plan, a release, a departure, three asks and five fetches.
+// Two calls and fourteen faults of the bad lines; a plan, a release, a departure, three asks and five fetches.
 const COUNTS: Counts = Counts {
     lines: 27,
     calls: 13,
@@ -29,7 +29,7 @@ const COUNTS: Counts = Counts {
 // So many calls of a reader or a writer as no test needs.
 const MANY: usize = 1_000_000;
 
-/// What a reader gives and a writer takes.
+// What a reader gives and a writer takes.
 #[derive(Clone, Copy)]
 struct Reach {
     /// How many bytes a read gives at most.
@@ -52,7 +52,7 @@ const FAR: Reach = Reach {
     flushes: MANY,
 };
 
-/// A reader over bytes.
+// A reader over bytes.
 #[derive(Drop)]
 struct Bytes<'a> {
     rest: &'a [u8],
@@ -90,7 +90,7 @@ impl Source for Bytes<'_> {
     }
 }
 
-/// A writer into memory.
+// A writer into memory.
 #[derive(Drop)]
 struct Page {
     bytes: Vec<u8>,
@@ -141,7 +141,7 @@ impl Sink for Page {
     }
 }
 
-/// What came of a run.
+// What came of a run.
 #[derive(Drop)]
 struct Ran {
     told: Result<Counts, RunFault>,

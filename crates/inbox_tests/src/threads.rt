@@ -10,7 +10,7 @@ use std::test::Fail;
 use std::thread;
 use std::thread::Threads;
 
-/// How many jobs each putting thread puts.
+// How many jobs each putting thread puts.
 const JOBS: u64 = 50_000;
 
 // How many jobs of each session came in their order, and how many other jobs came.

@@ -13,7 +13,8 @@ pub fn are_answered_once(
 ) -> bool
     requires received { length received.now ≤ 60 }
     requires refused { length refused.now ≤ 60 }
-    ensures { result ≡ list_all (λ w. count_by (λ v. v == w) (received.now ++ refused.now) == 1) offered.now }
+    ensures { result ≡ list_all (λ w. count_by (λ v. v == w) (received.now ++ refused.now) == 1)
+        offered.now }
 {
     offered
         .iter()

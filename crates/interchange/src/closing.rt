@@ -1,4 +1,4 @@
-//! The table of what was made.
+//! Closing an offer.
 ghost use Rattle.std.specs.Prelude.{◌≡◌, ℕ, if◌then◌else◌, IsSome};
 ghost use Rattle.std.specs.Option.{option_map};
 ghost use Rattle.indexmap.specs.IndexMap.{spare};
@@ -19,7 +19,10 @@ pub fn close(
 )
     requires { IsSome (entry_of table.old.entries by number) }
     ensures entries { table.new.entries ≡ with_closed table.old.entries by number }
-    ensures closed_entry { (also : Railway) (other : ℕ) → entry_of table.new.entries also other ≡ (if same_name by number also other then option_map closed_entry (entry_of table.old.entries also other) else entry_of table.old.entries also other) }
+    ensures closed_entry { (also : Railway) (other : ℕ) → entry_of table.new.entries also other
+        ≡ (if same_name by number also other
+        then option_map closed_entry (entry_of table.old.entries also other)
+        else entry_of table.old.entries also other) }
     ensures room { spare table.new ≡ spare table.old }
 {
     match table.get_mut(&(by, number)) {

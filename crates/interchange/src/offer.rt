@@ -15,7 +15,7 @@ pub struct Offer {
     pub wagons: OfferedWagons,
 }
 
-/// An offer that was made.
+/// An offer that was made, and whether it is open.
 #[derive(Drop)]
 pub struct OfferEntry {
     pub offer: Offer,

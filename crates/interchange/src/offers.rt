@@ -72,9 +72,14 @@ impl Offers {
     pub fn open_reserved(&mut self, offer: Offer)
         requires room { 0 < self.old.spare }
         requires new { offer_of self.old offer.by offer.no ≡ None }
-        ensures offers { self.new.offers ≡ self.old.offers ++ ((offer.by, offer.no), record { offer = offer; is_open = true }) ∷ [] }
-        ensures finds { (by : Railway) (number : ℕ) → offer_of self.new by number ≡ (if same_name offer.by offer.no by number then Some offer else offer_of self.old by number) }
-        ensures opens { (by : Railway) (number : ℕ) → is_standing self.new by number ≡ (if same_name offer.by offer.no by number then true else is_standing self.old by number) }
+        ensures offers { self.new.offers ≡ self.old.offers
+            ++ ((offer.by, offer.no), record { offer = offer; is_open = true }) ∷ [] }
+        ensures finds { (by : Railway) (number : ℕ) → offer_of self.new by number
+            ≡ (if same_name offer.by offer.no by number then Some offer
+            else offer_of self.old by number) }
+        ensures opens { (by : Railway) (number : ℕ) → is_standing self.new by number
+            ≡ (if same_name offer.by offer.no by number then true
+            else is_standing self.old by number) }
         ensures room_left { self.old.spare ≤ self.new.spare + 1 }
     {
         let name = (offer.by, offer.no);
@@ -88,9 +93,14 @@ impl Offers {
     /// Makes an offer whose name is new. It is open. Where memory is refused, the offers stay.
     pub fn open_offer(&mut self, offer: Offer) -> Result<(), Memory>
         requires { offer_of self.old offer.by offer.no ≡ None }
-        ensures offers { OnOk result (self.new.offers ≡ self.old.offers ++ ((offer.by, offer.no), record { offer = offer; is_open = true }) ∷ []) }
-        ensures finds { OnOk result ((by : Railway) (number : ℕ) → offer_of self.new by number ≡ (if same_name offer.by offer.no by number then Some offer else offer_of self.old by number)) }
-        ensures opens { OnOk result ((by : Railway) (number : ℕ) → is_standing self.new by number ≡ (if same_name offer.by offer.no by number then true else is_standing self.old by number)) }
+        ensures offers { OnOk result (self.new.offers ≡ self.old.offers
+            ++ ((offer.by, offer.no), record { offer = offer; is_open = true }) ∷ []) }
+        ensures finds { OnOk result ((by : Railway) (number : ℕ) → offer_of self.new by number
+            ≡ (if same_name offer.by offer.no by number then Some offer
+            else offer_of self.old by number)) }
+        ensures opens { OnOk result ((by : Railway) (number : ℕ) → is_standing self.new by number
+            ≡ (if same_name offer.by offer.no by number then true
+            else is_standing self.old by number)) }
         ensures room_left { self.old.spare ≤ self.new.spare + 1 }
         ensures succeeds { 0 < self.old.spare → IsOk result }
         ensures err { OnErr result (self.new.offers ≡ self.old.offers) }
@@ -104,8 +114,10 @@ impl Offers {
     pub fn close_offer(&mut self, by: Railway, number: MessageNumber)
         requires { is_standing self.old by number ≡ true }
         ensures offers { self.new.offers ≡ with_closed self.old.offers by number }
-        ensures finds { (also : Railway) (other : ℕ) → offer_of self.new also other ≡ offer_of self.old also other }
-        ensures closes { (also : Railway) (other : ℕ) → is_standing self.new also other ≡ (if same_name by number also other then false else is_standing self.old also other) }
+        ensures finds { (also : Railway) (other : ℕ) → offer_of self.new also other
+            ≡ offer_of self.old also other }
+        ensures closes { (also : Railway) (other : ℕ) → is_standing self.new also other
+            ≡ (if same_name by number also other then false else is_standing self.old also other) }
         ensures room { self.old.spare ≤ self.new.spare }
     {
         close(&mut self.table, by, number);

@@ -22,7 +22,7 @@ index_from : (leg_position : LegPosition) (events : List Event) → (fold leg_po
 index_from leg_position [] = refl
 index_from leg_position (e ∷ events) = index_from (leg_position_after leg_position e) events
 
--- the course counts the legs that are behind
+-- the leg position counts the legs that are behind
 pub course_index : (events : List Event) → (leg_position events).index ≡ leg_index events
 course_index events = index_from (record { index = 0; legs = [] }) events
 

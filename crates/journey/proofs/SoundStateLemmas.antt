@@ -1,4 +1,4 @@
--- One more event: the situation that it leads to, and what stays true of it.
+-- One more event: the state that it leads to, and what stays true of it.
 use Rattle.std.proofs.Common.{◌≡◌, ℕ, ◌+◌, ◌<◌, ◌≤◌, Bool, true, false, cond, zero, suc, List, [], ◌∷◌, ◌++◌, length, take, Option, Some, None, refl, ap, ◌∙◌, sym, inl, inr, arith, add-zero}
 use Rattle.std.specs.Prelude.{◌||◌, fold, slice_get, option_map, is_some}
 use Rattle.std.specs.Option.{option_or, option_eq}
@@ -40,7 +40,7 @@ map_or f (Some x) b = refl
 lead-push : (events : List Event) (e : Event) → lead_of (events ++ e ∷ []) ≡ option_or (lead_in e.body) (lead_of events)
 lead-push events e = ap (option_map (λ p. p.lead)) (plan-push events e) ∙ map_or (λ p. p.lead) (plan_in e.body) (plan events)
 
--- the situation goes along with the events
+-- the state goes along with the events
 pub journey_state-push : (events : List Event) (e : Event) → journey_state (events ++ e ∷ []) ≡ journey_state_after (journey_state events) e
 journey_state-push events e =
     let stages = stage-push events e in
@@ -168,7 +168,7 @@ sound_said s by number at (Answered place received) k r =
 sound_said s by number at (Withdrawn place) k r = kept s (an by number at (Withdrawn place)) k refl refl (λ h. cc)
 sound_said s by number at (Rerouted route) k r = rerouted s by number at route k r
 
--- an event that may come next leaves the situation sound
+-- an event that may come next leaves the state sound
 pub sound-after : (s : JourneyState) (e : Event) → IsSound s → first_of (checks s e.by e.body) ≡ None → IsSound (journey_state_after s e)
 sound-after s e k r = sound_said s e.by e.no e.at e.body k r
 

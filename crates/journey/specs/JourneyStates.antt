@@ -11,7 +11,7 @@ use Rattle.journey.specs.Words.{newest}
 use Rattle.journey.specs.Stages.{stage, stage_after, leg_index, has_departed, is_delivered, is_departure, is_delivery, new_responsible}
 use Rattle.journey.specs.Legs.{legs, legs_after, index_after, lead_of, lead_in, yard, yard_in}
 
--- the situation that a journey has come to
+-- the state that a journey has come to
 abbrev pub journey_state : List Event → JourneyState
 journey_state events = record {
   stage = stage events;
@@ -24,7 +24,7 @@ journey_state events = record {
   yard = yard events;
 }
 
--- the situation that a plan leads to
+-- the state that a plan leads to
 abbrev pub planned_state : Trip → JourneyState
 planned_state plan = record {
   stage = Some stage_is.Planned;
@@ -37,7 +37,7 @@ planned_state plan = record {
   yard = None;
 }
 
--- the situation after one event more
+-- the state after one event more
 abbrev pub journey_state_after : JourneyState → Event → JourneyState
 journey_state_after s e = record {
   stage = option_or (stage_after e.body) s.stage;

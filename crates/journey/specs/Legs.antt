@@ -44,11 +44,11 @@ abbrev pub HaveRoom : ℕ → List Event → Type 0
 HaveRoom c [] = Unit {0}
 HaveRoom c (e ∷ events) = HasRoom c e.body × HaveRoom (index_after c e.body) events
 
--- the course after an event
+-- the leg position after an event
 abbrev pub leg_position_after : LegPosition → Event → LegPosition
 leg_position_after leg_position e = record { index = index_after leg_position.index e.body; legs = legs_after leg_position.index leg_position.legs e.body }
 
--- the course of a journey
+-- the leg position of a journey
 abbrev pub leg_position : List Event → LegPosition
 leg_position events = fold leg_position_after (record { index = 0; legs = [] }) events
 

@@ -1,4 +1,4 @@
--- What a track and a step keep.
+-- What a track and a transition keep.
 use Rattle.std.specs.Prelude.{◌≡◌, ◌+◌, ◌<◌, ◌≤◌, true, false, List, [], ◌∷◌, length, slice_index_or, Option, Some, None, is_some}
 use Rattle.trip_plan.specs.Trip.{Trip}
 use Rattle.taf_messages.specs.declared.record.Stage.TheVariants as stage_is
@@ -23,7 +23,7 @@ abbrev pub first_plan : List Event → Option Trip
 first_plan [] = None
 first_plan (e ∷ events) = plan_in e.body
 
--- the first event is the only plan of the journey, and the kept situation is that of the events
+-- the first event is the only plan of the journey, and the kept state is that of the events
 pub record IsTrackState (events : List Event) (s : JourneyState) : Type 0 where
   pub planned : is_some (first_plan events) ≡ true
   pub one_plan : plan events ≡ first_plan events
@@ -32,7 +32,7 @@ pub record IsTrackState (events : List Event) (s : JourneyState) : Type 0 where
   pub state_is : s ≡ journey_state events
   pub sound : IsSound s
 
--- the event may come next, and the kept situation is that of the events with it
+-- the event may come next, and the kept state is that of the events with it
 pub record IsTransition (o : NextEvent) (s : JourneyState) : Type 0 where
   pub admitted : refusal o.before o.event.by o.event.body ≡ None
   pub state_is : s ≡ journey_state (after o)

@@ -65,13 +65,14 @@ impl Events {
         (self.row.as_slice(), &self.joined)
     }
 
-    /// Adds the next event, by which the situation goes on in place. Where memory is refused, both are as they were.
+    /// Adds the next event, by which the state goes on in place. Where memory is refused, both are as they were.
     pub(crate) fn push(&mut self, next: Event, journey_state: &mut JourneyState) -> Result<(), Memory>
         requires on_a_leg { journey_state.old.leg_index < length journey_state.old.legs }
         requires few_legs { length journey_state.old.legs ≤ 8 }
         requires room { HasRoom journey_state.old.leg_index next.body }
         ensures ok { OnOk result (self.new ≡ self.old ++ next ∷ []) }
-        ensures goes_on { OnOk result (journey_state.new ≡ journey_state_after journey_state.old next) }
+        ensures goes_on { OnOk result (journey_state.new
+            ≡ journey_state_after journey_state.old next) }
         ensures err { OnErr result (self.new ≡ self.old) }
         ensures stays { OnErr result (journey_state.new ≡ journey_state.old) }
     {

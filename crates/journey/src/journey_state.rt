@@ -26,7 +26,7 @@ pub struct JourneyState {
 }
 
 impl JourneyState {
-    /// The situation of a wagon that has only been planned.
+    /// The state of a wagon that has only been planned.
     pub(crate) fn planned(plan: &Plan) -> JourneyState
         ensures value { result ≡ planned_state plan.now }
         ensures some { 0 < length plan.now.legs }
@@ -44,7 +44,7 @@ impl JourneyState {
         }
     }
 
-    /// The situation after one event more.
+    /// The state after one event more.
     pub(crate) fn after(&self, event: &Event) -> JourneyState
         requires on_a_leg { self.now.leg_index < length self.now.legs }
         requires few_legs { length self.now.legs ≤ 8 }
@@ -78,7 +78,8 @@ impl JourneyState {
     fn change_legs(&mut self, body: &EventBody)
         requires on_a_leg { self.old.leg_index < length self.old.legs }
         requires room { HasRoom self.old.leg_index body.now }
-        ensures { self.new ≡ record self.old { legs = legs_after self.old.leg_index self.old.legs body.now } }
+        ensures { self.new ≡ record self.old
+            { legs = legs_after self.old.leg_index self.old.legs body.now } }
     {
         match body {
             EventBody::Planned(plan) => self.legs = Legs::of(plan.legs()),
@@ -90,7 +91,7 @@ impl JourneyState {
         }
     }
 
-    /// The same situation.
+    /// The same state.
     pub fn copy(&self) -> JourneyState
         ensures { result ≡ self.now }
     {

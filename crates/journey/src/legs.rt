@@ -4,7 +4,7 @@ ghost use Rattle.journey.specs.Legs.{timed};
 use std::marker::Model;
 use trip_plan::Leg;
 
-/// The most legs that a wagon has.
+// The most legs that a wagon has.
 const MOST: usize = 8;
 
 // Room for the legs of a wagon, copied at once.

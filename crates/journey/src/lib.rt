@@ -22,7 +22,7 @@
 //! - [`JourneyState`] is what the events come to. A track keeps it beside them, so that no call but
 //!   [`Track::events`] leads to a walk: stage, leg index, legs, responsible railway, place and checks take no more
 //!   than a look at it.
-//! - [`Transition`] is a track with an event that it admits, and the situation that both lead to. [`Track::transition`] makes it
+//! - [`Transition`] is a track with an event that it admits, and the state that both lead to. [`Track::transition`] makes it
 //!   once, for all that is asked of the event.
 //! - [`Legs`] are the one to eight legs of a wagon, kept in place.
 //!

@@ -76,8 +76,10 @@ impl Track {
     /// Adds an event that may come next. Where memory is refused, the track is as it was.
     pub fn add(&mut self, event: Event) -> Result<(), Memory>
         requires { refusal self.old.events event.by event.body ≡ None }
-        ensures ok { OnOk result (self.new ≡ record self.old { events = self.old.events ++ event ∷ [] }) }
-        ensures on_a_leg { OnOk result (of.leg_index self.new.events < length (legs_of.legs self.new.events)) }
+        ensures ok { OnOk result (self.new
+            ≡ record self.old { events = self.old.events ++ event ∷ [] }) }
+        ensures on_a_leg { OnOk result (of.leg_index self.new.events
+            < length (legs_of.legs self.new.events)) }
         ensures err { OnErr result (self.new ≡ self.old) }
     {
         self.events.push(event, &mut self.journey_state)?;
@@ -112,7 +114,8 @@ impl Track {
     /// The plan that the journey begins with. It has no other.
     pub fn plan(&self) -> &Plan
         ensures newest { of.plan self.now.events ≡ Some result.now }
-        ensures first { option_map (λ e. e.body) (slice_get self.now.events 0) ≡ Some (Planned result.now) }
+        ensures first { option_map (λ e. e.body) (slice_get self.now.events 0)
+            ≡ Some (Planned result.now) }
         ensures only { of.has_later_plan self.now.events ≡ false }
     {
         match self.events.first() {
@@ -180,7 +183,7 @@ impl Track {
         &self.journey_state
     }
 
-    /// The step that an event makes which may come next.
+    /// The transition that an event makes which may come next.
     pub fn transition<'a>(&'a self, event: &'a Event) -> Transition<'a>
         requires { refusal self.now.events event.now.by event.now.body ≡ None }
         ensures { result ≡ next_event self.now event.now }

@@ -8,7 +8,7 @@ use crate::journey_state::JourneyState;
 use crate::track::Track;
 use std::marker::Model;
 
-/// A track with an event that it admits, and the situation that both lead to.
+/// A track with an event that it admits, and the state that both lead to.
 #[derive(Drop)]
 pub struct Transition<'a> {
     pub(crate) track: &'a Track,

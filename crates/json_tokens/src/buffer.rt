@@ -87,7 +87,8 @@ impl Buffer {
     #[inline(always)]
     pub fn put(&mut self, comma: bool, first: &[u8], middle: &[u8], last: &[u8])
         requires { length first.now + length middle.now + length last.now + 1 ≤ self.old.ready }
-        ensures { self.new.items ≡ self.old.items ++ (cond comma (44 ∷ []) [] ++ (first.now ++ (middle.now ++ last.now))) }
+        ensures { self.new.items ≡ self.old.items
+            ++ (cond comma (44 ∷ []) [] ++ (first.now ++ (middle.now ++ last.now))) }
     {
         let buf = self.bytes.as_mut_slice();
         let at = place_comma(buf, self.len, comma);

@@ -12,7 +12,7 @@ use fast_float::Numeral;
 use json::{Reader, Scratch, Token};
 use std::alloc::{AllocError, Global};
 
-/// A record that is read so has fewer members.
+// A record that is read so has fewer members.
 const MANY: usize = 12;
 
 /// A text, or a whole number with its digits.
@@ -35,7 +35,8 @@ impl<'a> FlatRecord<'a> {
         text: &'a str,
         scratch: &'a mut Scratch,
     ) -> Result<Option<FlatRecord<'a>>, AllocError>
-        ensures { IfOk result (λ r. IfSome r (λ flat. read_text text.now ≡ Some (flat_data flat.members.items))) }
+        ensures { IfOk result
+            (λ r. IfSome r (λ flat. read_text text.now ≡ Some (flat_data flat.members.items))) }
     {
         let mut reader = Reader::new(text, scratch)?;
         let Some(Token::BeginObject) = reader.next() else {
@@ -64,7 +65,8 @@ fn take_members<'a>(
 ) -> Result<bool, AllocError>
     requires none { members.old.items ≡ [] }
     ensures spelt { IfOk result (λ whole. whole ≡ true → AreSpelt members.new.items) }
-    ensures all { IfOk result (λ whole. whole ≡ true → reader.old ≡ member_tokens members.new.items ++ end_object ∷ []) }
+    ensures all { IfOk result (λ whole. whole ≡ true → reader.old ≡ member_tokens members.new.items
+        ++ end_object ∷ []) }
 {
     for i in 0..MANY {
         match reader.next_key() {

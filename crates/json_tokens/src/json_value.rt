@@ -52,7 +52,8 @@ impl<'r, 'a> JsonValue<'r, 'a> {
 
     /// The whole number that it is, from 0 on.
     pub fn as_u64(self) -> Option<u64>
-        ensures { result ≡ option_and_then find.as_u64 (find.as_number (json_value_data self.entry)) }
+        ensures { result ≡ option_and_then find.as_u64 (find.as_number (json_value_data self.entry))
+            }
     {
         match self {
             JsonValue::Scalar(Scalar::Text(_)) => None,
@@ -64,7 +65,8 @@ impl<'r, 'a> JsonValue<'r, 'a> {
 
     /// The items of the list that it is.
     pub fn as_array(self) -> Option<&'a Vec<Value>>
-        ensures { option_map (λ v. items_view v.now.items) result ≡ find.as_array (json_value_data self.entry) }
+        ensures { option_map (λ v. items_view v.now.items) result
+            ≡ find.as_array (json_value_data self.entry) }
     {
         match self {
             JsonValue::Scalar(Scalar::Text(_)) => None,
@@ -76,7 +78,8 @@ impl<'r, 'a> JsonValue<'r, 'a> {
 
     /// The value under a key of the object that it is: the last one.
     pub fn get(self, name: &str) -> Option<JsonValue<'r, 'a>>
-        ensures { option_map json_value_data result ≡ find.get name.now (json_value_data self.entry) }
+        ensures { option_map json_value_data result
+            ≡ find.get name.now (json_value_data self.entry) }
     {
         match self {
             JsonValue::Scalar(Scalar::Text(_)) => None,

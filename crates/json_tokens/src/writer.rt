@@ -184,7 +184,8 @@ fn put_parts(
     last: &[u8],
 ) -> Result<(), AllocError>
     requires { (length first.now ≤ 8) × (length last.now ≤ 8) }
-    ensures ok { OnOk result (out.new.items ≡ out.old.items ++ (cond comma (44 ∷ []) [] ++ (first.now ++ (middle.now ++ last.now)))) }
+    ensures ok { OnOk result (out.new.items ≡ out.old.items
+        ++ (cond comma (44 ∷ []) [] ++ (first.now ++ (middle.now ++ last.now)))) }
     ensures err { OnErr result (out.new.items ≡ out.old.items) }
 {
     out.reserve(first.len() + middle.len() + last.len() + 1)?;

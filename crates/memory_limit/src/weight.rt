@@ -20,20 +20,20 @@ impl Model for MemoryLimit {
     ghost view = { λ b. record { large = vec_len b.large; small = vec_len b.small } };
 }
 
-/// How many blocks of each kind are held at most.
+// How many blocks of each kind are held at most.
 const MOST: usize = 200_000;
 
-/// The large blocks are of 2^36 bytes, of half as many, and so on down to the greatest small block.
+// The large blocks are of 2^36 bytes, of half as many, and so on down to the greatest small block.
 const GREATEST: usize = 1 << 36;
 
-/// The small blocks are of 2^22 bytes, of half as many, and so on down to a few.
+// The small blocks are of 2^22 bytes, of half as many, and so on down to a few.
 const GREATEST_SMALL: usize = 1 << 22;
 
-/// What is set aside to be split, while the small blocks are taken.
+// What is set aside to be split, while the small blocks are taken.
 const PLUG: usize = 4096;
 
-/// What is set aside for the budgets, while the large blocks are taken: four of the greatest small blocks, so that it may
-/// come to lie in pieces.
+// What is set aside for the budgets, while the large blocks are taken: four of the greatest small blocks, so that it may
+// come to lie in pieces.
 const ROOM: usize = 1 << 24;
 
 impl MemoryLimit {

@@ -1,4 +1,4 @@
--- What is kept, beside all that a railway was ever told.
+-- What is kept, beside all items that a railway ever got.
 use Rattle.std.specs.Prelude.{◌≡◌, ℕ, ◌≤◌, nat_lt, List, [], ◌++◌, length, drop, max}
 use Rattle.taf_messages.specs.declared.item.ItemBody.{ItemBody}
 use Rattle.outbox.specs.OutboxStates.{OutboxState, new_box, last_of, with_items, acknowledged_up_to, first_items}
@@ -10,7 +10,7 @@ pub record Keeps (kept : OutboxState) (bodies : List ItemBody) (acknowledged : �
   pub told : acknowledged ≤ length bodies
   pub rest : kept.bodies ≡ drop acknowledged bodies
 
--- the box of a railway that was told nothing
+-- the box of a railway that has no items
 abbrev pub StartsEmpty : Type 0
 StartsEmpty = Keeps new_box [] 0
 

@@ -11,7 +11,7 @@ pub record OutboxState : Type 0 where
   pub acknowledged : ℕ
   pub bodies : List ItemBody
 
--- what is kept for a railway that was told nothing
+-- what is kept for a railway that has no items
 abbrev pub new_box : OutboxState
 new_box = record { acknowledged = 0; bodies = [] }
 

@@ -13,13 +13,17 @@ pub type Boxes = IndexMap<Railway, Outbox>;
 /// Makes room for so many items in the box of a railway, and the box where there is none.
 #[tactic(auto, using(crate::proofs::KeyLemmas::same_box))]
 pub fn make_room(boxes: &mut Boxes, railway: Railway, count: usize) -> Result<(), Memory>
-    ensures kept { (also : Railway) → outbox_state_of boxes.new.entries also ≡ outbox_state_of boxes.old.entries also }
-    ensures stay_open { (also : Railway) → has_box boxes.old.entries also ≡ true → has_box boxes.new.entries also ≡ true }
-    ensures stay_roomy { (also : Railway) → room_for boxes.old.entries also ≤ room_for boxes.new.entries also }
+    ensures kept { (also : Railway) → outbox_state_of boxes.new.entries also
+        ≡ outbox_state_of boxes.old.entries also }
+    ensures stay_open { (also : Railway) → has_box boxes.old.entries also ≡ true
+        → has_box boxes.new.entries also ≡ true }
+    ensures stay_roomy { (also : Railway) → room_for boxes.old.entries also
+        ≤ room_for boxes.new.entries also }
     ensures open { OnOk result (has_box boxes.new.entries railway ≡ true) }
     ensures room { OnOk result (count ≤ room_for boxes.new.entries railway) }
     ensures few { OnOk result (last_of (outbox_state_of boxes.new.entries railway) < 2 ^ 62) }
-    ensures err { OnErr result ((also : Railway) → has_box boxes.new.entries also ≡ has_box boxes.old.entries also) }
+    ensures err { OnErr result ((also : Railway) → has_box boxes.new.entries also
+        ≡ has_box boxes.old.entries also) }
 {
     if let Some(outbox) = boxes.get_mut(&railway) {
         return outbox.make_room(count);
@@ -36,9 +40,15 @@ pub fn put(boxes: &mut Boxes, railway: Railway, body: ItemBody) -> u64
     requires room { 0 < room_for boxes.old.entries railway }
     requires few { last_of (outbox_state_of boxes.old.entries railway) + 1 < 2 ^ 63 }
     ensures number { result ≡ last_of (outbox_state_of boxes.old.entries railway) + 1 }
-    ensures kept { (also : Railway) → outbox_state_of boxes.new.entries also ≡ (if bytes_eq railway also then with_items (outbox_state_of boxes.old.entries also) (body ∷ []) else outbox_state_of boxes.old.entries also) }
-    ensures room { (also : Railway) → room_for boxes.new.entries also + (if bytes_eq railway also then 1 else 0) ≡ room_for boxes.old.entries also }
-    ensures stay_open { (also : Railway) → has_box boxes.new.entries also ≡ has_box boxes.old.entries also }
+    ensures kept { (also : Railway) → outbox_state_of boxes.new.entries also
+        ≡ (if bytes_eq railway also
+        then with_items (outbox_state_of boxes.old.entries also) (body ∷ [])
+        else outbox_state_of boxes.old.entries also) }
+    ensures room { (also : Railway)
+        → room_for boxes.new.entries also + (if bytes_eq railway also then 1 else 0)
+        ≡ room_for boxes.old.entries also }
+    ensures stay_open { (also : Railway) → has_box boxes.new.entries also
+        ≡ has_box boxes.old.entries also }
 {
     match boxes.get_mut(&railway) {
         Some(outbox) => {
@@ -55,8 +65,12 @@ pub fn put(boxes: &mut Boxes, railway: Railway, body: ItemBody) -> u64
 pub fn acknowledge(boxes: &mut Boxes, railway: Railway, number: u64) -> u64
     requires { number ≤ last_of (outbox_state_of boxes.old.entries railway) }
     ensures stands { result ≡ max (outbox_state_of boxes.old.entries railway).acknowledged number }
-    ensures kept { (also : Railway) → outbox_state_of boxes.new.entries also ≡ (if bytes_eq railway also then acknowledged_up_to (outbox_state_of boxes.old.entries also) number else outbox_state_of boxes.old.entries also) }
-    ensures stay_open { (also : Railway) → has_box boxes.new.entries also ≡ has_box boxes.old.entries also }
+    ensures kept { (also : Railway) → outbox_state_of boxes.new.entries also
+        ≡ (if bytes_eq railway also
+        then acknowledged_up_to (outbox_state_of boxes.old.entries also) number
+        else outbox_state_of boxes.old.entries also) }
+    ensures stay_open { (also : Railway) → has_box boxes.new.entries also
+        ≡ has_box boxes.old.entries also }
 {
     match boxes.get_mut(&railway) {
         Some(outbox) => {

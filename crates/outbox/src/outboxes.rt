@@ -60,7 +60,8 @@ impl Outboxes {
 
     /// The first items after the acknowledged one, at most so many.
     pub fn fetch(&self, railway: Railway, limit: FetchLimit) -> Result<ItemList, Memory>
-        ensures { IfOk result (λ items. items ≡ first_items (outbox_state_of self.now railway) limit) }
+        ensures { IfOk result (λ items. items
+            ≡ first_items (outbox_state_of self.now railway) limit) }
     {
         let alloc = *self.boxes.allocator();
         match self.boxes.get(&railway) {
@@ -79,13 +80,16 @@ impl Outboxes {
     /// Makes room for so many items more in the box of a railway, and the box where there is none: what is kept for each
     /// railway stays. Where memory is refused, no box is made. Memory is answered also where the railway had 2^62 items.
     pub fn make_room(&mut self, railway: Railway, count: usize) -> Result<(), Memory>
-        ensures kept { (also : Railway) → outbox_state_of self.new also ≡ outbox_state_of self.old also }
-        ensures stay_open { (also : Railway) → has_box self.old also ≡ true → has_box self.new also ≡ true }
+        ensures kept { (also : Railway) → outbox_state_of self.new also
+            ≡ outbox_state_of self.old also }
+        ensures stay_open { (also : Railway) → has_box self.old also ≡ true → has_box self.new also
+            ≡ true }
         ensures stay_roomy { (also : Railway) → room_for self.old also ≤ room_for self.new also }
         ensures open { OnOk result (has_box self.new railway ≡ true) }
         ensures room { OnOk result (count ≤ room_for self.new railway) }
         ensures few { OnOk result (last_of (outbox_state_of self.new railway) < 2 ^ 62) }
-        ensures err { OnErr result ((also : Railway) → has_box self.new also ≡ has_box self.old also) }
+        ensures err { OnErr result ((also : Railway) → has_box self.new also
+            ≡ has_box self.old also) }
     {
         boxes::make_room(&mut self.boxes, railway, count)
     }
@@ -95,8 +99,12 @@ impl Outboxes {
         requires room { 0 < room_for self.old railway }
         requires few { last_of (outbox_state_of self.old railway) + 1 < 2 ^ 63 }
         ensures number { result ≡ last_of (outbox_state_of self.old railway) + 1 }
-        ensures kept { (also : Railway) → outbox_state_of self.new also ≡ (if bytes_eq railway also then with_items (outbox_state_of self.old also) (body ∷ []) else outbox_state_of self.old also) }
-        ensures room { (also : Railway) → room_for self.new also + (if bytes_eq railway also then 1 else 0) ≡ room_for self.old also }
+        ensures kept { (also : Railway) → outbox_state_of self.new also
+            ≡ (if bytes_eq railway also then with_items (outbox_state_of self.old also) (body ∷ [])
+            else outbox_state_of self.old also) }
+        ensures room { (also : Railway)
+            → room_for self.new also + (if bytes_eq railway also then 1 else 0)
+            ≡ room_for self.old also }
         ensures stay_open { (also : Railway) → has_box self.new also ≡ has_box self.old also }
     {
         boxes::put(&mut self.boxes, railway, body)
@@ -106,10 +114,15 @@ impl Outboxes {
     /// for each railway stays. Memory is answered also where the railway had 2^62 items.
     pub fn push(&mut self, railway: Railway, body: ItemBody) -> Result<u64, Memory>
         requires { last_of (outbox_state_of self.old railway) + 1 < 2 ^ 63 }
-        ensures number { IfOk result (λ number. number ≡ last_of (outbox_state_of self.old railway) + 1) }
-        ensures kept { OnOk result ((also : Railway) → outbox_state_of self.new also ≡ (if bytes_eq railway also then with_items (outbox_state_of self.old also) (body ∷ []) else outbox_state_of self.old also)) }
-        ensures err { OnErr result ((also : Railway) → outbox_state_of self.new also ≡ outbox_state_of self.old also) }
-        ensures shut { OnErr result ((also : Railway) → has_box self.new also ≡ has_box self.old also) }
+        ensures number { IfOk result (λ number. number
+            ≡ last_of (outbox_state_of self.old railway) + 1) }
+        ensures kept { OnOk result ((also : Railway) → outbox_state_of self.new also
+            ≡ (if bytes_eq railway also then with_items (outbox_state_of self.old also) (body ∷ [])
+            else outbox_state_of self.old also)) }
+        ensures err { OnErr result ((also : Railway) → outbox_state_of self.new also
+            ≡ outbox_state_of self.old also) }
+        ensures shut { OnErr result ((also : Railway) → has_box self.new also
+            ≡ has_box self.old also) }
     {
         self.make_room(railway, 1)?;
         Ok(self.put(railway, body))
@@ -119,10 +132,15 @@ impl Outboxes {
     /// nothing. Takes no memory.
     pub fn ack(&mut self, railway: Railway, number: u64) -> Result<u64, AckAhead>
         ensures when { IsOk result ↔ (number ≤ last_of (outbox_state_of self.old railway)) }
-        ensures stands { IfOk result (λ stands. stands ≡ max (outbox_state_of self.old railway).acknowledged number) }
-        ensures kept { OnOk result ((also : Railway) → outbox_state_of self.new also ≡ (if bytes_eq railway also then acknowledged_up_to (outbox_state_of self.old also) number else outbox_state_of self.old also)) }
+        ensures stands { IfOk result (λ stands. stands
+            ≡ max (outbox_state_of self.old railway).acknowledged number) }
+        ensures kept { OnOk result ((also : Railway) → outbox_state_of self.new also
+            ≡ (if bytes_eq railway also
+            then acknowledged_up_to (outbox_state_of self.old also) number
+            else outbox_state_of self.old also)) }
         ensures stay_open { (also : Railway) → has_box self.new also ≡ has_box self.old also }
-        ensures ahead { IfErr result (λ ahead. ahead.last ≡ last_of (outbox_state_of self.old railway)) }
+        ensures ahead { IfErr result (λ ahead. ahead.last
+            ≡ last_of (outbox_state_of self.old railway)) }
         ensures err { OnErr result (self.new ≡ self.old) }
     {
         let last = self.last(railway);

@@ -22,8 +22,10 @@ pub(crate) fn find(railways: &Railways, by: Railway, number: u64) -> Option<u64>
 
 /// Makes room for a name, where there is none.
 pub(crate) fn reserve(railways: &mut Railways, by: Railway, number: u64) -> Result<(), Memory>
-    ensures positions { (also : Railway) (n : ℕ) → position_of railways.new.entries also n ≡ position_of railways.old.entries also n }
-    ensures stay_roomy { (also : Railway) (n : ℕ) → has_room railways.old.entries also n ≡ true → has_room railways.new.entries also n ≡ true }
+    ensures positions { (also : Railway) (n : ℕ) → position_of railways.new.entries also n
+        ≡ position_of railways.old.entries also n }
+    ensures stay_roomy { (also : Railway) (n : ℕ) → has_room railways.old.entries also n ≡ true
+        → has_room railways.new.entries also n ≡ true }
     ensures ok { OnOk result (has_room railways.new.entries by number ≡ true) }
     ensures succeeds { has_room railways.old.entries by number ≡ true → IsOk result }
 {
@@ -40,7 +42,9 @@ pub(crate) fn reserve(railways: &mut Railways, by: Railway, number: u64) -> Resu
 pub(crate) fn note(railways: &mut Railways, by: Railway, number: u64, position: u64)
     requires room { has_room railways.old.entries by number ≡ true }
     requires new { position_of railways.old.entries by number ≡ None }
-    ensures { (also : Railway) (other : ℕ) → position_of railways.new.entries also other ≡ (if same_name by number also other then Some position else position_of railways.old.entries also other) }
+    ensures { (also : Railway) (other : ℕ) → position_of railways.new.entries also other
+        ≡ (if same_name by number also other then Some position
+        else position_of railways.old.entries also other) }
 {
     match railways.get_mut(&by) {
         Some(sent) => sent.put(number, position),

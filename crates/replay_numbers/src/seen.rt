@@ -44,7 +44,8 @@ impl Seen {
     /// Makes room for a name, where there is none. What was noted stays, also where memory is refused.
     pub fn reserve(&mut self, by: Railway, number: MessageNumber) -> Result<(), Memory>
         ensures positions { position_of self.new ≡ position_of self.old }
-        ensures stay_roomy { (also : Railway) (n : ℕ) → has_room self.old also n ≡ true → has_room self.new also n ≡ true }
+        ensures stay_roomy { (also : Railway) (n : ℕ) → has_room self.old also n ≡ true
+            → has_room self.new also n ≡ true }
         ensures ok { OnOk result (has_room self.new by number ≡ true) }
         ensures succeeds { has_room self.old by number ≡ true → IsOk result }
     {
@@ -55,7 +56,9 @@ impl Seen {
     pub fn note_reserved(&mut self, by: Railway, number: MessageNumber, position: u64)
         requires room { has_room self.old by number ≡ true }
         requires new { position_of self.old by number ≡ None }
-        ensures { (also : Railway) (other : ℕ) → position_of self.new also other ≡ (if same_name by number also other then Some position else position_of self.old also other) }
+        ensures { (also : Railway) (other : ℕ) → position_of self.new also other
+            ≡ (if same_name by number also other then Some position
+            else position_of self.old also other) }
     {
         railways::note(&mut self.railways, by, number.get(), position);
     }
@@ -63,7 +66,9 @@ impl Seen {
     /// Notes the position of a name that is new. Where memory is refused, the notes stay.
     pub fn note(&mut self, by: Railway, number: MessageNumber, position: u64) -> Result<(), Memory>
         requires { position_of self.old by number ≡ None }
-        ensures finds { OnOk result ((also : Railway) (other : ℕ) → position_of self.new also other ≡ (if same_name by number also other then Some position else position_of self.old also other)) }
+        ensures finds { OnOk result ((also : Railway) (other : ℕ) → position_of self.new also other
+            ≡ (if same_name by number also other then Some position
+            else position_of self.old also other)) }
         ensures succeeds { has_room self.old by number ≡ true → IsOk result }
         ensures err { OnErr result (position_of self.new ≡ position_of self.old) }
     {

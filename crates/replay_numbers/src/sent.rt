@@ -76,7 +76,8 @@ impl Sent {
     /// Makes room for a number, where there is none.
     pub(crate) fn reserve(&mut self, number: u64) -> Result<(), Memory>
         ensures positions { (n : ℕ) → position_in self.new n ≡ position_in self.old n }
-        ensures stay_roomy { (n : ℕ) → has_room_in self.old n ≡ true → has_room_in self.new n ≡ true }
+        ensures stay_roomy { (n : ℕ) → has_room_in self.old n ≡ true → has_room_in self.new n
+            ≡ true }
         ensures ok { OnOk result (has_room_in self.new number ≡ true) }
         ensures succeeds { has_room_in self.old number ≡ true → IsOk result }
     {
@@ -92,7 +93,8 @@ impl Sent {
 
     // Whether a number comes soon behind the row.
     fn is_near(&self, number: u64) -> bool
-        ensures { result ≡ (nat_le self.now.first number && nat_lt (number - self.now.first) (length self.now.row + 4)) }
+        ensures { result ≡ (nat_le self.now.first number && nat_lt (number - self.now.first)
+            (length self.now.row + 4)) }
     {
         self.first <= number && number - self.first < self.row.len() as u64 + NEAR
     }
@@ -101,7 +103,8 @@ impl Sent {
     pub(crate) fn put(&mut self, number: u64, position: u64)
         requires room { has_room_in self.old number ≡ true }
         requires new { position_in self.old number ≡ None }
-        ensures { (n : ℕ) → position_in self.new n ≡ (if number == n then Some position else position_in self.old n) }
+        ensures { (n : ℕ) → position_in self.new n
+            ≡ (if number == n then Some position else position_in self.old n) }
     {
         if self.has_place(number) {
             self.row[(number - self.first) as usize] = Some(position);
@@ -113,7 +116,8 @@ impl Sent {
 
 // Lets a row go on up to a number.
 fn lengthen(row: &mut Vec<Option<u64>>, number: usize) -> Result<(), Memory>
-    ensures positions { (n : ℕ) → option_flatten (slice_get row.new.items n) ≡ option_flatten (slice_get row.old.items n) }
+    ensures positions { (n : ℕ) → option_flatten (slice_get row.new.items n)
+        ≡ option_flatten (slice_get row.old.items n) }
     ensures longer { length row.old.items ≤ length row.new.items }
     ensures ok { OnOk result (number < length row.new.items) }
 {

@@ -302,7 +302,8 @@ pub(crate) fn put_list_if<T: Json>(
     items: &[T],
 ) -> Result<(), AllocError>
     requires { is_plain name.now ≡ true }
-    ensures ok { OnOk result (AddsFieldIf (list_of T.shape) out.old out.new name.now (listed items.now)) }
+    ensures ok { OnOk result
+        (AddsFieldIf (list_of T.shape) out.old out.new name.now (listed items.now)) }
     ensures before { out.new.before ≡ out.old.before }
 {
     if items.is_empty() {

@@ -128,7 +128,9 @@ fn put_leg_time(
     leg: LegIndex,
     minutes: LegMinutes,
 ) -> Result<(), AllocError>
-    ensures ok { OnOk result (AddsFields out.old out.new (shape.leg_time_fields message.now.by message.now.no wagon leg minutes)) }
+    ensures ok { OnOk result
+        (AddsFields out.old out.new
+        (shape.leg_time_fields message.now.by message.now.no wagon leg minutes)) }
     ensures before { out.new.before ≡ out.old.before }
 {
     put_field(out, "from", &message.by())?;
@@ -147,7 +149,8 @@ fn put_movement(
     no: MessageNumber,
     movement: &Movement,
 ) -> Result<(), AllocError>
-    ensures ok { OnOk result (AddsFields out.old out.new (shape.movement_fields by «no» movement.now)) }
+    ensures ok { OnOk result
+        (AddsFields out.old out.new (shape.movement_fields by «no» movement.now)) }
     ensures before { out.new.before ≡ out.old.before }
 {
     put_field(out, "at", &movement.at)?;

@@ -50,8 +50,10 @@ pub fn write_fault(alloc: Global, fault: &RecordFault) -> Result<Vec<u8>, Memory
 
 /// Appends the text of a reply. Where memory is refused, nothing is appended.
 pub fn append_reply(alloc: Global, out: &mut Vec<u8>, reply: &Reply) -> Result<(), Memory>
-    ensures ok { OnOk result (out.new.items ≡ out.old.items ++ compact_text (reply_data reply.now)) }
-    ensures read_back { OnOk result (read (compact_text (reply_data reply.now)) ≡ Some (reply_data reply.now)) }
+    ensures ok { OnOk result (out.new.items ≡ out.old.items
+        ++ compact_text (reply_data reply.now)) }
+    ensures read_back { OnOk result (read (compact_text (reply_data reply.now))
+        ≡ Some (reply_data reply.now)) }
     ensures err { OnErr result (out.new.items ≡ out.old.items) }
 {
     append(alloc, out, reply)
@@ -60,8 +62,10 @@ pub fn append_reply(alloc: Global, out: &mut Vec<u8>, reply: &Reply) -> Result<(
 /// Appends the text of a record's fault. Where memory is refused, nothing is appended.
 pub fn append_fault(alloc: Global, out: &mut Vec<u8>, fault: &RecordFault) -> Result<(), Memory>
     requires { fault.now ≢ NoMemory }
-    ensures ok { OnOk result (out.new.items ≡ out.old.items ++ compact_text (fault_data fault.now)) }
-    ensures read_back { OnOk result (read (compact_text (fault_data fault.now)) ≡ Some (fault_data fault.now)) }
+    ensures ok { OnOk result (out.new.items ≡ out.old.items
+        ++ compact_text (fault_data fault.now)) }
+    ensures read_back { OnOk result (read (compact_text (fault_data fault.now))
+        ≡ Some (fault_data fault.now)) }
     ensures err { OnErr result (out.new.items ≡ out.old.items) }
 {
     append(alloc, out, fault)

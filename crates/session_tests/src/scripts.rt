@@ -299,12 +299,12 @@ static SCRIPTS: [(&str, usize); 8] = [
     (AFTER, 1),
 ];
 
-/// How many lines there are.
+// How many lines there are.
 fn count_lines(lines: &[u8]) -> usize {
     lines.split(|byte| *byte == b'\n').count().saturating_sub(1)
 }
 
-/// The bytes as a text, for a failed test to show.
+// The bytes as a text, for a failed test to show.
 fn shown(bytes: &[u8]) -> &str {
     str::from_utf8(bytes).unwrap_or("no text")
 }

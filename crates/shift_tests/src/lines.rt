@@ -113,7 +113,7 @@ pub(crate) const SIXTEEN: &str = r#"{"kind":"hello","from":"R100"}
 {"kind":"ask","from":"R100","wagon":"318066552148"}
 > {"reply":"refused","wagon":"318066552148","why":"unknown_wagon"}"#;
 
-/// The lines of this kind, each with a newline.
+// The lines of this kind, each with a newline.
 fn lines_of(alloc: Global, session: &str, is_said: bool) -> Result<Vec<u8>, Fail> {
     let mut lines = Vec::new(alloc);
     for line in session.lines() {

@@ -83,7 +83,8 @@ impl<T> Std<T> {
     /// The reader or the writer itself. What is done to it counts no failure.
     pub fn get_mut(&mut self) -> &mut T
         ensures value { result.now ≡ std_inner self.old }
-        ensures* writes_back { sem 𝓛 (Lends (the_row T.row) T.row self.entry result (std_with_inner self.old)) }
+        ensures* writes_back { sem 𝓛
+            (Lends (the_row T.row) T.row self.entry result (std_with_inner self.old)) }
     {
         &mut self.inner
     }

@@ -9,7 +9,7 @@ pub(crate) fn ends_in_check_digit(text: &[u8; 11]) -> bool
     text[10] == b'0' + check_digit(&text[..10])
 }
 
-/// The digit that belongs to four letters and six digits, 0 to 9.
+// The digit that belongs to four letters and six digits, 0 to 9.
 fn check_digit(text: &[u8]) -> u8
     requires { length text.now ≤ 10 }
     ensures { result ≡ check_digit text.now }
@@ -17,7 +17,7 @@ fn check_digit(text: &[u8]) -> u8
     (weighed_sum(text) % 11 % 10) as u8
 }
 
-/// The values of the letters, multiplied by 1, 2, 4, .., and added.
+// The values of the letters, multiplied by 1, 2, 4, .., and added.
 fn weighed_sum(text: &[u8]) -> u32
     requires { length text.now ≤ 10 }
     ensures { result ≡ weighed_sum text.now }
@@ -29,7 +29,7 @@ fn weighed_sum(text: &[u8]) -> u32
     sum
 }
 
-/// The value of a capital letter or of a digit: letters leave out 11, 22 and 33.
+// The value of a capital letter or of a digit: letters leave out 11, 22 and 33.
 fn value_of(letter: u8) -> u8
     ensures { result ≡ value_of letter }
 {

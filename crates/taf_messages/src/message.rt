@@ -44,7 +44,8 @@ impl Message {
 
     /// The message with this content, unless it says a plan of another lead than its sender.
     pub fn new(content: Content) -> Option<Message>
-        ensures { result ≡ (if is_sent_by_its_lead content.by content.body then Some content else None) }
+        ensures { result ≡ (if is_sent_by_its_lead content.by content.body then Some content
+            else None) }
     {
         let is_from_its_lead = match &content.body {
             Body::Plan(plan) => plan.lead() == content.by,

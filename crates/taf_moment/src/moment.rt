@@ -9,10 +9,10 @@ use crate::text::MomentText;
 use std::fmt;
 use std::marker::Model;
 
-/// The minutes of a day.
+// The minutes of a day.
 const MINUTES_A_DAY: u32 = 1440;
 
-/// The minute 2199-12-31T23:59Z, counted from 1970-01-01T00:00Z.
+// The minute 2199-12-31T23:59Z, counted from 1970-01-01T00:00Z.
 const LAST_MINUTE: u32 = 120_968_639;
 
 /// A minute of the Gregorian calendar from `1970-01-01T00:00Z` to `2199-12-31T23:59Z`. It is seen
@@ -108,7 +108,7 @@ impl Moment {
     }
 }
 
-/// A number below 100 in two digits.
+// A number below 100 in two digits.
 fn two_letters(number: u8) -> [u8; 2]
     requires { number < 100 }
     ensures value { result ≡ two_digits number }

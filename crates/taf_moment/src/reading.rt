@@ -6,7 +6,7 @@ ghost use Rattle.taf_moment.specs.Calendar.{digit_as_zero, has_form, shown, date
 
 use crate::date::CalendarDate;
 
-/// The form of a moment's text, with `0` for each digit.
+// The form of a moment's text, with `0` for each digit.
 const FORM: &[u8; 17] = b"0000-00-00T00:00Z";
 
 /// Whether the text has the form: digits and marks at their places.
@@ -16,7 +16,7 @@ pub(crate) fn is_formed(letters: &[u8]) -> bool
     letters.len() == FORM.len() && fits(letters)
 }
 
-/// Whether each letter is what the form has at its place.
+// Whether each letter is what the form has at its place.
 fn fits(letters: &[u8]) -> bool
     ensures { result
         ≡ list_all (λ (letter, form). digit_as_zero letter == form) (zip letters.now FORM.now) }
@@ -27,7 +27,7 @@ fn fits(letters: &[u8]) -> bool
         .all(|(letter, form)| zero_for_digit(*letter) == *form)
 }
 
-/// The letter, or `0` for a digit.
+// The letter, or `0` for a digit.
 fn zero_for_digit(letter: u8) -> u8
     ensures { result ≡ digit_as_zero letter }
 {
@@ -64,7 +64,7 @@ pub(crate) fn time_shown(letters: &[u8]) -> (u16, u16)
     )
 }
 
-/// The number that at most four digits show.
+// The number that at most four digits show.
 fn number_shown(letters: &[u8]) -> u16
     requires digits { IsTrue (list_all is_ascii_digit letters.now) }
     requires short { length letters.now ≤ 4 }

@@ -57,7 +57,9 @@ impl Plan {
         legs: &[Leg],
         commit: Moment,
     ) -> Result<Plan, PlanFault>
-        ensures { Plans result (record { lead = lead; consignment = consignment; load = load; commit = commit; wagons = wagons.now; legs = legs.now; units = [] }) }
+        ensures { Plans result
+            (record { lead = lead; consignment = consignment; load = load; commit = commit; wagons
+            = wagons.now; legs = legs.now; units = [] }) }
     {
         Plan::with_units(alloc, lead, consignment, load, wagons, legs, &[], commit)
     }
@@ -74,7 +76,9 @@ impl Plan {
         commit: Moment,
     ) -> Result<Plan, PlanFault>
         requires { length units.now ≤ 120 }
-        ensures { Plans result (record { lead = lead; consignment = consignment; load = load; commit = commit; wagons = wagons.now; legs = legs.now; units = units.now }) }
+        ensures { Plans result
+            (record { lead = lead; consignment = consignment; load = load; commit = commit; wagons
+            = wagons.now; legs = legs.now; units = units.now }) }
     {
         if let Some(code) = broken_rule(wagons, legs, units) {
             return Err(PlanFault::BadPlan(code));

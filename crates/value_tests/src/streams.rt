@@ -2,7 +2,7 @@ use std::io::{self, Read, Write};
 use std::test::Fail;
 use taf_codes::{Failed, Sink, Source, Std};
 
-/// Pulls up to two bytes through the trait.
+// Pulls up to two bytes through the trait.
 fn pull_two<S: Source>(source: &mut S) -> Result<(usize, [u8; 2]), Failed> {
     let mut room = [0; 2];
     let count = source.pull(&mut room)?;
@@ -19,7 +19,7 @@ fn std_gives_bytes(rt: HostRuntime) -> Result<(), Fail> {
     Ok(())
 }
 
-/// Pushes bytes through the trait.
+// Pushes bytes through the trait.
 fn push_all_at_once<S: Sink>(sink: &mut S, bytes: &[u8]) -> Result<usize, Failed> {
     sink.push(bytes)
 }
@@ -34,7 +34,7 @@ fn std_takes_bytes(rt: HostRuntime) -> Result<(), Fail> {
     Ok(())
 }
 
-/// Gives or takes one byte a call. The second call fails, and the third takes nothing.
+// Gives or takes one byte a call. The second call fails, and the third takes nothing.
 #[derive(Drop)]
 struct Frail {
     calls: u8,

@@ -3,7 +3,7 @@ ghost use Rattle.std.specs.Char.{is_ascii_digit};
 ghost use Rattle.std.specs.List.{list_all};
 ghost use Rattle.wagon_number.specs.Digits.{last_digits, number_in, digit_sum, check_digit_of, shown_digits};
 
-/// What the first eleven digits are multiplied by.
+// What the first eleven digits are multiplied by.
 const FACTORS: [u8; 11] = [2, 1, 2, 1, 2, 1, 2, 1, 2, 1, 2];
 
 /// The check digit that goes behind eleven digits: what the digits of their products with 2 and 1

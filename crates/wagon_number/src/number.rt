@@ -112,7 +112,7 @@ impl WagonNumber {
     }
 }
 
-/// Whether the text has the length of the marked form, and its blanks and hyphen at their places.
+// Whether the text has the length of the marked form, and its blanks and hyphen at their places.
 fn is_marked(text: &[u8]) -> bool
     ensures { result ≡ has_marks text.now }
 {

@@ -191,7 +191,8 @@ fn leg_after(current: usize, body: &EventBody) -> usize
 
 // An event of which this is shown.
 fn recorded(event: &Event, what: RecordEventKind) -> RecordEvent
-    ensures { result ≡ record { by = event.now.by; no = event.now.no; at = event.now.at; what = what } }
+    ensures { result ≡ record
+        { by = event.now.by; no = event.now.no; at = event.now.at; what = what } }
 {
     RecordEvent {
         by: event.by,

@@ -18,7 +18,8 @@ pub(crate) fn put(line: &mut String, text: &str) -> Result<(), AllocError>
 
 /// Appends a blank and the text, at the left of its column.
 pub(crate) fn put_left(line: &mut String, text: &str) -> Result<(), AllocError>
-    ensures { OnOk result (string_bytes line.new ≡ string_bytes line.old ++ (32 ∷ left_aligned text.now)) }
+    ensures { OnOk result (string_bytes line.new ≡ string_bytes line.old
+        ++ (32 ∷ left_aligned text.now)) }
 {
     put(line, text)?;
     put_blanks(line, WIDTH.saturating_sub(text.len()))
@@ -26,7 +27,8 @@ pub(crate) fn put_left(line: &mut String, text: &str) -> Result<(), AllocError>
 
 /// Appends a blank and the text, at the right of its column.
 pub(crate) fn put_right(line: &mut String, text: &str) -> Result<(), AllocError>
-    ensures { OnOk result (string_bytes line.new ≡ string_bytes line.old ++ (32 ∷ right_aligned text.now)) }
+    ensures { OnOk result (string_bytes line.new ≡ string_bytes line.old
+        ++ (32 ∷ right_aligned text.now)) }
 {
     put(line, "")?;
     put_blanks(line, WIDTH.saturating_sub(text.len()))?;

@@ -26,7 +26,8 @@ pub(crate) fn line(alloc: Global, shown: &Record) -> Result<String, AllocError>
 
 // Appends the wagon, who is in charge, and the leg.
 fn put_head(line: &mut String, shown: &Record) -> Result<(), AllocError>
-    ensures { OnOk result (string_bytes line.new ≡ string_bytes line.old ++ join_with_byte 32 (first_columns shown.now)) }
+    ensures { OnOk result (string_bytes line.new ≡ string_bytes line.old
+        ++ join_with_byte 32 (first_columns shown.now)) }
 {
     let wagon = shown.wagon.text();
     let mut digits = Buffer::new();
@@ -39,7 +40,8 @@ fn put_head(line: &mut String, shown: &Record) -> Result<(), AllocError>
 
 // Appends how far the journey has come, the place, the times and the status.
 fn put_tail(line: &mut String, shown: &Record) -> Result<(), AllocError>
-    ensures { OnOk result (string_bytes line.new ≡ string_bytes line.old ++ (32 ∷ join_with_byte 32 (last_columns shown.now))) }
+    ensures { OnOk result (string_bytes line.new ≡ string_bytes line.old
+        ++ (32 ∷ join_with_byte 32 (last_columns shown.now))) }
 {
     let mut digits = Buffer::new();
     put_left(line, shown.stage.name())?;
@@ -51,7 +53,8 @@ fn put_tail(line: &mut String, shown: &Record) -> Result<(), AllocError>
 }
 
 fn put_railway(line: &mut String, railway: Option<Railway>) -> Result<(), AllocError>
-    ensures { OnOk result (string_bytes line.new ≡ string_bytes line.old ++ (32 ∷ railway_column railway)) }
+    ensures { OnOk result (string_bytes line.new ≡ string_bytes line.old
+        ++ (32 ∷ railway_column railway)) }
 {
     match railway {
         Some(railway) => put(line, railway.as_str()),
@@ -60,7 +63,8 @@ fn put_railway(line: &mut String, railway: Option<Railway>) -> Result<(), AllocE
 }
 
 fn put_place(line: &mut String, place: Option<Place>) -> Result<(), AllocError>
-    ensures { OnOk result (string_bytes line.new ≡ string_bytes line.old ++ (32 ∷ place_column place)) }
+    ensures { OnOk result (string_bytes line.new ≡ string_bytes line.old
+        ++ (32 ∷ place_column place)) }
 {
     match place {
         Some(place) => put(line, place.as_str()),

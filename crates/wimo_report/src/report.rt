@@ -57,7 +57,8 @@ fn with_first_line(
     wagons: usize,
     mut lines: Vec<String>,
 ) -> Result<Vec<String>, Memory>
-    ensures { IfOk result (λ all. map string_bytes all.items ≡ first_line wagons ∷ map string_bytes lines.items) }
+    ensures { IfOk result (λ all. map string_bytes all.items
+        ≡ first_line wagons ∷ map string_bytes lines.items) }
 {
     let mut digits = Buffer::new();
     let mut first = String::new(alloc);

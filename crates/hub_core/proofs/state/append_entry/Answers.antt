@@ -8,7 +8,7 @@ use Rattle.hub_core.specs.States.{Represents}
 use Rattle.hub_core.proofs.HistoryLemmas.{kept_entered}
 use Rattle.hub_core.proofs.state.append_entry.Goals as goal
 
--- src/books.rt:41:1
+-- src/state.rt:41:1
 pub returns-clause-kept : goal.returns-clause-kept
 returns-clause-kept c =
     let b = c.args.state.now in

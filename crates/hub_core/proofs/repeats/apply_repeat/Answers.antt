@@ -2,7 +2,7 @@ use Rattle.replay_numbers.specs.SentPositions.{position_of}
 use Rattle.outbox.specs.OutboxStates.{outbox_state_of}
 use Rattle.hub_tables.specs.TableStates.{table_state}
 use Rattle.hub_core.proofs.SendLemmas.{quiet_again}
-use Rattle.hub_core.proofs.send.apply_repeat.Goals as goal
+use Rattle.hub_core.proofs.repeats.apply_repeat.Goals as goal
 
 pub append_entry-requires-clause-quiet : goal.append_entry-requires-clause-quiet
 append_entry-requires-clause-quiet c =

@@ -16,7 +16,7 @@ use Rattle.hub_tables.specs.TableStates.{TableEntries, table_state, table_part}
 use Rattle.hub_core.specs.States.{Represents}
 use Rattle.hub_core.proofs.HistoryLemmas.{kept_same}
 use Rattle.hub_core.proofs.SendLemmas.{new_answer, kept_accepted}
-use Rattle.hub_core.proofs.send.accept.Goals as goal
+use Rattle.hub_core.proofs.acceptance.accept.Goals as goal
 
 pub returns-in_err-make_room-clause-kept : goal.returns-in_err-make_room-clause-kept
 returns-in_err-make_room-clause-kept c =

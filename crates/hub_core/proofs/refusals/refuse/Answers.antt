@@ -12,7 +12,7 @@ use Rattle.hub_model.specs.Replies.{verdict}
 use Rattle.hub_tables.specs.TableStates.{table_state}
 use Rattle.hub_core.specs.States.{Represents}
 use Rattle.hub_core.proofs.SendLemmas.{new_answer, kept_refused}
-use Rattle.hub_core.proofs.send.refuse.Goals as goal
+use Rattle.hub_core.proofs.refusals.refuse.Goals as goal
 
 pub returns-clause-kept : goal.returns-clause-kept
 returns-clause-kept c =

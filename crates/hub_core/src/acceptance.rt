@@ -1,0 +1,93 @@
+//! New messages that are accepted: first all that may be refused memory, then steps that cannot fail.
+ghost use Rattle.std.specs.Prelude.{◌≡◌, ◌<◌, ◌^◌, ◌∷◌, [], ◌++◌, length, IfOk, OnOk, OnErr, None, true};
+ghost use Rattle.taf_codes.specs.declared.code.Railway.{Railway};
+ghost use Rattle.outbox.specs.OutboxStates.{outbox_state_of};
+ghost use Rattle.taf_messages.specs.declared.call.Call.TheVariants as call;
+ghost use Rattle.replay_numbers.specs.SentPositions.{position_of, has_room};
+ghost use Rattle.hub_model.specs.Histories.{answer};
+ghost use Rattle.hub_model.specs.Items.{items_of};
+ghost use Rattle.hub_tables.specs.TableStates.{table_state, IsAcceptable};
+ghost use Rattle.hub_core.specs.States.{IsConsistent, KeepsLimits};
+ghost use Rattle.hub_core.specs.Delivery.{AreReady};
+
+use crate::delivery::{deliver, make_room_for};
+use crate::state::State;
+use crate::verdicts::{entry_of, verdict};
+use hub_items::items;
+use hub_model::AddressedItem;
+use hub_tables::Tables;
+use outbox::boxes_keep_the_lists;
+use std::alloc::Global;
+use taf_codes::{Memory, Railway};
+use taf_messages::{Message, MessageNumber, Reply, Shared};
+
+// Makes room for one entry more, its name and these items. Nothing that is looked up changes.
+fn make_room(
+    state: &mut State,
+    by: Railway,
+    no: MessageNumber,
+    items: &[AddressedItem],
+) -> Result<(), Memory>
+    ensures entries { state.new.history.entries ≡ state.old.history.entries }
+    ensures tables { state.new.tables ≡ state.old.tables }
+    ensures positions { position_of state.new.seen ≡ position_of state.old.seen }
+    ensures boxes { (r : Railway) → outbox_state_of state.new.outboxes r
+        ≡ outbox_state_of state.old.outboxes r }
+    ensures ready { OnOk result (AreReady state.new.outboxes (2 ^ 62) (length items.now) items.now)
+        }
+    ensures room { OnOk result (0 < state.new.history.spare) }
+    ensures name { OnOk result (has_room state.new.seen by no ≡ true) }
+{
+    make_room_for(&mut state.outboxes, items)?;
+    state.seen.reserve(by, no)?;
+    state.history.reserve()?;
+    Ok(())
+}
+
+// The items of an acceptable message.
+fn few_items(
+    alloc: Global,
+    tables: &Tables,
+    message: &Shared<Message>,
+) -> Result<Vec<AddressedItem>, Memory>
+    requires { IsAcceptable (table_state tables.now) message.now }
+    ensures items { IfOk result (λ items. items.items
+        ≡ items_of (table_state tables.now) message.now) }
+    ensures few { IfOk result (λ items. length items.items < 2 ^ 62) }
+{
+    let items = items(alloc, tables, message)?;
+    if items.len() >= 1 << 62 {
+        return Err(Memory);
+    }
+    Ok(items)
+}
+
+/// Takes a new message that may be accepted: all that can be refused memory comes first, and then what cannot.
+pub fn accept(alloc: Global, state: &mut State, message: Shared<Message>) -> Result<Reply, Memory>
+    requires kept { IsConsistent state.old }
+    requires room { length state.old.history.entries < 1000000 }
+    requires new { position_of state.old.seen message.by message.no ≡ None }
+    requires limits { KeepsLimits message }
+    requires acceptable { IsAcceptable (table_state state.old.tables) message }
+    ensures kept { IsConsistent state.new }
+    ensures answered { IfOk result (λ r. r ≡ answer state.old.history.entries (call.Send message)) }
+    ensures grows { IfOk result (λ r. state.new.history.entries ≡ state.old.history.entries
+        ++ record { call = call.Send message; reply = r } ∷ []) }
+    ensures err { OnErr result (state.new.history.entries ≡ state.old.history.entries) }
+{
+    boxes_keep_the_lists();
+    let sent = message.get();
+    let content = sent.content();
+    let by = content.by;
+    let no = content.no;
+    let items = few_items(alloc, &state.tables, &message)?;
+    make_room(state, by, no, &items)?;
+    state.tables.accept(alloc, sent)?;
+    deliver(&mut state.outboxes, items);
+    let position = state.history.len() as u64;
+    state.seen.note_reserved(by, no, position);
+    state
+        .history
+        .push_reserved(entry_of(message, verdict(no, None)));
+    Ok(verdict(no, None))
+}

@@ -1,0 +1,40 @@
+//! New messages that are refused.
+ghost use Rattle.std.specs.Prelude.{◌≡◌, ◌<◌, ◌∷◌, [], ◌++◌, length, IfOk, OnErr, Some, None};
+ghost use Rattle.taf_messages.specs.declared.call.Call.TheVariants as call;
+ghost use Rattle.replay_numbers.specs.SentPositions.{position_of};
+ghost use Rattle.hub_model.specs.Histories.{answer};
+ghost use Rattle.hub_model.specs.Faults.{fault};
+ghost use Rattle.hub_tables.specs.TableStates.{table_state};
+ghost use Rattle.hub_core.specs.States.{IsConsistent, KeepsLimits};
+
+use crate::state::State;
+use crate::verdicts::{entry_of, verdict};
+use hub_model::Fault;
+use taf_codes::Memory;
+use taf_messages::{Message, Reply, Shared, copy_reply};
+
+/// Takes a new message that has a fault.
+pub fn refuse(state: &mut State, message: Shared<Message>, found: Fault) -> Result<Reply, Memory>
+    requires kept { IsConsistent state.old }
+    requires room { length state.old.history.entries < 1000000 }
+    requires new { position_of state.old.seen message.by message.no ≡ None }
+    requires limits { KeepsLimits message }
+    requires fault { fault (table_state state.old.tables) message ≡ Some found }
+    ensures kept { IsConsistent state.new }
+    ensures answered { IfOk result (λ r. r ≡ answer state.old.history.entries (call.Send message)) }
+    ensures grows { IfOk result (λ r. state.new.history.entries ≡ state.old.history.entries
+        ++ record { call = call.Send message; reply = r } ∷ []) }
+    ensures err { OnErr result (state.new.history.entries ≡ state.old.history.entries) }
+{
+    let content = message.get().content();
+    let by = content.by;
+    let no = content.no;
+    let reply = verdict(no, Some(found));
+    let reply_copy = copy_reply(&reply)?;
+    state.seen.reserve(by, no)?;
+    state.history.reserve()?;
+    let position = state.history.len() as u64;
+    state.seen.note_reserved(by, no, position);
+    state.history.push_reserved(entry_of(message, reply));
+    Ok(reply_copy)
+}

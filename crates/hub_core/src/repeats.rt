@@ -1,0 +1,55 @@
+//! Messages that were sent before.
+ghost use Rattle.std.specs.Prelude.{◌≡◌, ◌<◌, ◌∷◌, [], ◌++◌, length, IfOk, OnErr, Some};
+ghost use Rattle.taf_messages.specs.declared.call.Call.TheVariants as call;
+ghost use Rattle.replay_numbers.specs.SentPositions.{position_of};
+ghost use Rattle.hub_model.specs.Histories.{answer};
+ghost use Rattle.hub_core.specs.States.{IsConsistent, KeepsLimits};
+
+use crate::state::{State, append_entry};
+use taf_codes::Memory;
+use taf_messages::{Call, Message, Reply, Shared, Why, copy_reply, same};
+
+// The reply to a message whose number its sender used before: the same reply again to the same
+// message, and a refusal to another one.
+fn repeat_reply(state: &State, position: u64, message: &Message) -> Result<Reply, Memory>
+    requires kept { IsConsistent state.now }
+    requires sent_before { position_of state.now.seen message.now.by message.now.no
+        ≡ Some position }
+    ensures { IfOk result (λ r. r ≡ answer state.now.history.entries (call.Send message.now)) }
+{
+    let entry = match state.history.get(position as usize) {
+        Some(entry) => entry,
+        None => unreachable!(),
+    };
+    match &entry.call {
+        Call::Send(first) => {
+            if same(first.get(), message) {
+                copy_reply(&entry.reply)
+            } else {
+                Ok(Reply::Refused {
+                    no: Some(message.no()),
+                    why: Why::NumberReused,
+                    wagon: None,
+                    last: None,
+                })
+            }
+        }
+        _ => unreachable!(),
+    }
+}
+
+/// Takes a message that was sent before, and gives the reply that it got then.
+pub fn apply_repeat(state: &mut State, position: u64, message: Shared<Message>) -> Result<Reply, Memory>
+    requires kept { IsConsistent state.old }
+    requires room { length state.old.history.entries < 1000000 }
+    requires sent_before { position_of state.old.seen message.by message.no ≡ Some position }
+    requires limits { KeepsLimits message }
+    ensures kept { IsConsistent state.new }
+    ensures answered { IfOk result (λ r. r ≡ answer state.old.history.entries (call.Send message)) }
+    ensures grows { IfOk result (λ r. state.new.history.entries ≡ state.old.history.entries
+        ++ record { call = call.Send message; reply = r } ∷ []) }
+    ensures err { OnErr result (state.new.history.entries ≡ state.old.history.entries) }
+{
+    let reply = repeat_reply(state, position, message.get())?;
+    append_entry(state, Call::Send(message), reply)
+}
