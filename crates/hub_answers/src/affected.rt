@@ -6,11 +6,10 @@ ghost use Rattle.interchange.specs.Offers.{wagons_of};
 ghost use Rattle.hub_model.specs.Overtaking.{affected_wagons, have_common_wagon};
 ghost use Rattle.hub_tables.specs.TableStates.{table_state};
 
-use hub_tables::Tables;
+use hub_tables::{Tables, has};
 use std::marker::Model;
 use std::slice;
-use taf_codes::Railway;
-use taf_messages::{Body, Message, MessageNumber, TrainAnswer};
+use taf_messages::{Body, Message, TrainAnswer};
 use wagon_number::WagonNumber;
 
 /// The wagons that a message names and, of an answer, those of its offer. It borrows them.
@@ -42,7 +41,7 @@ impl<'a> AffectedWagons<'a> {
             Body::Reroute { wagon, .. } => AffectedWagons::one(wagon),
             Body::Offer(offer) => AffectedWagons::listed(offer.get().wagons.as_slice()),
             Body::Answer(answer) => AffectedWagons::answered(tables, answer.get()),
-            Body::Withdraw { offer, .. } => AffectedWagons::listed(offered(tables, message.by(), *offer)),
+            Body::Withdraw { offer, .. } => AffectedWagons::listed(tables.offered_wagons(message.by(), *offer)),
         }
     }
 
@@ -65,7 +64,7 @@ impl<'a> AffectedWagons<'a> {
         AffectedWagons {
             named_wagons: answer.received.as_slice(),
             also_named: answer.refused.as_slice(),
-            offered: offered(tables, answer.offerer, answer.offer),
+            offered: tables.offered_wagons(answer.offerer, answer.offer),
         }
     }
 
@@ -91,23 +90,6 @@ impl<'a> AffectedWagons<'a> {
             || any_in(self.also_named, others)
             || any_in(self.offered, others)
     }
-}
-
-// The wagons of an offer; none where there is no such offer.
-fn offered(tables: &Tables, by: Railway, number: MessageNumber) -> &[WagonNumber]
-    ensures { result.now ≡ wagons_of ((table_state tables.now).offer by number) }
-{
-    match tables.offer(by, number) {
-        Some(offer) => offer.wagons.as_slice(),
-        None => &[],
-    }
-}
-
-// Whether the wagon is among these.
-fn has(wagons: &[WagonNumber], wagon: WagonNumber) -> bool
-    ensures { result ≡ has wagons.now wagon }
-{
-    wagons.iter().any(|w| *w == wagon)
 }
 
 // Whether one of these wagons is among the others.

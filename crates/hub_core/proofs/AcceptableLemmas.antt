@@ -19,7 +19,8 @@ use Rattle.interchange.specs.Offers.{wagons_of, place_of}
 use Rattle.eti_chain.specs.Estimates.{fits}
 use Rattle.outbox.specs.OutboxStates.{OutboxState}
 use Rattle.hub_model.specs.declared.entry.Entry.{Entry}
-use Rattle.hub_model.specs.HubState.{HubState, named_wagons, event_body_for, moment_in}
+use Rattle.taf_messages.specs.Bodies.{moment_in}
+use Rattle.hub_model.specs.HubState.{HubState, named_wagons, event_body_for}
 use Rattle.hub_model.specs.Faults.{fault, is_unknown}
 use Rattle.hub_model.specs.Updates.{after_acceptance, with_first_send}
 use Rattle.hub_model.specs.Histories.{answer, state_of}

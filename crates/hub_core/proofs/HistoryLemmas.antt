@@ -13,7 +13,8 @@ use Rattle.outbox.specs.OutboxStates.{OutboxState, first_items}
 use Rattle.outbox.proofs.NumberLemmas.{first_items-kept}
 use Rattle.outbox.specs.Keeping.{Keeps}
 use Rattle.hub_model.specs.declared.entry.Entry.{Entry}
-use Rattle.hub_model.specs.HubState.{HubState, FirstSend, moment_in}
+use Rattle.taf_messages.specs.Bodies.{moment_in}
+use Rattle.hub_model.specs.HubState.{HubState, FirstSend}
 use Rattle.hub_model.specs.Updates.{after}
 use Rattle.hub_model.specs.Histories.{answer, state_of}
 use Rattle.hub_model.specs.Laws.{EachSend, IsSend, IsMoment}

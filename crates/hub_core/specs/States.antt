@@ -11,7 +11,8 @@ use Rattle.outbox.specs.OutboxStates.{OutboxState, outbox_state_of}
 use Rattle.outbox.specs.Keeping.{Keeps}
 use Rattle.replay_numbers.specs.SentPositions.{position_of}
 use Rattle.hub_model.specs.declared.entry.Entry.{Entry}
-use Rattle.hub_model.specs.HubState.{HubState, FirstSend, moment_in}
+use Rattle.taf_messages.specs.Bodies.{moment_in}
+use Rattle.hub_model.specs.HubState.{HubState, FirstSend}
 use Rattle.hub_model.specs.Histories.{state_of, IsLegal}
 use Rattle.hub_model.specs.Laws.{AreDated, IsMoment}
 use Rattle.hub_model.specs.Bounds.{AreWithinLimits, IsWithinLimits}

@@ -3,7 +3,7 @@ ghost use Rattle.std.specs.Prelude.{◌≡◌, ◌<◌, ◌∷◌, [], ◌++◌,
 ghost use Rattle.taf_messages.specs.declared.call.Call.TheVariants as call;
 ghost use Rattle.replay_numbers.specs.SentPositions.{position_of};
 ghost use Rattle.hub_model.specs.Histories.{answer};
-ghost use Rattle.hub_model.specs.HubState.{moment_in};
+ghost use Rattle.taf_messages.specs.Bodies.{moment_in};
 ghost use Rattle.hub_model.specs.Bounds.{IsWithinLimits};
 ghost use Rattle.hub_model.specs.Laws.{IsMoment};
 ghost use Rattle.hub_core.specs.States.{IsConsistent, KeepsLimits};
@@ -22,13 +22,9 @@ use taf_messages::{Body, Message, Reply, Shared};
 fn note_moment(message: &Message)
     ensures { IsMoment (moment_in message.now.body) }
 {
-    let _minutes = match message.body() {
-        Body::Movement(movement) => movement.at.minutes(),
-        Body::Offer(offer) => offer.get().at.minutes(),
-        Body::Answer(answer) => answer.get().at.minutes(),
-        Body::Withdraw { at, .. } => at.minutes(),
-        Body::Plan(_) | Body::EtiAsk { .. } | Body::LegTime { .. } | Body::Reroute { .. } => 0,
-    };
+    if let Some(at) = message.body().moment() {
+        let _minutes = at.minutes();
+    }
 }
 
 // The lists of a message keep their limits, as each `Plan`, `OfferedWagons` and `Wagons` does.

@@ -15,7 +15,8 @@ use Rattle.journey.specs.Legs.{legs}
 use Rattle.journey.specs.Stages.{leg_index}
 use Rattle.eti_chain.proofs.CalendarLemmas.{fits-no_base}
 use Rattle.eti_chain.proofs.LegEndLemmas.{IsFit, HasMoment, IsDated, fit_said}
-use Rattle.hub_model.specs.HubState.{HubState, new_state, named_wagons, event_for, event_body_for, moment_in, with_event, journey_after}
+use Rattle.taf_messages.specs.Bodies.{moment_in}
+use Rattle.hub_model.specs.HubState.{HubState, new_state, named_wagons, event_for, event_body_for, with_event, journey_after}
 use Rattle.hub_model.specs.Faults.{fault, calendar_fault}
 use Rattle.hub_model.specs.Laws.{IsMoment, EstimatesFit}
 use Rattle.hub_model.proofs.NoFaultLemmas.{or_none_right, no_named_fault, goes_on, known_allowed, planned_anew, msg}

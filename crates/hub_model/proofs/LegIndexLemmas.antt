@@ -27,7 +27,8 @@ use Rattle.journey.specs.Checks.{refusal, checks, route_checks}
 use Rattle.journey.proofs.LegPositionLemmas.{stage-push, leg_index-push, legs-push, timed_length}
 use Rattle.journey.proofs.SoundStateLemmas.{passed}
 use Rattle.eti_chain.proofs.EstimateLemmas.{leg_index-kept}
-use Rattle.hub_model.specs.HubState.{HubState, new_state, named_wagons, event_for, event_body_for, moment_in, with_event, journey_after}
+use Rattle.taf_messages.specs.Bodies.{moment_in}
+use Rattle.hub_model.specs.HubState.{HubState, new_state, named_wagons, event_for, event_body_for, with_event, journey_after}
 use Rattle.hub_model.specs.Faults.{fault, is_unknown}
 use Rattle.hub_model.specs.Bounds.{HasFewLegs, IsOnLeg, AlwaysOnLeg}
 use Rattle.hub_model.proofs.NoFaultLemmas.{goes_on, known_allowed, planned_anew, msg}

@@ -11,6 +11,7 @@ use Rattle.taf_messages.specs.declared.item.ItemBody.{ItemBody}
 use Rattle.taf_messages.specs.declared.message.Message.{Message}
 use Rattle.taf_messages.specs.declared.message.Body.{Body}
 use Rattle.taf_messages.specs.declared.message.Body.TheVariants as body
+use Rattle.taf_messages.specs.Bodies.{moment_in}
 use Rattle.journey.specs.declared.event.Event.{Event}
 use Rattle.journey.specs.declared.event.EventBody.{EventBody}
 use Rattle.journey.specs.declared.event.EventBody.TheVariants.{Planned, Moved, EstimateAsked, LegTimed, Offered, Answered, Withdrawn, Rerouted}
@@ -70,14 +71,6 @@ wagons_in offers by (body.Offer o) = o.wagons
 wagons_in offers by (body.Answer a) = a.received ++ a.refused
 wagons_in offers by (body.Withdraw at n) = wagons_of (offers by n)
 wagons_in offers by (body.Reroute w route) = w ∷ []
-
--- the moment that a message gives
-abbrev pub moment_in : Body → Option ℕ
-moment_in (body.Movement m) = Some m.at
-moment_in (body.Offer o) = Some o.at
-moment_in (body.Answer a) = Some a.at
-moment_in (body.Withdraw at n) = Some at
-moment_in _ = None
 
 -- what a message of this sender says of a wagon that it names
 abbrev pub event_body_for : Offers → Railway → Body → ℕ → EventBody

@@ -11,7 +11,8 @@ use Rattle.journey.specs.Stages.{stage, responsible, is_on_its_way}
 use Rattle.interchange.specs.Offers.{wagons_of}
 use Rattle.eti_chain.specs.Estimates.{fits}
 use Rattle.hub_model.specs.declared.entry.Entry.{Entry}
-use Rattle.hub_model.specs.HubState.{HubState, moment_in}
+use Rattle.taf_messages.specs.Bodies.{moment_in}
+use Rattle.hub_model.specs.HubState.{HubState}
 use Rattle.hub_model.specs.Histories.{IsLegal, answer, run, state_of, state_after}
 
 -- the offer of this name is open, and has the wagon

@@ -21,3 +21,4 @@ mod wagon;
 pub use tables::Tables;
 pub use units::units_in;
 pub use wagon::Wagon;
+pub use wagon_events::has;

@@ -1,7 +1,7 @@
 ghost use Rattle.std.specs.Prelude.{◌≡◌, ℕ, ◌^◌, [], ◌∷◌, ◌++◌, IfOk, None, is_none, false, true, length, map, nat_lt, fold};
 ghost use Rattle.std.specs.List.{list_all};
 ghost use Rattle.std.specs.Cow.{cow_slice_items};
-ghost use Rattle.hub_model.specs.HubState.{journey_after, named_wagons, event_body_for, event_for, moment_in};
+ghost use Rattle.hub_model.specs.HubState.{journey_after, named_wagons, event_body_for, event_for};
 ghost use Rattle.hub_model.specs.Faults.{whole_fault};
 ghost use Rattle.interchange.specs.Offers.{wagons_of, place_of};
 ghost use Rattle.trip_plan.specs.Rules.{all_differ, has};
@@ -16,21 +16,7 @@ use std::borrow::CowSlice;
 use std::slice;
 use taf_codes::{Memory, Place, Railway};
 use taf_messages::{Body, Message, MessageNumber, TrainAnswer};
-use taf_moment::Moment;
 use wagon_number::WagonNumber;
-
-// The moment that a message gives, if its kind gives one.
-fn moment_in(body: &Body) -> Option<Moment>
-    ensures { result ≡ moment_in body.now }
-{
-    match body {
-        Body::Movement(movement) => Some(movement.at),
-        Body::Offer(offer) => Some(offer.get().at),
-        Body::Answer(answer) => Some(answer.get().at),
-        Body::Withdraw { at, .. } => Some(*at),
-        Body::Plan(_) | Body::EtiAsk { .. } | Body::LegTime { .. } | Body::Reroute { .. } => None,
-    }
-}
 
 // Whether the answer receives the wagon.
 fn receives(answer: &TrainAnswer, wagon: WagonNumber) -> bool
@@ -76,13 +62,13 @@ impl Tables {
                 let wagons = both(alloc, answer.received.as_slice(), answer.refused.as_slice())?;
                 return Ok(CowSlice::Owned(wagons));
             }
-            Body::Withdraw { offer, .. } => self.offered(message.by(), *offer),
+            Body::Withdraw { offer, .. } => self.offered_wagons(message.by(), *offer),
         };
         Ok(CowSlice::Borrowed(wagons))
     }
 
-    // The wagons of an offer; none where there is no such offer.
-    fn offered(&self, by: Railway, no: MessageNumber) -> &[WagonNumber]
+    /// The wagons of an offer; none where there is no such offer.
+    pub fn offered_wagons(&self, by: Railway, no: MessageNumber) -> &[WagonNumber]
         ensures { result.now ≡ wagons_of ((table_state self.now).offer by no) }
     {
         match self.offer(by, no) {
@@ -141,7 +127,7 @@ impl Tables {
         Ok(Event {
             by: message.by(),
             no: message.no(),
-            at: moment_in(message.body()),
+            at: message.body().moment(),
             body: self.event_body(message, wagon)?,
         })
     }
@@ -243,8 +229,8 @@ fn has_room(tables: &Tables, wagon: WagonNumber) -> bool
     }
 }
 
-// Whether the wagon is among these.
-fn has(wagons: &[WagonNumber], wagon: WagonNumber) -> bool
+/// Whether the wagon is among these.
+pub fn has(wagons: &[WagonNumber], wagon: WagonNumber) -> bool
     ensures { result ≡ has wagons.now wagon }
 {
     wagons.iter().any(|w| *w == wagon)

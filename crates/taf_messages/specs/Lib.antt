@@ -1,5 +1,6 @@
 pub mod Limits
 pub mod Leads
+pub mod Bodies
 pub mod Content
 pub mod Names
 pub mod Details

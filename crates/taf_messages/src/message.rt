@@ -114,6 +114,25 @@ pub enum Body {
     },
 }
 
+impl Body {
+    ghost use Rattle.taf_messages.specs.Bodies.{moment_in};
+
+    /// The moment that the message gives, if its kind gives one.
+    pub fn moment(&self) -> Option<Moment>
+        ensures { result ≡ moment_in self.now }
+    {
+        match self {
+            Body::Movement(movement) => Some(movement.at),
+            Body::Offer(offer) => Some(offer.get().at),
+            Body::Answer(answer) => Some(answer.get().at),
+            Body::Withdraw { at, .. } => Some(*at),
+            Body::Plan(_) | Body::EtiAsk { .. } | Body::LegTime { .. } | Body::Reroute { .. } => {
+                None
+            }
+        }
+    }
+}
+
 /// The wagon interchange notice: a railway offers wagons of a train to the next one.
 #[derive(Clone, Debug, PartialEq, Eq, Drop)]
 pub struct TrainOffer {
