@@ -1,6 +1,8 @@
 -- When the hub's state is consistent with its history.
-use Rattle.std.specs.Prelude.{◌≡◌, ℕ, ◌≤◌, List, length, slice_get, Option, Some, None, Result, Ok, Err}
+use Rattle.std.specs.Prelude.{◌≡◌, ℕ, ◌≤◌, List, [], ◌∷◌, ◌++◌, length, slice_get, Option, Some, None, Result, Ok, Err, IfOk, OnErr}
+use Rattle.taf_codes.specs.declared.memory.Memory.{Memory}
 use Rattle.taf_codes.specs.declared.code.Railway.{Railway}
+use Rattle.taf_messages.specs.declared.call.Call.{Call}
 use Rattle.taf_messages.specs.declared.call.Call.TheVariants.{Send}
 use Rattle.taf_messages.specs.declared.message.Message.{Message}
 use Rattle.taf_messages.specs.declared.reply.Reply.{Reply}
@@ -13,7 +15,7 @@ use Rattle.replay_numbers.specs.SentPositions.{position_of}
 use Rattle.hub_model.specs.declared.entry.Entry.{Entry}
 use Rattle.taf_messages.specs.Bodies.{moment_in}
 use Rattle.hub_model.specs.HubState.{HubState, FirstSend}
-use Rattle.hub_model.specs.Histories.{state_of, IsLegal}
+use Rattle.hub_model.specs.Histories.{state_of, IsLegal, answer}
 use Rattle.hub_model.specs.Laws.{AreDated, IsMoment}
 use Rattle.hub_model.specs.Bounds.{AreWithinLimits, IsWithinLimits}
 use Rattle.hub_tables.specs.TableStates.{table_state, table_part}
@@ -51,6 +53,14 @@ pub record Represents (history : List Entry) (looked_up : HubState) (position : 
 -- the state of a hub represents its history
 abbrev pub IsConsistent : State → Type 0
 IsConsistent b = Represents b.history.entries (table_state b.tables) (position_of b.seen) (outbox_state_of b.outboxes)
+
+-- the call was applied: the state represents the new history, the reply is the answer, and the history grew by exactly
+-- both; where memory is refused the history is as it was
+pub record Applies (old new : State) (call : Call) (result : Result Reply Memory) : Type 0 where
+  pub kept : IsConsistent new
+  pub answered : IfOk result (λ r. r ≡ answer old.history.entries call)
+  pub grows : IfOk result (λ r. new.history.entries ≡ old.history.entries ++ record { call = call; reply = r } ∷ [])
+  pub err : OnErr result (new.history.entries ≡ old.history.entries)
 
 -- what is looked up stays
 pub record SameLookups (a b : State) : Type 0 where

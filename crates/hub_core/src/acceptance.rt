@@ -1,13 +1,12 @@
 //! New messages that are accepted: first all that may be refused memory, then steps that cannot fail.
-ghost use Rattle.std.specs.Prelude.{◌≡◌, ◌<◌, ◌^◌, ◌∷◌, [], ◌++◌, length, IfOk, OnOk, OnErr, None, true};
+ghost use Rattle.std.specs.Prelude.{◌≡◌, ◌<◌, ◌^◌, length, IfOk, OnOk, None, true};
 ghost use Rattle.taf_codes.specs.declared.code.Railway.{Railway};
 ghost use Rattle.outbox.specs.OutboxStates.{outbox_state_of};
 ghost use Rattle.taf_messages.specs.declared.call.Call.TheVariants as call;
 ghost use Rattle.replay_numbers.specs.SentPositions.{position_of, has_room};
-ghost use Rattle.hub_model.specs.Histories.{answer};
 ghost use Rattle.hub_model.specs.Items.{items_of};
 ghost use Rattle.hub_tables.specs.TableStates.{table_state, IsAcceptable};
-ghost use Rattle.hub_core.specs.States.{IsConsistent, KeepsLimits};
+ghost use Rattle.hub_core.specs.States.{Applies, IsConsistent, KeepsLimits};
 ghost use Rattle.hub_core.specs.Delivery.{AreReady};
 
 use crate::delivery::{deliver, make_room_for};
@@ -69,11 +68,7 @@ pub fn accept(alloc: Global, state: &mut State, message: Shared<Message>) -> Res
     requires new { position_of state.old.seen message.by message.no ≡ None }
     requires limits { KeepsLimits message }
     requires acceptable { IsAcceptable (table_state state.old.tables) message }
-    ensures kept { IsConsistent state.new }
-    ensures answered { IfOk result (λ r. r ≡ answer state.old.history.entries (call.Send message)) }
-    ensures grows { IfOk result (λ r. state.new.history.entries ≡ state.old.history.entries
-        ++ record { call = call.Send message; reply = r } ∷ []) }
-    ensures err { OnErr result (state.new.history.entries ≡ state.old.history.entries) }
+    ensures { Applies state.old state.new (call.Send message) result }
 {
     boxes_keep_the_lists();
     let sent = message.get();

@@ -1,9 +1,7 @@
 //! Acknowledgements.
-ghost use Rattle.std.specs.Prelude.{◌≡◌, ◌<◌, ◌∷◌, [], ◌++◌, length, IfOk, OnErr, nat_lt, max, if◌then◌else◌, None, Some};
+ghost use Rattle.std.specs.Prelude.{◌≡◌, ◌<◌, length};
 ghost use Rattle.taf_messages.specs.declared.call.Call.TheVariants as call;
-ghost use Rattle.outbox.specs.OutboxStates.{outbox_state_of, last_of};
-ghost use Rattle.hub_model.specs.Histories.{answer};
-ghost use Rattle.hub_core.specs.States.{IsConsistent, ack_outcome_reply};
+ghost use Rattle.hub_core.specs.States.{Applies, IsConsistent, ack_outcome_reply};
 
 use crate::state::State;
 use hub_model::Entry;
@@ -30,11 +28,7 @@ fn reply_of(outcome: Result<u64, AckAhead>) -> Reply
 pub fn apply_ack(state: &mut State, by: Railway, item: ItemNumber) -> Result<Reply, Memory>
     requires kept { IsConsistent state.old }
     requires room { length state.old.history.entries < 1000000 }
-    ensures kept { IsConsistent state.new }
-    ensures answered { IfOk result (λ r. r ≡ answer state.old.history.entries (call.Ack by item)) }
-    ensures grows { IfOk result (λ r. state.new.history.entries ≡ state.old.history.entries
-        ++ record { call = call.Ack by item; reply = r } ∷ []) }
-    ensures err { OnErr result (state.new.history.entries ≡ state.old.history.entries) }
+    ensures { Applies state.old state.new (call.Ack by item) result }
 {
     boxes_keep_the_lists();
     state.history.reserve()?;

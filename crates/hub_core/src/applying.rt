@@ -1,7 +1,6 @@
 //! What each call does to the state.
-ghost use Rattle.std.specs.Prelude.{◌≡◌, ◌<◌, ◌∷◌, [], ◌++◌, length, IfOk, OnErr};
-ghost use Rattle.hub_model.specs.Histories.{answer};
-ghost use Rattle.hub_core.specs.States.{IsConsistent};
+ghost use Rattle.std.specs.Prelude.{◌<◌, length};
+ghost use Rattle.hub_core.specs.States.{Applies, IsConsistent};
 
 use crate::ack::apply_ack;
 use crate::ask::{ask_reply, deviation_reply, fetch_reply, unit_reply};
@@ -15,11 +14,7 @@ use taf_messages::{Call, Reply};
 pub fn apply_call(alloc: Global, state: &mut State, call: Call) -> Result<Reply, Memory>
     requires kept { IsConsistent state.old }
     requires room { length state.old.history.entries < 1000000 }
-    ensures kept { IsConsistent state.new }
-    ensures answered { IfOk result (λ r. r ≡ answer state.old.history.entries call) }
-    ensures grows { IfOk result (λ r. state.new.history.entries ≡ state.old.history.entries
-        ++ record { call = call; reply = r } ∷ []) }
-    ensures err { OnErr result (state.new.history.entries ≡ state.old.history.entries) }
+    ensures { Applies state.old state.new call result }
 {
     match call {
         Call::Send(message) => apply_send(alloc, state, message),

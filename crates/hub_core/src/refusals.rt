@@ -1,11 +1,10 @@
 //! New messages that are refused.
-ghost use Rattle.std.specs.Prelude.{◌≡◌, ◌<◌, ◌∷◌, [], ◌++◌, length, IfOk, OnErr, Some, None};
+ghost use Rattle.std.specs.Prelude.{◌≡◌, ◌<◌, length, Some, None};
 ghost use Rattle.taf_messages.specs.declared.call.Call.TheVariants as call;
 ghost use Rattle.replay_numbers.specs.SentPositions.{position_of};
-ghost use Rattle.hub_model.specs.Histories.{answer};
 ghost use Rattle.hub_model.specs.Faults.{fault};
 ghost use Rattle.hub_tables.specs.TableStates.{table_state};
-ghost use Rattle.hub_core.specs.States.{IsConsistent, KeepsLimits};
+ghost use Rattle.hub_core.specs.States.{Applies, IsConsistent, KeepsLimits};
 
 use crate::state::State;
 use crate::verdicts::{entry_of, verdict};
@@ -20,11 +19,7 @@ pub fn refuse(state: &mut State, message: Shared<Message>, found: Fault) -> Resu
     requires new { position_of state.old.seen message.by message.no ≡ None }
     requires limits { KeepsLimits message }
     requires fault { fault (table_state state.old.tables) message ≡ Some found }
-    ensures kept { IsConsistent state.new }
-    ensures answered { IfOk result (λ r. r ≡ answer state.old.history.entries (call.Send message)) }
-    ensures grows { IfOk result (λ r. state.new.history.entries ≡ state.old.history.entries
-        ++ record { call = call.Send message; reply = r } ∷ []) }
-    ensures err { OnErr result (state.new.history.entries ≡ state.old.history.entries) }
+    ensures { Applies state.old state.new (call.Send message) result }
 {
     let content = message.get().content();
     let by = content.by;

@@ -1,9 +1,9 @@
 //! Messages that were sent before.
-ghost use Rattle.std.specs.Prelude.{◌≡◌, ◌<◌, ◌∷◌, [], ◌++◌, length, IfOk, OnErr, Some};
+ghost use Rattle.std.specs.Prelude.{◌≡◌, ◌<◌, length, IfOk, Some};
 ghost use Rattle.taf_messages.specs.declared.call.Call.TheVariants as call;
 ghost use Rattle.replay_numbers.specs.SentPositions.{position_of};
 ghost use Rattle.hub_model.specs.Histories.{answer};
-ghost use Rattle.hub_core.specs.States.{IsConsistent, KeepsLimits};
+ghost use Rattle.hub_core.specs.States.{Applies, IsConsistent, KeepsLimits};
 
 use crate::state::{State, append_entry};
 use taf_codes::Memory;
@@ -44,11 +44,7 @@ pub fn apply_repeat(state: &mut State, position: u64, message: Shared<Message>) 
     requires room { length state.old.history.entries < 1000000 }
     requires sent_before { position_of state.old.seen message.by message.no ≡ Some position }
     requires limits { KeepsLimits message }
-    ensures kept { IsConsistent state.new }
-    ensures answered { IfOk result (λ r. r ≡ answer state.old.history.entries (call.Send message)) }
-    ensures grows { IfOk result (λ r. state.new.history.entries ≡ state.old.history.entries
-        ++ record { call = call.Send message; reply = r } ∷ []) }
-    ensures err { OnErr result (state.new.history.entries ≡ state.old.history.entries) }
+    ensures { Applies state.old state.new (call.Send message) result }
 {
     let reply = repeat_reply(state, position, message.get())?;
     append_entry(state, Call::Send(message), reply)

@@ -1,12 +1,11 @@
 //! Messages: each is new, or was sent before.
-ghost use Rattle.std.specs.Prelude.{◌≡◌, ◌<◌, ◌∷◌, [], ◌++◌, length, IfOk, OnErr, None};
+ghost use Rattle.std.specs.Prelude.{◌≡◌, ◌<◌, length, None};
 ghost use Rattle.taf_messages.specs.declared.call.Call.TheVariants as call;
 ghost use Rattle.replay_numbers.specs.SentPositions.{position_of};
-ghost use Rattle.hub_model.specs.Histories.{answer};
 ghost use Rattle.taf_messages.specs.Bodies.{moment_in};
 ghost use Rattle.hub_model.specs.Bounds.{IsWithinLimits};
 ghost use Rattle.hub_model.specs.Laws.{IsMoment};
-ghost use Rattle.hub_core.specs.States.{IsConsistent, KeepsLimits};
+ghost use Rattle.hub_core.specs.States.{Applies, IsConsistent, KeepsLimits};
 
 use crate::acceptance::accept;
 use crate::refusals::refuse;
@@ -51,11 +50,7 @@ fn apply_new(alloc: Global, state: &mut State, message: Shared<Message>) -> Resu
     requires room { length state.old.history.entries < 1000000 }
     requires new { position_of state.old.seen message.by message.no ≡ None }
     requires limits { KeepsLimits message }
-    ensures kept { IsConsistent state.new }
-    ensures answered { IfOk result (λ r. r ≡ answer state.old.history.entries (call.Send message)) }
-    ensures grows { IfOk result (λ r. state.new.history.entries ≡ state.old.history.entries
-        ++ record { call = call.Send message; reply = r } ∷ []) }
-    ensures err { OnErr result (state.new.history.entries ≡ state.old.history.entries) }
+    ensures { Applies state.old state.new (call.Send message) result }
 {
     estimates_fit();
     offers_are_in_order();
@@ -73,11 +68,7 @@ pub fn apply_send(
 ) -> Result<Reply, Memory>
     requires kept { IsConsistent state.old }
     requires room { length state.old.history.entries < 1000000 }
-    ensures kept { IsConsistent state.new }
-    ensures answered { IfOk result (λ r. r ≡ answer state.old.history.entries (call.Send message)) }
-    ensures grows { IfOk result (λ r. state.new.history.entries ≡ state.old.history.entries
-        ++ record { call = call.Send message; reply = r } ∷ []) }
-    ensures err { OnErr result (state.new.history.entries ≡ state.old.history.entries) }
+    ensures { Applies state.old state.new (call.Send message) result }
 {
     let sent = message.get();
     note_moment(sent);

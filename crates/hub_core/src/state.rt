@@ -1,9 +1,9 @@
 //! The hub's state: all that it keeps.
-ghost use Rattle.std.specs.Prelude.{◌≡◌, ◌<◌, ◌^◌, [], ◌∷◌, ◌++◌, length, IfOk, OnOk, OnErr};
+ghost use Rattle.std.specs.Prelude.{◌≡◌, ◌<◌, [], length};
 ghost use Rattle.hub_model.specs.Updates.{after};
 ghost use Rattle.hub_model.specs.Histories.{answer, state_of};
 ghost use Rattle.hub_model.specs.Laws.{IsSend};
-ghost use Rattle.hub_core.specs.States.{IsConsistent, KeepsLimits};
+ghost use Rattle.hub_core.specs.States.{Applies, IsConsistent, KeepsLimits};
 
 use history_pages::Pages;
 use hub_model::Entry;
@@ -47,11 +47,7 @@ pub fn append_entry(state: &mut State, call: Call, reply: Reply) -> Result<Reply
     requires quiet { after (state_of state.old.history.entries)
         (record { call = call; reply = reply }) ≡ state_of state.old.history.entries }
     requires limits { IsSend KeepsLimits call }
-    ensures kept { IsConsistent state.new }
-    ensures reply_copy { IfOk result (λ reply_copy. reply_copy ≡ reply) }
-    ensures entered { OnOk result (state.new.history.entries ≡ state.old.history.entries
-        ++ record { call = call; reply = reply } ∷ []) }
-    ensures err { OnErr result (state.new.history.entries ≡ state.old.history.entries) }
+    ensures { Applies state.old state.new call result }
 {
     let reply_copy = copy_reply(&reply)?;
     state.history.reserve()?;
