@@ -18,7 +18,7 @@ pub enum Bench {
     Shift,
 }
 
-pub const ALL: [Bench; 11] = [
+pub(crate) const ALL: [Bench; 11] = [
     Bench::Parse,
     Bench::Read,
     Bench::Replies,

@@ -12,7 +12,7 @@ use std::time::{Clock, Instant};
 use taf_messages::{Call, Reply, Shared};
 
 /// The lines of departures, read by `serde_json` alone.
-pub fn parse(clock: &impl Clock, alloc: Global, count: u64) -> Result<Measured> {
+pub(crate) fn parse(clock: &impl Clock, alloc: Global, count: u64) -> Result<Measured> {
     let lines = samples::departures(alloc, count)?;
     let start = Instant::now(clock)?;
     for line in &lines {
@@ -25,7 +25,7 @@ pub fn parse(clock: &impl Clock, alloc: Global, count: u64) -> Result<Measured> 
 }
 
 /// The same lines, read as calls.
-pub fn read(clock: &impl Clock, alloc: Global, count: u64) -> Result<Measured> {
+pub(crate) fn read(clock: &impl Clock, alloc: Global, count: u64) -> Result<Measured> {
     let lines = samples::departures(alloc, count)?;
     let mut reader = CallReader::new(alloc);
     let start = Instant::now(clock)?;
@@ -39,13 +39,13 @@ pub fn read(clock: &impl Clock, alloc: Global, count: u64) -> Result<Measured> {
 }
 
 /// Accepted replies, written.
-pub fn replies(clock: &impl Clock, alloc: Global, count: u64) -> Result<Measured> {
+pub(crate) fn replies(clock: &impl Clock, alloc: Global, count: u64) -> Result<Measured> {
     let no = samples::number(123_456)?;
     written(clock, alloc, &Reply::Accepted { no }, count)
 }
 
 /// Replies with a record of sixty events, written.
-pub fn shown(clock: &impl Clock, alloc: Global, count: u64) -> Result<Measured> {
+pub(crate) fn shown(clock: &impl Clock, alloc: Global, count: u64) -> Result<Measured> {
     let run = Run::grown(alloc, &samples::plan(alloc)?, 60)?;
     written(
         clock,
@@ -56,7 +56,7 @@ pub fn shown(clock: &impl Clock, alloc: Global, count: u64) -> Result<Measured> 
 }
 
 /// Replies of fifty items, written.
-pub fn items(clock: &impl Clock, alloc: Global, count: u64) -> Result<Measured> {
+pub(crate) fn items(clock: &impl Clock, alloc: Global, count: u64) -> Result<Measured> {
     let items = samples::estimates(alloc, 50)?;
     written(
         clock,

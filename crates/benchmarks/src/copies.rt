@@ -42,7 +42,7 @@ fn anew(alloc: Global, plan: &Plan, wagons: &[WagonNumber]) -> Result<Plan> {
 }
 
 /// Copies that share what they hold, as the hub makes them.
-pub fn shared(clock: &impl Clock, alloc: Global, count: u64) -> Result<Measured> {
+pub(crate) fn shared(clock: &impl Clock, alloc: Global, count: u64) -> Result<Measured> {
     let plan = long_plan(alloc)?;
     let start = Instant::now(clock)?;
     for _ in 0..count {
@@ -55,7 +55,7 @@ pub fn shared(clock: &impl Clock, alloc: Global, count: u64) -> Result<Measured>
 }
 
 /// The same plan made again, with its rules checked, in memory of its own.
-pub fn made(clock: &impl Clock, alloc: Global, count: u64) -> Result<Measured> {
+pub(crate) fn made(clock: &impl Clock, alloc: Global, count: u64) -> Result<Measured> {
     let plan = long_plan(alloc)?;
     let start = Instant::now(clock)?;
     for _ in 0..count {

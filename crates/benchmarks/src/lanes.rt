@@ -109,7 +109,7 @@ fn pop_all<R: Wait>(rt: &R, queue: &ArrayQueue<Job>, count: u64) {
 }
 
 /// Jobs through an inbox.
-pub fn through_inbox<R: Threads + Wait + Clock + Sync>(
+pub(crate) fn through_inbox<R: Threads + Wait + Clock + Sync>(
     rt: &R,
     alloc: Global,
     count: u64,
@@ -133,7 +133,7 @@ pub fn through_inbox<R: Threads + Wait + Clock + Sync>(
 }
 
 /// Jobs through a plain queue.
-pub fn through_plain_queue<R: Threads + Wait + Clock + Sync>(
+pub(crate) fn through_plain_queue<R: Threads + Wait + Clock + Sync>(
     rt: &R,
     alloc: Global,
     count: u64,

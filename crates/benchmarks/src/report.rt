@@ -12,7 +12,7 @@ use std::time::{Clock, Instant};
 use wimo_report::{lines, plain_lines};
 
 /// A view of so many records of a wagon on its way.
-pub fn view(alloc: Global, count: u64) -> Result<View>
+pub(crate) fn view(alloc: Global, count: u64) -> Result<View>
     ensures { IfOk result (λ view. length view ≡ count) }
 {
     let shown = Run::departed(alloc, &samples::plan(alloc)?)?.shown(alloc)?;
@@ -24,7 +24,7 @@ pub fn view(alloc: Global, count: u64) -> Result<View>
 }
 
 /// The lines of the view, made one after another.
-pub fn plain(clock: &impl Clock, alloc: Global, view: &View, count: u64) -> Result<Measured> {
+pub(crate) fn plain(clock: &impl Clock, alloc: Global, view: &View, count: u64) -> Result<Measured> {
     let start = Instant::now(clock)?;
     let lines = plain_lines(alloc, view)?;
     let measured = Measured::since(clock, start, count)?;
@@ -35,7 +35,7 @@ pub fn plain(clock: &impl Clock, alloc: Global, view: &View, count: u64) -> Resu
 }
 
 /// The lines of the view, made by several threads.
-pub fn parallel(
+pub(crate) fn parallel(
     rt: &(impl Threads + Clock + Sync),
     alloc: Global,
     view: &View,

@@ -24,7 +24,7 @@ fn departure(alloc: Global, number: u64) -> Result<String> {
 }
 
 /// Lines of departures, numbered from 1.
-pub fn departures(alloc: Global, count: u64) -> Result<Vec<String>>
+pub(crate) fn departures(alloc: Global, count: u64) -> Result<Vec<String>>
     ensures { IfOk result (λ lines. length lines.items ≡ count) }
 {
     let mut lines = Vec::new(alloc);
@@ -35,7 +35,7 @@ pub fn departures(alloc: Global, count: u64) -> Result<Vec<String>>
 }
 
 /// A plan of two wagons on two legs.
-pub fn plan(alloc: Global) -> Result<Plan> {
+pub(crate) fn plan(alloc: Global) -> Result<Plan> {
     let call = read_call(alloc, PLAN.as_bytes())?;
     let Call::Send(message) = &call else {
         bail!("the sample is no message");
@@ -47,11 +47,11 @@ pub fn plan(alloc: Global) -> Result<Plan> {
 }
 
 /// The wagon of the samples.
-pub fn wagon() -> Result<WagonNumber> {
+pub(crate) fn wagon() -> Result<WagonNumber> {
     Ok(WagonNumber::read("218124712173")?)
 }
 
-pub fn number(number: u64) -> Result<MessageNumber> {
+pub(crate) fn number(number: u64) -> Result<MessageNumber> {
     match MessageNumber::new(number) {
         Some(number) => Ok(number),
         None => bail!("no number of a message"),
@@ -59,7 +59,7 @@ pub fn number(number: u64) -> Result<MessageNumber> {
 }
 
 /// A delay of a minute.
-pub fn delay() -> Result<Delay> {
+pub(crate) fn delay() -> Result<Delay> {
     match Delay::new(1) {
         Some(delay) => Ok(delay),
         None => bail!("no delay"),
@@ -67,7 +67,7 @@ pub fn delay() -> Result<Delay> {
 }
 
 /// As many estimates as items of an outbox, numbered from 1.
-pub fn estimates(alloc: Global, count: u64) -> Result<ItemList>
+pub(crate) fn estimates(alloc: Global, count: u64) -> Result<ItemList>
     ensures { IfOk result (λ items. length items ≡ count) }
 {
     let Some(leg) = LegIndex::new(0) else {

@@ -87,7 +87,7 @@ fn new_sessions(alloc: Global, lines: &[u8]) -> Result<Vec<(Lines<'_>, Unkept)>,
 }
 
 /// Calls of a shift, an eighth of them in each session.
-pub fn calls<R: Threads + Wait + Clock + Sync>(
+pub(crate) fn calls<R: Threads + Wait + Clock + Sync>(
     rt: &R,
     alloc: Global,
     count: u64,

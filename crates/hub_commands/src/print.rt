@@ -2,7 +2,7 @@ use hub_faults::Fault;
 use std::io::Write;
 
 /// Prints lines, and sends them on.
-pub fn print<W: Write>(output: &mut W, lines: &[String]) -> Result<(), Fault> {
+pub(crate) fn print<W: Write>(output: &mut W, lines: &[String]) -> Result<(), Fault> {
     for line in lines {
         let Ok(()) = output.write_all(line.as_bytes()) else {
             return Err(Fault::Write);

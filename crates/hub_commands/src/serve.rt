@@ -34,7 +34,7 @@ where
 
 /// Serves one shift over the connections of a listener: prints `settled C`, with the number of calls of its history, and the
 /// report of all wagons.
-pub fn serve<L: OpenListener, R: Threads + Wait + Sync, W: Write + Drop>(
+pub(crate) fn serve<L: OpenListener, R: Threads + Wait + Sync, W: Write + Drop>(
     rt: &R,
     alloc: Global,
     listener: &L,

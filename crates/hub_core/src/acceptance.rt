@@ -62,7 +62,7 @@ fn few_items(
 }
 
 /// Takes a new message that may be accepted: all that can be refused memory comes first, and then what cannot.
-pub fn accept(alloc: Global, state: &mut State, message: Shared<Message>) -> Result<Reply, Memory>
+pub(crate) fn accept(alloc: Global, state: &mut State, message: Shared<Message>) -> Result<Reply, Memory>
     requires kept { IsConsistent state.old }
     requires room { length state.old.history.entries < 1000000 }
     requires new { position_of state.old.seen message.by message.no ≡ None }

@@ -25,7 +25,7 @@ fn reply_of(outcome: Result<u64, AckAhead>) -> Reply
 }
 
 /// Takes an acknowledgement. The items up to its number are dropped.
-pub fn apply_ack(state: &mut State, by: Railway, item: ItemNumber) -> Result<Reply, Memory>
+pub(crate) fn apply_ack(state: &mut State, by: Railway, item: ItemNumber) -> Result<Reply, Memory>
     requires kept { IsConsistent state.old }
     requires room { length state.old.history.entries < 1000000 }
     ensures { Applies state.old state.new (call.Ack by item) result }

@@ -11,7 +11,7 @@ use taf_codes::Memory;
 use taf_messages::{Call, Reply};
 
 /// Takes a call, and gives the reply. Where memory is refused, nothing that is looked up changes.
-pub fn apply_call(alloc: Global, state: &mut State, call: Call) -> Result<Reply, Memory>
+pub(crate) fn apply_call(alloc: Global, state: &mut State, call: Call) -> Result<Reply, Memory>
     requires kept { IsConsistent state.old }
     requires room { length state.old.history.entries < 1000000 }
     ensures { Applies state.old state.new call result }

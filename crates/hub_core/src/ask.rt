@@ -12,7 +12,7 @@ use taf_messages::{FetchLimit, Reply, Shared};
 use wagon_number::WagonNumber;
 
 /// The reply to one who asks for a wagon.
-pub fn ask_reply(
+pub(crate) fn ask_reply(
     alloc: Global,
     state: &State,
     by: Railway,
@@ -25,7 +25,7 @@ pub fn ask_reply(
 }
 
 /// The reply to one who asks for an intermodal unit.
-pub fn unit_reply(
+pub(crate) fn unit_reply(
     alloc: Global,
     state: &State,
     by: Railway,
@@ -38,7 +38,7 @@ pub fn unit_reply(
 }
 
 /// The reply to one who asks for the deviations of a consignment.
-pub fn deviation_reply(
+pub(crate) fn deviation_reply(
     alloc: Global,
     state: &State,
     by: Railway,
@@ -53,7 +53,7 @@ pub fn deviation_reply(
 
 #[tactic(auto, using(crate::proofs::HistoryLemmas::fetch_answer))]
 /// The reply to one who fetches items.
-pub fn fetch_reply(
+pub(crate) fn fetch_reply(
     alloc: Global,
     state: &State,
     by: Railway,

@@ -11,7 +11,7 @@ use taf_codes::Memory;
 
 /// Makes room for these items in the boxes of their railways: in each for all of them, however they are spread. What is
 /// kept in the boxes stays. Memory is answered also where a box had 2^62 items.
-pub fn make_room_for(outboxes: &mut Outboxes, items: &[AddressedItem]) -> Result<(), Memory>
+pub(crate) fn make_room_for(outboxes: &mut Outboxes, items: &[AddressedItem]) -> Result<(), Memory>
     ensures kept { (r : Railway) → outbox_state_of outboxes.new r ≡ outbox_state_of outboxes.old r }
     ensures ready { OnOk result (AreReady outboxes.new (2 ^ 62) (length items.now) items.now) }
 {
@@ -22,7 +22,7 @@ pub fn make_room_for(outboxes: &mut Outboxes, items: &[AddressedItem]) -> Result
 }
 
 /// Puts the items into the boxes of their railways. It takes no memory.
-pub fn deliver(outboxes: &mut Outboxes, items: Vec<AddressedItem>)
+pub(crate) fn deliver(outboxes: &mut Outboxes, items: Vec<AddressedItem>)
     requires ready { AreReady outboxes.old (2 ^ 62) (length items.items) items.items }
     requires few { length items.items < 2 ^ 62 }
     ensures { (r : Railway) → outbox_state_of outboxes.new r

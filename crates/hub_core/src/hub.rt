@@ -18,7 +18,7 @@ use taf_codes::Memory;
 use taf_messages::{Call, Reply};
 
 /// The most calls that a hub takes.
-pub const MOST_CALLS: usize = 1_000_000;
+pub(crate) const MOST_CALLS: usize = 1_000_000;
 
 /// The hub, seen as its history: the entries in the order in which it took their calls.
 #[derive(Drop)]

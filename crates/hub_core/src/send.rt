@@ -61,7 +61,7 @@ fn apply_new(alloc: Global, state: &mut State, message: Shared<Message>) -> Resu
 }
 
 /// Takes a message, new or sent before.
-pub fn apply_send(
+pub(crate) fn apply_send(
     alloc: Global,
     state: &mut State,
     message: Shared<Message>,

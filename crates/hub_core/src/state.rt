@@ -16,7 +16,7 @@ use taf_messages::{Call, Reply, copy_reply};
 
 /// What the hub keeps: its history, and the tables by which it looks things up.
 #[derive(Drop)]
-pub struct State {
+pub(crate) struct State {
     pub history: Pages<Entry>,
     pub tables: Tables,
     pub seen: Seen,
@@ -40,7 +40,7 @@ impl State {
 
 #[tactic(auto, using(crate::proofs::HistoryLemmas::kept_entered))]
 /// Enters a call with its answer, which changes nothing that is looked up. Gives the reply.
-pub fn append_entry(state: &mut State, call: Call, reply: Reply) -> Result<Reply, Memory>
+pub(crate) fn append_entry(state: &mut State, call: Call, reply: Reply) -> Result<Reply, Memory>
     requires kept { IsConsistent state.old }
     requires room { length state.old.history.entries < 1000000 }
     requires answered { reply ≡ answer state.old.history.entries call }

@@ -7,7 +7,7 @@ use hub_model::{Entry, Fault};
 use taf_messages::{Call, Message, MessageNumber, Reply, Shared};
 
 /// The reply to a new message.
-pub fn verdict(no: MessageNumber, fault: Option<Fault>) -> Reply
+pub(crate) fn verdict(no: MessageNumber, fault: Option<Fault>) -> Reply
     ensures { result ≡ verdict no fault }
 {
     match fault {
@@ -22,7 +22,7 @@ pub fn verdict(no: MessageNumber, fault: Option<Fault>) -> Reply
 }
 
 /// The entry of a send.
-pub fn entry_of(message: Shared<Message>, reply: Reply) -> Entry
+pub(crate) fn entry_of(message: Shared<Message>, reply: Reply) -> Entry
     ensures { result ≡ record { call = call.Send message; reply = reply } }
 {
     Entry {

@@ -6,7 +6,7 @@ ghost use Rattle.trip_plan.specs.Rules.{has};
 use wagon_number::WagonNumber;
 
 /// Whether each offered wagon is named exactly once, in either list.
-pub fn are_answered_once(
+pub(crate) fn are_answered_once(
     offered: &[WagonNumber],
     received: &[WagonNumber],
     refused: &[WagonNumber],
@@ -32,7 +32,7 @@ fn is_answered_once(wagon: WagonNumber, received: &[WagonNumber], refused: &[Wag
 
 /// Whether the wagons of both lists are offered.
 #[tactic(auto, using(crate::proofs::AnswerLemmas::all_in_both))]
-pub fn are_among(received: &[WagonNumber], refused: &[WagonNumber], offered: &[WagonNumber]) -> bool
+pub(crate) fn are_among(received: &[WagonNumber], refused: &[WagonNumber], offered: &[WagonNumber]) -> bool
     ensures { result ≡ list_all (λ w. has offered.now w) (received.now ++ refused.now) }
 {
     are_offered(received, offered) && are_offered(refused, offered)

@@ -12,7 +12,7 @@ use taf_codes::Railway;
 use taf_messages::MessageNumber;
 
 /// Closes the offer of a name.
-pub fn close(
+pub(crate) fn close(
     table: &mut IndexMap<(Railway, MessageNumber), OfferEntry>,
     by: Railway,
     number: MessageNumber,

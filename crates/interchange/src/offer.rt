@@ -17,7 +17,7 @@ pub struct Offer {
 
 /// An offer that was made, and whether it is open.
 #[derive(Drop)]
-pub struct OfferEntry {
+pub(crate) struct OfferEntry {
     pub offer: Offer,
     pub is_open: bool,
 }

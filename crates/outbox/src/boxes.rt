@@ -8,11 +8,11 @@ use indexmap::IndexMap;
 use taf_codes::{Memory, Railway};
 use taf_messages::ItemBody;
 
-pub type Boxes = IndexMap<Railway, Outbox>;
+pub(crate) type Boxes = IndexMap<Railway, Outbox>;
 
 /// Makes room for so many items in the box of a railway, and the box where there is none.
 #[tactic(auto, using(crate::proofs::KeyLemmas::same_box))]
-pub fn make_room(boxes: &mut Boxes, railway: Railway, count: usize) -> Result<(), Memory>
+pub(crate) fn make_room(boxes: &mut Boxes, railway: Railway, count: usize) -> Result<(), Memory>
     ensures kept { (also : Railway) → outbox_state_of boxes.new.entries also
         ≡ outbox_state_of boxes.old.entries also }
     ensures stay_open { (also : Railway) → has_box boxes.old.entries also ≡ true
@@ -36,7 +36,7 @@ pub fn make_room(boxes: &mut Boxes, railway: Railway, count: usize) -> Result<()
 
 /// Adds an item for a railway that has room for it, and gives its number.
 #[tactic(auto, using(crate::proofs::KeyLemmas::same_box))]
-pub fn put(boxes: &mut Boxes, railway: Railway, body: ItemBody) -> u64
+pub(crate) fn put(boxes: &mut Boxes, railway: Railway, body: ItemBody) -> u64
     requires room { 0 < room_for boxes.old.entries railway }
     requires few { last_of (outbox_state_of boxes.old.entries railway) + 1 < 2 ^ 63 }
     ensures number { result ≡ last_of (outbox_state_of boxes.old.entries railway) + 1 }
@@ -62,7 +62,7 @@ pub fn put(boxes: &mut Boxes, railway: Railway, body: ItemBody) -> u64
 
 /// Drops a railway's items up to a number that is not ahead, and gives the acknowledged number that now stands.
 #[tactic(auto, using(crate::proofs::KeyLemmas::same_box))]
-pub fn acknowledge(boxes: &mut Boxes, railway: Railway, number: u64) -> u64
+pub(crate) fn acknowledge(boxes: &mut Boxes, railway: Railway, number: u64) -> u64
     requires { number ≤ last_of (outbox_state_of boxes.old.entries railway) }
     ensures stands { result ≡ max (outbox_state_of boxes.old.entries railway).acknowledged number }
     ensures kept { (also : Railway) → outbox_state_of boxes.new.entries also

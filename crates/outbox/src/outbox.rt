@@ -9,7 +9,7 @@ use taf_messages::{Item, ItemBody, ItemList};
 
 /// The box of one railway.
 #[derive(Drop)]
-pub struct Outbox {
+pub(crate) struct Outbox {
     // The number of the last item that was acknowledged, 0 if there is none.
     acknowledged: u64,
     // The bodies of the items after it, in a ring.
