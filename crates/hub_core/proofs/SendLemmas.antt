@@ -1,5 +1,5 @@
 -- What a new message changes.
-use Rattle.std.proofs.Common.{◌≡◌, ℕ, ◌<◌, Bool, true, false, cond, length, List, [], ◌∷◌, ◌++◌, Option, Some, None, refl, ap, ◌∙◌, sym, subst}
+use Rattle.std.proofs.Common.{◌≡◌, ℕ, ◌<◌, Bool, true, false, ◌≤◌, ◌^◌, cond, length, List, [], ◌∷◌, ◌++◌, Option, Some, None, refl, ap, ◌∙◌, sym, subst, arith}
 use Rattle.std.specs.Prelude.{is_some}
 use Rattle.std.specs.Option.{option_or}
 use Rattle.taf_codes.specs.declared.code.Railway.{Railway}
@@ -9,7 +9,7 @@ use Rattle.taf_messages.specs.declared.reply.Reply.TheVariants.{Accepted}
 use Rattle.taf_messages.specs.declared.message.Message.{Message}
 use Rattle.taf_messages.specs.declared.message.Body.{Body}
 use Rattle.taf_messages.specs.declared.message.Body.TheVariants as body
-use Rattle.interchange.specs.declared.offer.Offer.{Offer as OfferEntry}
+use Rattle.interchange.specs.declared.offer.Offer.{Offer as AcceptedOffer}
 use Rattle.outbox.specs.OutboxStates.{OutboxState, with_items}
 use Rattle.outbox.specs.Keeping.{Keeps, PushesLast}
 use Rattle.replay_numbers.specs.Names.{same_name}
@@ -17,6 +17,7 @@ use Rattle.hub_model.specs.declared.entry.Entry.{Entry}
 use Rattle.hub_model.specs.declared.fault.Fault.{Fault}
 use Rattle.hub_model.specs.HubState.{HubState, FirstSend}
 use Rattle.hub_model.specs.Faults.{fault}
+use Rattle.hub_model.specs.Bounds.{ItemsAreFew}
 use Rattle.hub_model.specs.Items.{items_of, items_to}
 use Rattle.hub_model.specs.Replies.{verdict, send_reply}
 use Rattle.hub_model.specs.Updates.{after, after_call, after_new, after_acceptance, with_first_send, offer_given}
@@ -43,10 +44,10 @@ given_elsewhere m (body.Withdraw at k) by n h = refl
 given_elsewhere m (body.Reroute w route) by n h = refl
 
 -- an offer that is not of this name was sent before
-sent_before : (t : FirstSend) (before given : Option OfferEntry) (first : Option FirstSend) (b : Bool) → (b ≡ false → given ≡ None) → (first ≡ None → before ≡ None) →
+sent_before : (t : FirstSend) (before given : Option AcceptedOffer) (first : Option FirstSend) (b : Bool) → (b ≡ false → given ≡ None) → (first ≡ None → before ≡ None) →
     cond b (Some t) first ≡ None → option_or given before ≡ None
 sent_before t before given first true g h e = cc
-sent_before t before given first false g h e = ap (λ (o : Option OfferEntry). option_or o before) (g refl) ∙ h e
+sent_before t before given first false g h e = ap (λ (o : Option AcceptedOffer). option_or o before) (g refl) ∙ h e
 
 -- with a position there is a first send
 led_from : (history : List Entry) (t : Option FirstSend) (o : Option ℕ) (p : ℕ) → o ≡ Some p → LeadsTo history o t → is_some t ≡ true
@@ -115,3 +116,12 @@ module _ (history : List Entry) (m : Message) (looked_up : HubState) (position :
       (λ r. subst (λ (k : OutboxState). Keeps k (s.outbox r ++ items_to r (items_of s m)) (s.acknowledged r)) (sym (boxes r ∙ ap (λ (t : HubState). with_items (box r) (items_to r (items_of t m))) kept.tables))
       (push (box r) (s.outbox r) (items_to r (items_of s m)) (s.acknowledged r) (kept.boxes r)))
       (λ by n h. sent_before (record { message = m; reply = reply }) (s.offer by n) (offer_given m m.body by n) (s.first_send by n) (same_name m.by m.no by n) (given_elsewhere m m.body by n) (kept.offers by n) h))
+
+-- an accepted message makes few items
+pub few_items : (few : ItemsAreFew) (history : List Entry) (m : Message) (looked_up : HubState) (position : Railway → ℕ → Option ℕ) (box : Railway → OutboxState) →
+    Represents history looked_up position box → KeepsLimits m → fault looked_up m ≡ None → length (items_of looked_up m) < 2 ^ 62
+few_items few history m looked_up position box kept limits sound =
+    let same : items_of looked_up m ≡ items_of (state_of history) m = ap (λ (t : HubState). items_of t m) kept.tables in
+    let sound_there : fault (state_of history) m ≡ None = sym (ap (λ (t : HubState). fault t m) kept.tables) ∙ sound in
+    let small : length (items_of looked_up m) ≤ 1322 = subst (λ (n : ℕ). n ≤ 1322) (sym (ap length same)) (few history m kept.legal kept.within limits.1 sound_there) in
+    omega (arith, small)

@@ -4,7 +4,6 @@ ghost use Rattle.taf_codes.specs.declared.code.Railway.{Railway};
 ghost use Rattle.outbox.specs.OutboxStates.{outbox_state_of};
 ghost use Rattle.taf_messages.specs.declared.call.Call.TheVariants as call;
 ghost use Rattle.replay_numbers.specs.SentPositions.{position_of, has_room};
-ghost use Rattle.hub_model.specs.Items.{items_of};
 ghost use Rattle.hub_tables.specs.TableStates.{table_state, IsAcceptable};
 ghost use Rattle.hub_core.specs.States.{Applies, IsConsistent, KeepsLimits};
 ghost use Rattle.hub_core.specs.Delivery.{AreReady};
@@ -13,8 +12,7 @@ use crate::delivery::{deliver, make_room_for};
 use crate::state::State;
 use crate::verdicts::{entry_of, verdict};
 use hub_items::items;
-use hub_model::AddressedItem;
-use hub_tables::Tables;
+use hub_model::{AddressedItem, items_and_events_are_bounded};
 use outbox::boxes_keep_the_lists;
 use std::alloc::Global;
 use taf_codes::{Memory, Railway};
@@ -43,24 +41,6 @@ fn make_room(
     Ok(())
 }
 
-// The items of an acceptable message.
-fn few_items(
-    alloc: Global,
-    tables: &Tables,
-    message: &Shared<Message>,
-) -> Result<Vec<AddressedItem>, Memory>
-    requires { IsAcceptable (table_state tables.now) message.now }
-    ensures items { IfOk result (λ items. items.items
-        ≡ items_of (table_state tables.now) message.now) }
-    ensures few { IfOk result (λ items. length items.items < 2 ^ 62) }
-{
-    let items = items(alloc, tables, message)?;
-    if items.len() >= 1 << 62 {
-        return Err(Memory);
-    }
-    Ok(items)
-}
-
 /// Takes a new message that may be accepted: all that can be refused memory comes first, and then what cannot.
 pub(crate) fn accept(alloc: Global, state: &mut State, message: Shared<Message>) -> Result<Reply, Memory>
     requires kept { IsConsistent state.old }
@@ -71,11 +51,12 @@ pub(crate) fn accept(alloc: Global, state: &mut State, message: Shared<Message>)
     ensures { Applies state.old state.new (call.Send message) result }
 {
     boxes_keep_the_lists();
+    items_and_events_are_bounded();
     let sent = message.get();
     let content = sent.content();
     let by = content.by;
     let no = content.no;
-    let items = few_items(alloc, &state.tables, &message)?;
+    let items = items(alloc, &state.tables, &message)?;
     make_room(state, by, no, &items)?;
     state.tables.accept(alloc, sent)?;
     deliver(&mut state.outboxes, items);

@@ -1,4 +1,4 @@
-use Rattle.std.proofs.Common.{◌≡◌, ℕ, List, [], ◌∷◌, ◌++◌, Option, Some, None, cond, length, ap, ◌∙◌, sym, subst}
+use Rattle.std.proofs.Common.{◌≡◌, ℕ, List, [], ◌∷◌, ◌++◌, Option, Some, None, cond, length, ap, ◌∙◌, ◌<◌, ◌^◌, sym, subst}
 use Rattle.taf_messages.specs.declared.call.Call.TheVariants.{Send}
 use Rattle.taf_messages.specs.declared.message.Message.{Message}
 use Rattle.taf_messages.specs.declared.reply.Reply.{Reply}
@@ -15,7 +15,7 @@ use Rattle.hub_model.specs.Updates.{after_acceptance}
 use Rattle.hub_tables.specs.TableStates.{TableEntries, table_state, table_part}
 use Rattle.hub_core.specs.States.{Represents}
 use Rattle.hub_core.proofs.HistoryLemmas.{kept_same}
-use Rattle.hub_core.proofs.SendLemmas.{new_answer, kept_accepted}
+use Rattle.hub_core.proofs.SendLemmas.{few_items, new_answer, kept_accepted}
 use Rattle.hub_core.proofs.acceptance.accept.Goals as goal
 
 pub returns-in_err-make_room-clause-kept : goal.returns-in_err-make_room-clause-kept
@@ -60,7 +60,7 @@ returns-clause-kept c =
     ap (λ (o : Option ℕ). cond (same_name m.by m.no by k) (Some (length b.history.entries)) o) (λ i. r.positions i by k))
     (λ q. c.deliver.ensures q ∙
     ap (λ (k : OutboxState). with_items k (items_to q c.in_ok-items.items.items)) (r.boxes q) ∙
-    ap (λ (is : List AddressedItem). with_items (outbox_state_of b.outboxes q) (items_to q is)) c.in_ok-items.ensures.items))
+    ap (λ (is : List AddressedItem). with_items (outbox_state_of b.outboxes q) (items_to q is)) c.in_ok-items.ensures))
 
 pub returns-clause-answered : goal.returns-clause-answered
 returns-clause-answered c =
@@ -72,3 +72,9 @@ pub note_reserved-requires-clause-new : goal.note_reserved-requires-clause-new
 note_reserved-requires-clause-new c =
     let sent = c.content-content.result.now in
     ap (λ (found : Railway → ℕ → Option ℕ). found sent.by sent.no) c.in_ok-make_room.ensures.positions ∙ ap (λ (x : Message). position_of c.args.state.now.seen x.by x.no) (c.content-content.ensures.value ∙ c.get-sent.ensures) ∙ c.requires.new
+
+pub deliver-requires-clause-few : goal.deliver-requires-clause-few
+deliver-requires-clause-few c =
+    let b = c.args.state.now in
+    subst (λ (is : List AddressedItem). length is < 2 ^ 62) (sym c.in_ok-items.ensures)
+    (few_items c.items_and_events_are_bounded.ensures.items b.history.entries c.args.message (table_state b.tables) (position_of b.seen) (outbox_state_of b.outboxes) c.requires.kept c.requires.limits c.requires.acceptable.sound)
