@@ -117,7 +117,12 @@ fn grow(clock: &impl Clock, alloc: Global, plan: &Plan, length: u64) -> Result<M
 }
 
 /// Exceptions on tracks of up to `length` of them: `count` of them at most, of whole tracks, and one track at least.
-pub(crate) fn events(clock: &impl Clock, alloc: Global, length: u32, count: u64) -> Result<Measured> {
+pub(crate) fn events(
+    clock: &impl Clock,
+    alloc: Global,
+    length: u32,
+    count: u64,
+) -> Result<Measured> {
     let plan = samples::plan(alloc)?;
     let length = u64::from(length.max(1));
     let mut total = Measured { count: 0, nanos: 0 };

@@ -24,7 +24,12 @@ pub(crate) fn view(alloc: Global, count: u64) -> Result<View>
 }
 
 /// The lines of the view, made one after another.
-pub(crate) fn plain(clock: &impl Clock, alloc: Global, view: &View, count: u64) -> Result<Measured> {
+pub(crate) fn plain(
+    clock: &impl Clock,
+    alloc: Global,
+    view: &View,
+    count: u64,
+) -> Result<Measured> {
     let start = Instant::now(clock)?;
     let lines = plain_lines(alloc, view)?;
     let measured = Measured::since(clock, start, count)?;

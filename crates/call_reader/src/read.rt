@@ -6,7 +6,7 @@ ghost use Rattle.call_reader.specs.Reading as reading;
 ghost use Rattle.call_reader.specs.Reading.{Gives};
 
 use crate::unit_loads::UnitLoads;
-use crate::value::{FromJson, DecodeError};
+use crate::value::{DecodeError, FromJson};
 use json::Scratch;
 use json_tokens::{FlatRecord, JsonValue};
 use serde_json::Value;

@@ -207,7 +207,11 @@ impl FromJson for UnitLoads {
 }
 
 // The value under a key of an object.
-fn member_of<T: FromJson>(alloc: Global, value: JsonValue<'_, '_>, field: Field) -> Result<T, DecodeError>
+fn member_of<T: FromJson>(
+    alloc: Global,
+    value: JsonValue<'_, '_>,
+    field: Field,
+) -> Result<T, DecodeError>
     ensures { Reads result (good.member T.good field (json_value_data value.entry)) }
 {
     let value = value.get(field.name()).ok_or(DecodeError::Bad)?;
@@ -215,7 +219,10 @@ fn member_of<T: FromJson>(alloc: Global, value: JsonValue<'_, '_>, field: Field)
 }
 
 // The items of an array, if each is good.
-fn items_of<T: FromJson + Drop>(alloc: Global, value: JsonValue<'_, '_>) -> Result<Vec<T>, DecodeError>
+fn items_of<T: FromJson + Drop>(
+    alloc: Global,
+    value: JsonValue<'_, '_>,
+) -> Result<Vec<T>, DecodeError>
     ensures { ReadsList result (good.list T.good (json_value_data value.entry)) }
 {
     let values = value.as_array().ok_or(DecodeError::Bad)?;

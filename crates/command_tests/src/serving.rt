@@ -1,9 +1,9 @@
 //! A shift of two railways over loopback.
 
 use crate::commands::end_of;
-use memory_limit::MemoryLimit;
 use hub_commands::serve_on;
 use hub_server::ShiftSize;
+use memory_limit::MemoryLimit;
 use std::alloc::Global;
 use std::io::{Read, Write};
 use std::net::{Ipv4Addr, Net, OpenStream, Shutdown, SocketAddr, TcpListener, TcpStream};

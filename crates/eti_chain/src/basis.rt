@@ -7,7 +7,7 @@ ghost use Rattle.journey.specs.Journey.{after};
 ghost use Rattle.eti_chain.specs.EstimateStates as of;
 
 use crate::anchor::{Anchor, anchor_after};
-use journey::{Event, Events, Legs, Transition, Track};
+use journey::{Event, Events, Legs, Track, Transition};
 use std::collections::LinkedList;
 use std::marker::Model;
 use taf_moment::Moment;

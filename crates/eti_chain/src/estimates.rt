@@ -7,7 +7,7 @@ ghost use Rattle.eti_chain.specs.Estimates as of;
 use crate::anchor::Anchor;
 use crate::basis::EstimateBasis;
 use crate::held_legs::HeldLegs;
-use journey::{Event, Transition, Track};
+use journey::{Event, Track, Transition};
 use std::marker::Model;
 use taf_moment::Moment;
 

@@ -27,8 +27,8 @@
 #![tactic(auto)]
 
 mod anchor;
-mod estimate_anchor;
 mod basis;
+mod estimate_anchor;
 mod estimates;
 mod held_legs;
 

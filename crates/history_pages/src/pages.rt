@@ -95,8 +95,11 @@ impl<T> Pages<T> {
     pub fn push_reserved(&mut self, entry: T)
         requires room { 0 < self.old.spare }
         requires few { length self.old.entries < 2 ^ 62 }
-        ensures { self.new ≡ record { entries = self.old.entries
-            ++ entry ∷ []; spare = self.old.spare - 1 } }
+        ensures { self.new ≡ record {
+          entries = self.old.entries
+              ++ entry ∷ [];
+          spare = self.old.spare - 1;
+        } }
     {
         self.current.push_reserved(entry);
     }

@@ -41,7 +41,10 @@ impl<'a> AffectedWagons<'a> {
             Body::Reroute { wagon, .. } => AffectedWagons::one(wagon),
             Body::Offer(offer) => AffectedWagons::listed(offer.get().wagons.as_slice()),
             Body::Answer(answer) => AffectedWagons::answered(tables, answer.get()),
-            Body::Withdraw { offer, .. } => AffectedWagons::listed(tables.offered_wagons(message.by(), *offer)),
+            Body::Withdraw { offer, .. } => AffectedWagons::listed(tables.offered_wagons(
+                message.by(),
+                *offer,
+            )),
         }
     }
 

@@ -22,8 +22,8 @@
 //! messages which are apart get the same replies in either order is a law of `hub_model`.
 #![tactic(auto)]
 
-mod asking;
 mod affected;
+mod asking;
 mod deviations;
 mod fleet;
 mod overtaking;

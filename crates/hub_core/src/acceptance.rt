@@ -30,8 +30,7 @@ fn make_room(
     ensures positions { position_of state.new.seen ≡ position_of state.old.seen }
     ensures boxes { (r : Railway) → outbox_state_of state.new.outboxes r
         ≡ outbox_state_of state.old.outboxes r }
-    ensures ready { OnOk result (AreReady state.new.outboxes (2 ^ 62) (length items.now) items.now)
-        }
+    ensures ready { OnOk result (AreReady state.new.outboxes (2 ^ 62) (length items.now) items.now) }
     ensures room { OnOk result (0 < state.new.history.spare) }
     ensures name { OnOk result (has_room state.new.seen by no ≡ true) }
 {
@@ -42,7 +41,11 @@ fn make_room(
 }
 
 /// Takes a new message that may be accepted: all that can be refused memory comes first, and then what cannot.
-pub(crate) fn accept(alloc: Global, state: &mut State, message: Shared<Message>) -> Result<Reply, Memory>
+pub(crate) fn accept(
+    alloc: Global,
+    state: &mut State,
+    message: Shared<Message>,
+) -> Result<Reply, Memory>
     requires kept { IsConsistent state.old }
     requires room { length state.old.history.entries < 1000000 }
     requires new { position_of state.old.seen message.by message.no ≡ None }

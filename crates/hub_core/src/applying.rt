@@ -4,8 +4,8 @@ ghost use Rattle.hub_core.specs.States.{Applies, IsConsistent};
 
 use crate::ack::apply_ack;
 use crate::ask::{ask_reply, deviation_reply, fetch_reply, unit_reply};
-use crate::state::{State, append_entry};
 use crate::send::apply_send;
+use crate::state::{State, append_entry};
 use std::alloc::Global;
 use taf_codes::Memory;
 use taf_messages::{Call, Reply};

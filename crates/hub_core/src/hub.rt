@@ -6,9 +6,9 @@ ghost use Rattle.hub_model.specs.Laws.{AreDated};
 ghost use Rattle.hub_core.specs.Apart.{are_apart};
 ghost use Rattle.hub_core.specs.Faults.{IsFault};
 
-use crate::state::State;
-use crate::fault::HubFault;
 use crate::applying::apply_call;
+use crate::fault::HubFault;
+use crate::state::State;
 use crate::view::View;
 use hub_answers::{apart, view};
 use hub_model::{Entry, histories_are_runs};

@@ -13,7 +13,11 @@ use taf_codes::Memory;
 use taf_messages::{Message, Reply, Shared, copy_reply};
 
 /// Takes a new message that has a fault.
-pub(crate) fn refuse(state: &mut State, message: Shared<Message>, found: Fault) -> Result<Reply, Memory>
+pub(crate) fn refuse(
+    state: &mut State,
+    message: Shared<Message>,
+    found: Fault,
+) -> Result<Reply, Memory>
     requires kept { IsConsistent state.old }
     requires room { length state.old.history.entries < 1000000 }
     requires new { position_of state.old.seen message.by message.no ≡ None }

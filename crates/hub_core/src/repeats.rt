@@ -39,7 +39,11 @@ fn repeat_reply(state: &State, position: u64, message: &Message) -> Result<Reply
 }
 
 /// Takes a message that was sent before, and gives the reply that it got then.
-pub(crate) fn apply_repeat(state: &mut State, position: u64, message: Shared<Message>) -> Result<Reply, Memory>
+pub(crate) fn apply_repeat(
+    state: &mut State,
+    position: u64,
+    message: Shared<Message>,
+) -> Result<Reply, Memory>
     requires kept { IsConsistent state.old }
     requires room { length state.old.history.entries < 1000000 }
     requires sent_before { position_of state.old.seen message.by message.no ≡ Some position }

@@ -24,7 +24,11 @@ pub(crate) fn put_estimates(
 }
 
 // Adds the item of a leg's estimate, if there is one and it is news.
-fn put_of_leg(items: &mut Vec<AddressedItem>, change: &WagonChange<'_>, leg: usize) -> Result<(), Memory>
+fn put_of_leg(
+    items: &mut Vec<AddressedItem>,
+    change: &WagonChange<'_>,
+    leg: usize,
+) -> Result<(), Memory>
     requires { leg < 8 }
     ensures { OnOk result (items.new.items ≡ items.old.items ++ news_of change.now leg) }
 {

@@ -13,7 +13,7 @@ use crate::alerts::put_alerts;
 use crate::estimates::put_estimates;
 use crate::notices::notices;
 use crate::receivers::movement_receivers;
-use crate::wagon_change::{WagonEvent, WagonChange};
+use crate::wagon_change::{WagonChange, WagonEvent};
 use hub_model::AddressedItem;
 use hub_tables::Tables;
 use std::alloc::Global;
@@ -94,8 +94,7 @@ fn notice_alone(
     receiver: Option<Railway>,
 ) -> Result<Vec<AddressedItem>, Memory>
     ensures { IfOk result (λ v. v.items
-        ≡ map (λ r. record { to = r; body = ItemBody.Notice notice.now }) (option_to_list receiver))
-        }
+        ≡ map (λ r. record { to = r; body = ItemBody.Notice notice.now }) (option_to_list receiver)) }
 {
     let mut items = Vec::new(alloc);
     put_notice(&mut items, notice, receiver)?;

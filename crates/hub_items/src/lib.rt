@@ -16,10 +16,10 @@
 mod alerts;
 mod each;
 mod estimates;
-mod notices;
-mod receivers;
-mod once;
-mod wagon_change;
 mod item_list;
+mod notices;
+mod once;
+mod receivers;
+mod wagon_change;
 
 pub use item_list::items;

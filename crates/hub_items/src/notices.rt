@@ -5,8 +5,8 @@ ghost use Rattle.hub_tables.specs.TableStates.{IsAcceptable, table_state};
 ghost use Rattle.hub_items.specs.MessageItems.{has_one_receiver};
 
 use crate::each::put_each;
-use crate::receivers::notice_receivers;
 use crate::once::each_once;
+use crate::receivers::notice_receivers;
 use hub_model::AddressedItem;
 use hub_tables::Tables;
 use std::alloc::Global;

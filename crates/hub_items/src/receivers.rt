@@ -8,7 +8,7 @@ ghost use Rattle.journey.specs.Journey.{after};
 ghost use Rattle.hub_items.specs.MessageItems.{has_one_receiver};
 ghost use Rattle.taf_messages.specs.declared.message.Body.TheVariants as body;
 
-use crate::wagon_change::{WagonEvent, WagonChange};
+use crate::wagon_change::{WagonChange, WagonEvent};
 use hub_tables::Tables;
 use journey::Track;
 use std::alloc::{AllocError, Global};

@@ -188,7 +188,11 @@ impl<'a> WagonChange<'a> {
     pub(crate) fn runner_after(&self, leg: usize) -> Option<Railway>
         ensures { result ≡ legs_of.runner_of (after self.now) leg }
     {
-        self.transition.journey_state().legs.leg(leg).map(|leg| leg.ru)
+        self.transition
+            .journey_state()
+            .legs
+            .leg(leg)
+            .map(|leg| leg.ru)
     }
 
     /// When the wagon was expected at the end of a leg before the event.

@@ -194,8 +194,14 @@ fn unit_plans(
 // The offer that the message makes.
 fn made_by(message: &Message, offer: &TrainOffer) -> Result<Offer, Memory>
     ensures { IfOk result (λ o. o
-        ≡ record { by = message.now.by; no = message.now.no; to = offer.now.to; place
-        = offer.now.place; wagons = offer.now.wagons }) }
+        ≡ record {
+          by = message.now.by;
+          no = message.now.no;
+          to = offer.now.to;
+          place
+              = offer.now.place;
+          wagons = offer.now.wagons;
+        }) }
 {
     Ok(Offer {
         by: message.by(),

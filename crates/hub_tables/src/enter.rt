@@ -42,7 +42,11 @@ pub(crate) fn put_all(
 }
 
 /// Puts an event at the end of its wagon's journey.
-pub(crate) fn put(wagons: &mut IndexMap<WagonNumber, Wagon>, wagon: WagonNumber, event: PreparedEvent)
+pub(crate) fn put(
+    wagons: &mut IndexMap<WagonNumber, Wagon>,
+    wagon: WagonNumber,
+    event: PreparedEvent,
+)
     requires filed { AreJourneyEntries wagons.old.entries }
     requires admitted { IsAdmitted (events_in wagons.old.entries wagon) event }
     ensures events { (w : ℕ) → events_in wagons.new.entries w

@@ -13,10 +13,10 @@
 
 mod accept;
 mod enter;
-mod wagon_events;
 mod tables;
 mod units;
 mod wagon;
+mod wagon_events;
 
 pub use tables::Tables;
 pub use units::units_in;

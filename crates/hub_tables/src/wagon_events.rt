@@ -175,7 +175,11 @@ impl Tables {
     }
 
     /// The event by which the journey of the one wagon that the message names goes on.
-    pub(crate) fn next_event_for(&self, message: &Message, wagon: WagonNumber) -> Result<Event, Memory>
+    pub(crate) fn next_event_for(
+        &self,
+        message: &Message,
+        wagon: WagonNumber,
+    ) -> Result<Event, Memory>
         requires acceptable { IsAcceptable (table_state self.now) message.now }
         requires continues_journeys { continues_journeys message.now.body ≡ true }
         requires alone { named_wagons (table_state self.now).offer message.now ≡ wagon ∷ [] }
@@ -199,8 +203,11 @@ impl Tables {
         requires begins { (w : ℕ) → has wagons.now w ≡ true
             → IsBeginning (event_for (table_state self.now).offer message.now w) }
         ensures { IfOk result (λ v. v.items
-            ≡ map (λ w. (w, record
-            { wagon = w; events = event_for (table_state self.now).offer message.now w ∷ [] }))
+            ≡ map (λ w. (
+              w,
+              record
+                  { wagon = w; events = event_for (table_state self.now).offer message.now w ∷ [] },
+            ))
             wagons.now) }
     {
         let mut begun = Vec::with_capacity(alloc, wagons.len())?;

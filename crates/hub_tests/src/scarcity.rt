@@ -2,9 +2,9 @@
 
 use crate::play::{INTERCHANGE, Script, new_hub, no_difference, plays_on};
 use crate::trains::AFTER_INTERCHANGE;
-use memory_limit::MemoryLimit;
 use call_reader::read_call;
 use hub_core::{Hub, View};
+use memory_limit::MemoryLimit;
 use reply_writer::append_reply;
 use std::alloc::Global;
 use std::test::Fail;

@@ -3,8 +3,8 @@ ghost use Rattle.std.specs.Prelude.{◌≡◌};
 ghost use Rattle.inbox.specs.Rules.{ALL_PARTS};
 
 use crate::jobs::Question;
-use memory_limit::MemoryLimit;
 use inbox::{Inbox, Pass};
+use memory_limit::MemoryLimit;
 use std::alloc::{AllocError, Global};
 use std::sync::Wait;
 use std::test::Fail;
@@ -23,7 +23,11 @@ fn is_enough(
 }
 
 // How many budgets are not enough, each of sixteen bytes more than the one before.
-fn refused_budgets(memory_limit: &mut MemoryLimit, rt: &impl Wait, alloc: Global) -> Result<usize, Fail> {
+fn refused_budgets(
+    memory_limit: &mut MemoryLimit,
+    rt: &impl Wait,
+    alloc: Global,
+) -> Result<usize, Fail> {
     for step in 0..100_000usize {
         if is_enough(memory_limit, rt, alloc, step * 16)? {
             return Ok(step);

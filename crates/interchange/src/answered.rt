@@ -32,7 +32,11 @@ fn is_answered_once(wagon: WagonNumber, received: &[WagonNumber], refused: &[Wag
 
 /// Whether the wagons of both lists are offered.
 #[tactic(auto, using(crate::proofs::AnswerLemmas::all_in_both))]
-pub(crate) fn are_among(received: &[WagonNumber], refused: &[WagonNumber], offered: &[WagonNumber]) -> bool
+pub(crate) fn are_among(
+    received: &[WagonNumber],
+    refused: &[WagonNumber],
+    offered: &[WagonNumber],
+) -> bool
     ensures { result ≡ list_all (λ w. has offered.now w) (received.now ++ refused.now) }
 {
     are_offered(received, offered) && are_offered(refused, offered)

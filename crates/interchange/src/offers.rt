@@ -5,7 +5,7 @@ ghost use Rattle.replay_numbers.specs.Names.{same_name};
 ghost use Rattle.interchange.specs.OfferTable.{offer_of, is_standing, with_closed};
 
 use crate::closing::close;
-use crate::offer::{OfferEntry, Offer};
+use crate::offer::{Offer, OfferEntry};
 use indexmap::IndexMap;
 use std::alloc::Global;
 use std::marker::Model;

@@ -4,8 +4,8 @@ ghost use Rattle.journey.specs.Legs.{HasRoom};
 ghost use Rattle.journey.specs.JourneyStates.{journey_state_after};
 
 use crate::event::Event;
-use crate::prepared::PreparedEvent;
 use crate::journey_state::JourneyState;
+use crate::prepared::PreparedEvent;
 use std::collections::LinkedList;
 use std::marker::Model;
 use taf_codes::Memory;
@@ -66,7 +66,11 @@ impl Events {
     }
 
     /// Adds the next event, by which the state goes on in place. Where memory is refused, both are as they were.
-    pub(crate) fn push(&mut self, next: Event, journey_state: &mut JourneyState) -> Result<(), Memory>
+    pub(crate) fn push(
+        &mut self,
+        next: Event,
+        journey_state: &mut JourneyState,
+    ) -> Result<(), Memory>
         requires on_a_leg { journey_state.old.leg_index < length journey_state.old.legs }
         requires few_legs { length journey_state.old.legs ≤ 8 }
         requires room { HasRoom journey_state.old.leg_index next.body }

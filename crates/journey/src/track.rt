@@ -2,8 +2,8 @@ ghost use Rattle.std.specs.Prelude.{◌≡◌, ◌+◌, ◌<◌, ◌≤◌, ◌^
 
 use crate::event::{Event, EventBody};
 use crate::events::Events;
-use crate::prepared::PreparedEvent;
 use crate::journey_state::JourneyState;
+use crate::prepared::PreparedEvent;
 use crate::transition::Transition;
 use std::alloc::Global;
 use std::marker::Model;

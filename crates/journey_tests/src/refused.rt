@@ -3,9 +3,9 @@ ghost use Rattle.std.specs.Prelude.{◌≡◌, true};
 ghost use Rattle.journey.specs.Stages.{is_plan};
 
 use crate::script::{event, planned, wagon};
-use memory_limit::MemoryLimit;
 use eti_chain::Estimates;
 use journey::{Event, Track};
+use memory_limit::MemoryLimit;
 use std::alloc::Global;
 use std::test::Fail;
 use taf_codes::Railway;

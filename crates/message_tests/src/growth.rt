@@ -7,8 +7,8 @@ use crate::lines::{MESSAGES, messages};
 use crate::parts::leg;
 use crate::records::running;
 use crate::replies::replies;
-use memory_limit::MemoryLimit;
 use call_reader::read_call;
+use memory_limit::MemoryLimit;
 use reply_writer::{
     append_fault, append_reply, write_fault, write_item, write_record, write_reply,
 };
@@ -127,7 +127,11 @@ fn is_whole<T: PartialEq + Drop>(answer: Result<T, PlanFault>, whole: &T) -> Opt
 }
 
 // How often it was refused before it was made. Each time that it was refused, it is made with ample memory then.
-fn refusals(alloc: Global, memory_limit: &mut MemoryLimit, attempt: &Attempt) -> Result<usize, Fail> {
+fn refusals(
+    alloc: Global,
+    memory_limit: &mut MemoryLimit,
+    attempt: &Attempt,
+) -> Result<usize, Fail> {
     for budget in 0..BUDGETS {
         let mut out = Vec::from_slice(alloc, b"before")?;
         memory_limit.leave(budget * 16)?;

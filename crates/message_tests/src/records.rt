@@ -6,7 +6,8 @@ use std::alloc::Global;
 use std::test::Fail;
 use taf_codes::UnitCode;
 use taf_messages::{
-    EstimateAt, EstimateList, RecordEventKind, Listed, MovementKind, Record, RecordEvent, Stage, Status,
+    EstimateAt, EstimateList, Listed, MovementKind, Record, RecordEvent, RecordEventKind, Stage,
+    Status,
 };
 use taf_moment::Moment;
 use trip_plan::Load;
@@ -21,7 +22,12 @@ fn estimates(alloc: Global, times: &[&str]) -> Result<EstimateList, Fail> {
     Ok(Listed::from_vec(estimates))
 }
 
-fn event(by: &str, no: u64, at: Option<Moment>, what: RecordEventKind) -> Result<RecordEvent, Fail> {
+fn event(
+    by: &str,
+    no: u64,
+    at: Option<Moment>,
+    what: RecordEventKind,
+) -> Result<RecordEvent, Fail> {
     let by = railway(by)?;
     let no = within(no)?;
     Ok(RecordEvent { by, no, at, what })
@@ -167,7 +173,11 @@ fn events_of_each_kind(alloc: Global) -> Result<Vec<RecordEvent>, Fail> {
         None,
         &[RecordEventKind::Planned, RecordEventKind::EstimateAsked],
     )?;
-    add_events(&mut events, None, &[RecordEventKind::LegTimed { leg, minutes }])?;
+    add_events(
+        &mut events,
+        None,
+        &[RecordEventKind::LegTimed { leg, minutes }],
+    )?;
     add_events(&mut events, None, &[RecordEventKind::Rerouted { leg }])?;
     add_events(&mut events, at, &WITHOUT_A_FIELD)?;
     add_events(

@@ -9,7 +9,8 @@ use json_tokens::Writer;
 use std::alloc::AllocError;
 use taf_codes::Place;
 use taf_messages::{
-    BodyName, Delay, EstimateAt, RecordEventKind, LegIndex, LegMinutes, Record, RecordEvent, Stage, Status,
+    BodyName, Delay, EstimateAt, LegIndex, LegMinutes, Record, RecordEvent, RecordEventKind, Stage,
+    Status,
 };
 
 impl Json for Stage {

@@ -16,7 +16,11 @@ fn play(alloc: Global, draws: Draws, scarcity: Scarcity<'_>) -> Result<Counts, S
 }
 
 // Plays the schedule of a seed. Memory is scarce now and then in two schedules of three.
-fn play_seed(alloc: Global, memory_limit: &mut MemoryLimit, seed: u64) -> Result<Counts, ScheduleFault> {
+fn play_seed(
+    alloc: Global,
+    memory_limit: &mut MemoryLimit,
+    seed: u64,
+) -> Result<Counts, ScheduleFault> {
     let mut draws = Draws::new(seed);
     let scarcity = match draws.below(3) {
         0 => Scarcity::Never,

@@ -65,7 +65,11 @@ fn is_enough(
 }
 
 // How many budgets aren't enough, each of sixteen bytes more than the one before.
-fn count_budgets(alloc: Global, memory_limit: &mut MemoryLimit, script: &Script) -> Result<usize, Fail> {
+fn count_budgets(
+    alloc: Global,
+    memory_limit: &mut MemoryLimit,
+    script: &Script,
+) -> Result<usize, Fail> {
     for step in 0..100_000usize {
         if is_enough(alloc, memory_limit, script, step * 16)? {
             return Ok(step);

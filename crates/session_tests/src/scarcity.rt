@@ -1,9 +1,9 @@
 //! Each growth of a session refused in turn.
 
 use crate::player::{HELLO, ID, add_line, replies_of};
-use memory_limit::MemoryLimit;
 use hub_core::Hub;
 use inbox::Job;
+use memory_limit::MemoryLimit;
 use reply_writer::append_reply;
 use session_lines::{Done, Line, Session, Step};
 use std::alloc::Global;

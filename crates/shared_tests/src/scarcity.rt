@@ -4,9 +4,9 @@ ghost use Rattle.std.specs.Prelude.{◌≡◌};
 use crate::altered::with_reply;
 use crate::caller::Caller;
 use crate::lines::{INTERCHANGE, call_of, replies_of};
-use memory_limit::MemoryLimit;
 use hub_core::Hub;
 use hub_shared::{Seat, Settled, SharedHub, Tally, Told, settle};
+use memory_limit::MemoryLimit;
 use std::alloc::Global;
 use std::marker::Brand;
 use std::sync::Wait;
@@ -214,7 +214,11 @@ fn each_growth_is_refused_in_turn(rt: HostRuntime) -> Result<(), Fail> {
 
 // Whether so many bytes are enough for room for sixteen entries. Fails unless the tally is as it was where they aren't, and has
 // room then with ample memory.
-fn is_enough_room(alloc: Global, memory_limit: &mut MemoryLimit, left: usize) -> Result<bool, Fail> {
+fn is_enough_room(
+    alloc: Global,
+    memory_limit: &mut MemoryLimit,
+    left: usize,
+) -> Result<bool, Fail> {
     let mut tally = Tally::new(alloc);
     memory_limit.leave(left)?;
     let is_made = tally.reserve(16).is_ok();

@@ -3,9 +3,9 @@
 use crate::lines::{FIRST, said_lines, sent_lines};
 use crate::shifts::boxed;
 use crate::streams::{Script, Writer, Written};
-use memory_limit::MemoryLimit;
 use hub_shifts::{ShiftFault, run_shift};
 use hub_workers::{OpenGate, SessionEnd};
+use memory_limit::MemoryLimit;
 use std::alloc::Global;
 use std::sync::Wait;
 use std::test::*;
@@ -40,7 +40,14 @@ fn count_refused<R: Threads + Wait + Sync>(rt: &R, alloc: Global) -> Result<u32,
     let mut refused = 0u32;
     for step in 0..10_000usize {
         let left = step * STEP;
-        match refusal(rt, alloc, &mut memory_limit, left, lines.as_slice(), &written)? {
+        match refusal(
+            rt,
+            alloc,
+            &mut memory_limit,
+            left,
+            lines.as_slice(),
+            &written,
+        )? {
             Some(ShiftFault::Memory) if written.lines() == 0 => refused = refused.saturating_add(1),
             Some(ShiftFault::Thread) if written.lines() == 0 => return Ok(refused),
             _ => return Err(Fail::new("a line was said")),

@@ -85,7 +85,12 @@ fn numbers_with_gaps_are_found(rt: HostRuntime) -> Result<(), Fail> {
 
 // Notes the numbers up to 100 with so much memory at hand, and answers how many notes were refused. What was refused is
 // noted again with all memory.
-fn fill(seen: &mut Seen, memory_limit: &mut MemoryLimit, budget: usize, by: Railway) -> Result<u32, Memory> {
+fn fill(
+    seen: &mut Seen,
+    memory_limit: &mut MemoryLimit,
+    budget: usize,
+    by: Railway,
+) -> Result<u32, Memory> {
     let mut refused: u32 = 0;
     memory_limit.leave(budget)?;
     for position in 0..100u64 {

@@ -1,7 +1,7 @@
 //! Offers of wagons at interchange, and the answers to them.
 use crate::given::{number_of, railway};
-use memory_limit::MemoryLimit;
 use interchange::{Offer, Offers};
+use memory_limit::MemoryLimit;
 use std::alloc::Global;
 use std::test::Fail;
 use taf_codes::{Memory, Place, Railway};

@@ -1,6 +1,6 @@
 //! Pages of a history.
-use memory_limit::MemoryLimit;
 use history_pages::Pages;
+use memory_limit::MemoryLimit;
 use std::alloc::{AllocError, Global};
 use std::test::Fail;
 
@@ -68,7 +68,11 @@ fn is_handed_back(pages: &mut Pages<u64>, memory_limit: &mut MemoryLimit, number
 }
 
 // Pushes the numbers up to 2,048 with so much memory at hand, and answers how many pushes were refused.
-fn fill(pages: &mut Pages<u64>, memory_limit: &mut MemoryLimit, budget: usize) -> Result<u32, AllocError> {
+fn fill(
+    pages: &mut Pages<u64>,
+    memory_limit: &mut MemoryLimit,
+    budget: usize,
+) -> Result<u32, AllocError> {
     let mut refused: u32 = 0;
     memory_limit.leave(budget)?;
     for number in 0..2049u64 {

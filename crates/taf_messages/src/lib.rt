@@ -38,7 +38,7 @@ mod wagons;
 pub use call::Call;
 pub use copies::{copy, copy_call, copy_item, copy_reply};
 pub use equality::{same, same_call, same_item, same_reply};
-pub use event::{RecordEventKind, RecordEvent};
+pub use event::{RecordEvent, RecordEventKind};
 pub use fault::RecordFault;
 pub use field::Field;
 pub use item::{Item, ItemBody, SubNotice};

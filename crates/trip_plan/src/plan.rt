@@ -58,8 +58,16 @@ impl Plan {
         commit: Moment,
     ) -> Result<Plan, PlanFault>
         ensures { Plans result
-            (record { lead = lead; consignment = consignment; load = load; commit = commit; wagons
-            = wagons.now; legs = legs.now; units = [] }) }
+            (record {
+              lead = lead;
+              consignment = consignment;
+              load = load;
+              commit = commit;
+              wagons
+                  = wagons.now;
+              legs = legs.now;
+              units = [];
+            }) }
     {
         Plan::with_units(alloc, lead, consignment, load, wagons, legs, &[], commit)
     }
@@ -77,8 +85,16 @@ impl Plan {
     ) -> Result<Plan, PlanFault>
         requires { length units.now ≤ 120 }
         ensures { Plans result
-            (record { lead = lead; consignment = consignment; load = load; commit = commit; wagons
-            = wagons.now; legs = legs.now; units = units.now }) }
+            (record {
+              lead = lead;
+              consignment = consignment;
+              load = load;
+              commit = commit;
+              wagons
+                  = wagons.now;
+              legs = legs.now;
+              units = units.now;
+            }) }
     {
         if let Some(code) = broken_rule(wagons, legs, units) {
             return Err(PlanFault::BadPlan(code));

@@ -13,8 +13,8 @@ use std::alloc::{AllocError, Global};
 use std::collections::LinkedList;
 use taf_codes::{Memory, Railway};
 use taf_messages::{
-    EstimateAt, EstimateList, RecordEventKind, LegIndex, Listed, Record, RecordEvent, RecordEvents, Stage,
-    Status, Units,
+    EstimateAt, EstimateList, LegIndex, Listed, Record, RecordEvent, RecordEventKind, RecordEvents,
+    Stage, Status, Units,
 };
 use trip_plan::{Leg, Load, UnitLoad};
 use wagon_number::WagonNumber;
