@@ -1,4 +1,4 @@
--- What a ballast holds.
+-- What a limit holds.
 use Rattle.std.specs.Prelude.{ℕ}
 
 -- how many blocks of each kind

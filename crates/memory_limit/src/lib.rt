@@ -9,7 +9,7 @@
 //! again after `ease`, and the answers are compared with those of a run with ample memory. So each growth is refused in
 //! turn, whatever its size. The real allocator is what refuses: this works in a program that is built, as by `rt test`.
 //!
-//! In contracts a ballast is how many blocks it holds of each kind. How much memory that leaves no contract says.
+//! In contracts a limit is how many blocks it holds of each kind. How much memory that leaves no contract says.
 #![tactic(auto)]
 
 mod weight;

@@ -1,4 +1,4 @@
-//! What a ballast leaves.
+//! What a limit leaves.
 use memory_limit::MemoryLimit;
 use std::alloc::Global;
 use std::test::Fail;
