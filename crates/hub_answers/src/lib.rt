@@ -17,7 +17,7 @@
 //! | | `NotYours` | the railway doesn't lead the plan |
 //!
 //! Promised: for all tables each call gives exactly what `hub_model` defines by the same name, at
-//! what is `known` from the tables (`hub_tables`). [`Memory`](taf_codes::Memory) may come in place
+//! the `table_state` of the tables (`hub_tables`). [`Memory`](taf_codes::Memory) may come in place
 //! of a reply or of a view, and no other error. [`apart`] takes no memory. That
 //! messages which are apart get the same replies in either order is a law of `hub_model`.
 #![tactic(auto)]

@@ -9,8 +9,8 @@
 //!    leg to the lead;
 //! 4. of each wagon of the message, the alert that begins or ends: to the lead, and to the railway that answers for it.
 //!
-//! None goes to the sender of the message. Nothing is changed: what the message leads to is counted by one step from
-//! what the tables have of its wagons.
+//! None goes to the sender of the message. Nothing is changed: what the message leads to is computed by one transition
+//! from what the tables have of its wagons.
 #![tactic(auto)]
 
 mod alerts;

@@ -1,16 +1,17 @@
-//! What the hub is defined to answer and to tell, and the laws of these definitions.
+//! What the hub is defined to reply and to send, and the laws of these definitions.
 //!
 //! Railways send messages on the movement of wagons and ask questions (Regulation (EU) No
 //! 1305/2014, Annex, 4.2.6, 4.2.7, 4.2.8, 4.2.11). From the list of their calls alone, oldest first,
-//! the definitions in `specs/` say what each call is answered and what each railway is told:
+//! the definitions in `specs/` say what each call is replied and which items each railway gets:
 //!
 //! - `HubState`: what is looked up after calls (journeys, plans, offers, first sends, outboxes,
 //!   the fleet), the wagons that a message names, and a wagon's event of it;
 //! - `Faults`: why a new message is refused; `Units`: where the intermodal units are;
 //! - `Items`: what an accepted message makes for the railways;
-//! - `Answers`: the reply to each call, what it changes, and the histories whose replies are these;
-//! - `Accepted`: the accepted messages, and the lists that the look-ups are of;
-//! - `Accepting`, `Responsibility`, `Laws`, `Bounds`: what holds of them at every moment;
+//! - `Replies`: the reply to each call; `Updates`: what a call with its reply changes; `Histories`: what
+//!   is known after a history, and the histories whose replies are these;
+//! - `AcceptedMessages`: the accepted messages, and the lists that the look-ups are of;
+//! - `Changes`, `Responsibility`, `Laws`, `Bounds`: what holds of them at every moment;
 //! - `Overtaking`: the messages that may come in either order.
 //!
 //! A hub keeps tables and walks no list. That it answers the same is what its own contracts say, in

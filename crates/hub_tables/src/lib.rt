@@ -3,7 +3,7 @@
 //!
 //! In contracts [`Tables`] is the record of its entries, `TableEntries`, and `table_state` is what is known by them: a `HubState` of
 //! the crate `hub_model` but for first sends and outboxes, which are kept elsewhere. Each look-up answers what the model's state
-//! says, and [`Tables::event`] what a message says of one of its wagons.
+//! says, and [`Tables::event_for`] what a message says of one of its wagons.
 //!
 //! [`Tables::accept`] takes a message that may be accepted (`IsAcceptable`), and what is known then is what `after_acceptance` of
 //! `hub_model` says. First comes all that may be refused memory: of several wagons each one's event in a node of its own,
