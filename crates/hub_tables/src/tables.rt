@@ -15,7 +15,7 @@ use taf_messages::{Message, MessageNumber};
 use trip_plan::Plan;
 use wagon_number::WagonNumber;
 
-/// What the hub looks up: wagons, plans and offers. All but [`Tables::named_wagons`], [`Tables::event_body`], [`Tables::event`] and
+/// What the hub looks up: wagons, plans and offers. All but [`Tables::named_wagons`], [`Tables::event_body`], [`Tables::event_for`] and
 /// [`Tables::accept`] takes no memory.
 #[derive(Drop)]
 pub struct Tables {
