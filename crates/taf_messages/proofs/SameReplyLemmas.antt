@@ -22,7 +22,7 @@ use Rattle.taf_messages.specs.contracts.reply.Why as why_of
 use Rattle.taf_messages.specs.contracts.reply.WhyPartialEq.TheImpl as WhyEq
 use Rattle.taf_messages.specs.declared.event.RecordEventKind.{RecordEventKind}
 use Rattle.taf_messages.specs.declared.event.RecordEventKind.TheVariants as event_kind
-use Rattle.taf_messages.specs.contracts.event.HappenedPartialEq.TheImpl as HappenedEq
+use Rattle.taf_messages.specs.contracts.event.RecordEventKindPartialEq.TheImpl as RecordEventKindEq
 use Rattle.taf_messages.specs.declared.event.RecordEvent.{RecordEvent}
 use Rattle.taf_messages.specs.contracts.event.RecordEventPartialEq.TheImpl as RecordEventEq
 use Rattle.taf_messages.specs.declared.record.EstimateAt.{EstimateAt}
@@ -62,7 +62,7 @@ why_equal a b h = same_true why_of.the_type (search rules) a b h
 bool_equal : (a b : Bool) → beq a b ≡ true → a ≡ b
 bool_equal a b h = (booleans_Decides a b).0 h
 
-event_kind_equal : (a b : RecordEventKind) → HappenedEq.ghosts.eq a b ≡ true → a ≡ b
+event_kind_equal : (a b : RecordEventKind) → RecordEventKindEq.ghosts.eq a b ≡ true → a ≡ b
 event_kind_equal event_kind.Planned event_kind.Planned h = refl
 event_kind_equal (event_kind.Moved m) (event_kind.Moved n) h = ap event_kind.Moved (kind_equal m n h)
 event_kind_equal event_kind.EstimateAsked event_kind.EstimateAsked h = refl
