@@ -4,8 +4,7 @@ ghost use Rattle.taf_codes.specs.Counting.{count};
 
 use crate::measured::Measured;
 use anyhow::Result;
-use hub_shifts::{ShiftFault, run_shift};
-use hub_workers::OpenGate;
+use hub_shifts::{OpenGate, ShiftFault, run_shift};
 use std::alloc::{AllocError, Global};
 use std::sync::Wait;
 use std::thread::Threads;

@@ -25,5 +25,6 @@ mod promises;
 mod shift;
 mod threads;
 
+pub use hub_workers::{Gate, OpenGate, SessionEnd};
 pub use law::{lanes_in_order, shift_in_order};
 pub use shift::{Shift, ShiftFault, run_shift};

@@ -51,7 +51,7 @@ journey_state-push events e =
     let deliveries = any-push (λ d. is_delivery d.body) events e in
     let takers = newest-push (λ d. new_responsible d.by d.body) events e in
     let yards = newest-push (λ d. yard_in d.body) events e in
-    λ i. record { stage = stages i; leg_index = indexes i; legs = courses i; lead = leads i; has_departed = departures i; is_delivered = deliveries i; new_responsible = takers i; yard = yards i }
+    λ i. record { stage = stages i; leg_index = indexes i; legs = courses i; lead = leads i; has_departed = departures i; is_delivered = deliveries i; last_receiver = takers i; yard = yards i }
 
 -- no check of the list applies
 abbrev pub Passed : {A : Type 0} → List (Bool × A) → Type 0

@@ -20,7 +20,7 @@ pub struct JourneyState {
     pub has_departed: bool,
     pub is_delivered: bool,
     /// The railway that took the wagon over last.
-    pub new_responsible: Option<Railway>,
+    pub last_receiver: Option<Railway>,
     /// The yard where the wagon stands, or stood last.
     pub yard: Option<Place>,
 }
@@ -39,7 +39,7 @@ impl JourneyState {
             lead: Some(plan.lead()),
             has_departed: false,
             is_delivered: false,
-            new_responsible: None,
+            last_receiver: None,
             yard: None,
         }
     }
@@ -102,7 +102,7 @@ impl JourneyState {
             lead: self.lead,
             has_departed: self.has_departed,
             is_delivered: self.is_delivered,
-            new_responsible: self.last_receiver,
+            last_receiver: self.last_receiver,
             yard: self.yard,
         }
     }

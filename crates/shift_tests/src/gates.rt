@@ -1,7 +1,7 @@
 //! Gates that hold jobs.
 
 use crate::streams::Written;
-use hub_workers::Gate;
+use hub_shifts::Gate;
 use inbox::Job;
 use std::alloc::Global;
 use std::sync::atomic::{AtomicBool, Ordering};

@@ -3,8 +3,7 @@
 use crate::shifts::boxed;
 use crate::streams::{Script, Writer, Written};
 use hub_shared::{Settled, settle};
-use hub_shifts::{Shift, run_shift};
-use hub_workers::{OpenGate, SessionEnd};
+use hub_shifts::{OpenGate, SessionEnd, Shift, run_shift};
 use std::alloc::Global;
 use std::sync::Wait;
 use std::test::*;

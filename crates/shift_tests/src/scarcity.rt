@@ -3,8 +3,7 @@
 use crate::lines::{FIRST, said_lines, sent_lines};
 use crate::shifts::boxed;
 use crate::streams::{Script, Writer, Written};
-use hub_shifts::{ShiftFault, run_shift};
-use hub_workers::{OpenGate, SessionEnd};
+use hub_shifts::{OpenGate, SessionEnd, ShiftFault, run_shift};
 use memory_limit::MemoryLimit;
 use std::alloc::Global;
 use std::sync::Wait;

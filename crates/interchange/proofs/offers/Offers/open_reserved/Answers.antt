@@ -15,7 +15,7 @@ returns-clause-offers c =
     let added : (Railway × ℕ) × OfferEntry = (name, entry) in
     let none = none_made _ (ap (λ v. offer_of v c.args.offer.by c.args.offer.no) c.self.view_is ∙ c.requires.new) in
     let entries = rw c.unwrap-before.ensures at c.insert.ensures.entries in
-    entries ∙ insert_entry-new (λ a b. same_name a.0 a.1 b.0 b.1) c.self.inside.entry name entry none ∙ ap (λ v. v.offers ++ added ∷ []) c.self.view_is
+    entries ∙ insert_entry-new (λ a b. same_name a.0 a.1 b.0 b.1) c.self.inside.table name entry none ∙ ap (λ v. v.offers ++ added ∷ []) c.self.view_is
 
 pub returns-clause-finds : goal.returns-clause-finds
 returns-clause-finds c by number =
