@@ -53,7 +53,7 @@ carried_taken s before m w true e =
     ap (λ o. cond (has (named_wagons o m) w) (with_event (s.journey w) (event_for o m w)) (s.journey w)) e ∙
     carried_named (has (named_wagons (offers_in before) m) w) (s.journey w) (event_for (offers_in before) m w)
 
-acks_journey : (s : HubState) (w : ℕ) (by : Railway) (k : ℕ) (reply : Reply) → (after_call s (Ack by k) reply).journey w ≡ s.journey w
+pub acks_journey : (s : HubState) (w : ℕ) (by : Railway) (k : ℕ) (reply : Reply) → (after_call s (Ack by k) reply).journey w ≡ s.journey w
 acks_journey s w by k (Acknowledged n) = refl
 acks_journey s w by k _ = refl
 

@@ -50,7 +50,7 @@ module _ (D : Message → Type 0) (P : HubState → Type 0) (kept : IsTrackState
   kept_from s (e ∷ history) legal d p = kept_from (after s e) history legal.1 d.1 (kept_after s e.call e.reply d.0 legal.0 p)
 
 -- every message is a message
-is_any : (call : Call) → IsSend (λ m. Unit {0}) call
+pub is_any : (call : Call) → IsSend (λ m. Unit {0}) call
 is_any (Send m) = tt
 is_any (Ask by w) = tt
 is_any (AskUnit by u) = tt

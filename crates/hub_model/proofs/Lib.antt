@@ -23,6 +23,9 @@ pub mod SendLemmas
 pub mod JourneyLemmas
 pub mod WagonEventLemmas
 pub mod ReceiverLemmas
+pub mod ResponsibleEventLemmas
+pub mod ConsentLemmas
+pub mod NeedToKnowLemmas
 pub mod OfferOpeningLemmas
 pub mod FleetLemmas
 pub mod LookupLemmas

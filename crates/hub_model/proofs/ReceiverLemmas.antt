@@ -82,11 +82,11 @@ no_taker : (b : Bool) (e : Event) → took e ≡ None → option_and_then took (
 no_taker true e h = h
 no_taker false e h = refl
 
-has_left : (ws vs : List ℕ) (w : ℕ) → has ws w ≡ true → has (ws ++ vs) w ≡ true
+pub has_left : (ws vs : List ℕ) (w : ℕ) → has ws w ≡ true → has (ws ++ vs) w ≡ true
 has_left ws vs w h = list_any-append (λ v. eqb v w) ws vs ∙ or_left (has ws w) (has vs w) h
 
 -- the event of a message hands the wagon to whom the message hands it
-share_taker : (offers : Offers) (by : Railway) (number : ℕ) (says : Body) (w : ℕ) → option_and_then took (event_if_named offers (msg by number says) w) ≡ receiver_in by says w
+pub share_taker : (offers : Offers) (by : Railway) (number : ℕ) (says : Body) (w : ℕ) → option_and_then took (event_if_named offers (msg by number says) w) ≡ receiver_in by says w
 share_taker offers by number (body.Movement v) w = moved_taker by number (Some v.at) v.what (eqb v.wagon w)
 share_taker offers by number (body.Answer a) w = answered_taker by number (Some a.at) _ (has a.received w) (has (a.received ++ a.refused) w) (has_left a.received a.refused w)
 share_taker offers by number (body.Plan p) w = no_taker _ (event_for offers (msg by number (body.Plan p)) w) refl

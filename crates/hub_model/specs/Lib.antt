@@ -11,3 +11,5 @@ pub mod Overtaking
 pub mod Laws
 pub mod Bounds
 pub mod Responsibility
+pub mod Consent
+pub mod NeedToKnow

@@ -14,12 +14,20 @@ ghost use Rattle.hub_model.specs.Bounds.{
   JourneysAreBounded,
   FirstSendsStand,
 };
+ghost use Rattle.hub_model.specs.Consent.{CallsByConsent, EntriesByConsent};
 ghost use Rattle.hub_model.specs.Laws.{
   AlwaysInOrder,
   EstimatesFit,
   RepliesAreTheRun,
   KnownByTheCalls,
   OneMoreEntry,
+};
+ghost use Rattle.hub_model.specs.NeedToKnow.{
+  RecordsStayOnTrip,
+  MessagesGetVerdicts,
+  ItemsConcern,
+  OutboxesConcern,
+  OutsidersLearnNothing,
 };
 ghost use Rattle.hub_model.specs.Overtaking.{
   ApartIsExact,
@@ -65,6 +73,16 @@ pub fn last_receiver_answers()
     ensures { LastReceiverAnswers }
 {}
 
+/// No railway becomes responsible for a wagon but by a message of its own: the wagon's departure
+/// notice, or an answer that received it. And none stops being so but by its own delivery notice of
+/// the wagon, or by the answer of the railway that it asked in an open offer that has the wagon
+/// (4.2.7, 4.2.8). So it is for one call more, whatever calls came, and for one entry more of a
+/// legal history.
+pub fn responsibility_passes_by_consent()
+    ensures calls { CallsByConsent }
+    ensures histories { EntriesByConsent }
+{}
+
 /// Whatever calls came, a wagon is in at most one open offer, every wagon of an open offer is
 /// offered (4.2.8), and a wagon has a responsible railway exactly when it is on its way (4.2.7).
 pub fn offers_are_in_order()
@@ -97,6 +115,19 @@ pub fn items_and_events_are_bounded()
 /// A name without a position was never sent.
 pub fn first_sends_stand_in_the_history()
     ensures { FirstSendsStand }
+{}
+
+/// A question shows the record of a wagon to its lead and to the railways of its legs alone, and
+/// deviations to the lead alone (4.2.11); the reply to a message shows neither. Each item of a
+/// message goes to a railway that the message concerns, so whatever calls came, each item of an
+/// outbox is of an accepted message that concerned its railway. What an outsider is replied to a
+/// question depends on nothing but whether that which it asks for is known.
+pub fn railways_see_what_concerns_them()
+    ensures records { RecordsStayOnTrip }
+    ensures messages { MessagesGetVerdicts }
+    ensures items { ItemsConcern }
+    ensures outboxes { OutboxesConcern }
+    ensures outsiders { OutsidersLearnNothing }
 {}
 
 /// The test of messages that are apart is exact. Whichever of two such messages comes first, each

@@ -11,7 +11,8 @@
 //! - `Replies`: the reply to each call; `Updates`: what a call with its reply changes; `Histories`: what
 //!   is known after a history, and the histories whose replies are these;
 //! - `AcceptedMessages`: the accepted messages, and the lists that the look-ups are of;
-//! - `Changes`, `Responsibility`, `Laws`, `Bounds`: what holds of them at every moment;
+//! - `Changes`, `Responsibility`, `Consent`, `Laws`, `Bounds`: what holds of them at every moment;
+//! - `NeedToKnow`: who is shown records, and who gets items;
 //! - `Overtaking`: the messages that may come in either order.
 //!
 //! A hub keeps tables and walks no list. That it answers the same is what its own contracts say, in
@@ -34,5 +35,6 @@ pub use fault::Fault;
 pub use laws::{
     estimates_fit, first_sends_stand_in_the_history, histories_are_runs,
     items_and_events_are_bounded, last_receiver_answers, lookups_are_the_lists,
-    messages_are_taken_once, messages_may_overtake, offers_are_in_order, wagons_are_on_their_legs,
+    messages_are_taken_once, messages_may_overtake, offers_are_in_order,
+    railways_see_what_concerns_them, responsibility_passes_by_consent, wagons_are_on_their_legs,
 };

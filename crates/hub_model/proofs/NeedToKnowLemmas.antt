@@ -1,0 +1,408 @@
+-- Records, items and replies reach railways that they concern.
+use Rattle.std.proofs.Common.{◌≡◌, ℕ, ◌+◌, Bool, true, false, cond, not, List, [], ◌∷◌, ◌++◌, length, drop, get_or, Option, Some, None, refl, ap, ◌∙◌, sym, subst, inl, inr, eqb, append_assoc}
+use Rattle.std.specs.Prelude.{◌&&◌, is_some, is_none, map, filter, flat_map, filter_map, slice_get, option_map, option_to_list, option_and_then, bytes_eq, All, Contains}
+use Rattle.std.specs.List.{cons_option, fold, list_any}
+use Rattle.std.proofs.lemmas.Bool.{false≢true, or_cases, or_left, or_right, eq-eqb, cond_both, false_from_ne_true}
+use Rattle.std.proofs.lemmas.Option.{none-some, same_Some, slice_get-map, slice_get_within, get_or_from_slice_get, slice_get-get_or}
+use Rattle.std.proofs.lemmas.List.Elements.{All-nil, All-cons, All-head, All-tail, All-append, All-map, All-filter, All-drop, All-weaker, All-contains_itself, Contains-append_right}
+use Rattle.std.proofs.lemmas.Slice.Eq.{bytes_eq-Decides}
+use Rattle.taf_codes.specs.declared.code.Railway.{Railway}
+use Rattle.taf_codes.specs.Words.{is_text}
+use Rattle.trip_plan.specs.declared.parts.Leg.{Leg}
+use Rattle.trip_plan.specs.Trip.{Trip}
+use Rattle.trip_plan.specs.Rules.{has}
+use Rattle.taf_messages.specs.declared.call.Call.{Call}
+use Rattle.taf_messages.specs.declared.call.Call.TheVariants.{Send, Ask, AskUnit, Deviation, Fetch, Ack}
+use Rattle.taf_messages.specs.declared.reply.Reply.{Reply}
+use Rattle.taf_messages.specs.declared.reply.Reply.TheVariants.{Refused, One, Many, Acknowledged}
+use Rattle.taf_messages.specs.declared.reply.Why.{Why}
+use Rattle.taf_messages.specs.declared.reply.Why.TheVariants.{UnknownWagon, UnknownUnit, UnknownConsignment, NotYours, NumberReused}
+use Rattle.taf_messages.specs.Content.{same_message}
+use Rattle.taf_messages.specs.declared.item.ItemBody.{ItemBody}
+use Rattle.taf_messages.specs.declared.item.ItemBody.TheVariants as item
+use Rattle.taf_messages.specs.declared.message.Message.{Message}
+use Rattle.taf_messages.specs.declared.message.Body.{Body}
+use Rattle.taf_messages.specs.declared.message.Body.TheVariants as body
+use Rattle.taf_messages.specs.declared.movement.MovementKind.{MovementKind}
+use Rattle.taf_messages.specs.declared.movement.MovementKind.TheVariants.{Release, Departure, YardArrival, YardDeparture, Exception, Estimate, Arrival, Delivery}
+use Rattle.taf_messages.specs.declared.record.EstimateAt.{EstimateAt}
+use Rattle.taf_messages.specs.declared.record.Record.{Record}
+use Rattle.taf_messages.specs.declared.record.Stage.{Stage}
+use Rattle.journey.specs.declared.event.Event.{Event}
+use Rattle.journey.specs.Stages.{leg_index, responsible, plan, stage}
+use Rattle.journey.specs.Legs.{legs, lead_of, runner_of, current_leg}
+use Rattle.interchange.specs.Offers.{asked_by}
+use Rattle.eti_chain.specs.Estimates.{estimates}
+use Rattle.wimo.specs.Records.{record_in, record_of, may_see}
+use Rattle.hub_model.specs.declared.addressed_item.AddressedItem.{AddressedItem}
+use Rattle.hub_model.specs.declared.fault.Fault.{Fault}
+use Rattle.hub_model.specs.Faults.{fault}
+use Rattle.replay_numbers.specs.Names.{same_name}
+use Rattle.hub_model.specs.HubState.{HubState, FirstSend, new_state, named_wagons, journey_after}
+use Rattle.hub_model.specs.Units.{unit_wagon}
+use Rattle.hub_model.specs.Items.{each_once, runners, movement_receivers, route_receivers, notice_receivers, sub_item, sub_items, notices, estimate_item, is_news, estimate_items, alert, alert_receivers, alert_items, items_of, items_to}
+use Rattle.hub_model.specs.Replies.{reply_to, refusal_reply, verdict, send_reply, record_reply, unit_reply, deviating_records, deviation_reply}
+use Rattle.hub_model.specs.Updates.{after_call}
+use Rattle.hub_model.specs.Histories.{step, state_after}
+use Rattle.hub_model.specs.AcceptedMessages.{accepts, accepted_message, items_from}
+use Rattle.hub_model.specs.NeedToKnow.{IsOnTrip, RecordsStayOnTrip, is_verdict, MessagesGetVerdicts, Concerns, ItemsConcern, ComesOfConcern, OutboxesConcern, OutsidersLearnNothing}
+use Rattle.hub_model.proofs.ListLemmas.{outbox_list}
+use Rattle.hub_model.proofs.NoFaultLemmas.{msg}
+use Rattle.hub_model.proofs.StepLemmas.{state_after-push, step-first_send}
+use Rattle.hub_model.proofs.ResponsibleEventLemmas.{text_is}
+
+-- the railway of a leg is among those of the legs
+in_runners : (ls : List Leg) (i : ℕ) (r : Railway) → option_map (λ l. l.ru) (slice_get ls i) ≡ Some r → Contains (runners ls) r
+in_runners ls i r h =
+    let there : slice_get (runners ls) i ≡ Some r = slice_get-map (λ l. l.ru) ls i ∙ h in
+    (i, slice_get_within (runners ls) i r there, get_or_from_slice_get (runners ls) i r r there)
+
+own_runners : (ls : List Leg) → All (λ l. Contains (runners ls) l.ru) ls
+own_runners ls k d h = in_runners ls k (get_or ls k d).ru (ap (option_map (λ l. l.ru)) (slice_get-get_or ls k d h))
+
+any_runner : (ls : List Leg) (r : Railway) → list_any (λ l. bytes_eq l.ru r) ls ≡ true → Contains (runners ls) r
+any_runner [] r h = absurd (false≢true h)
+any_runner (l ∷ ls) r h = elim (or_cases (bytes_eq l.ru r) (list_any (λ k. bytes_eq k.ru r) ls) h) [
+  | inl e ↦ in_runners (l ∷ ls) 0 r (ap Some ((bytes_eq-Decides l.ru r).0 e))
+  | inr e ↦ Contains-append_right (l.ru ∷ []) (runners ls) r (any_runner ls r e)
+]
+
+-- whoever may see a wagon is on its trip
+on_trip : (events : List Event) (by : Railway) → may_see events by ≡ true → IsOnTrip events by
+on_trip events by h = elim (or_cases (is_text (lead_of events) by) (list_any (λ l. bytes_eq l.ru by) (legs events)) h) [
+  | inl e ↦ inl (text_is (lead_of events) by e)
+  | inr e ↦ inr (any_runner (legs events) by e)
+]
+
+-- a record that is shown is that of the wagon, to one who may see it
+no_record : (why : Why) (w : Option ℕ) (r : Record) → refusal_reply why w ≡ One r → ⊥
+no_record why w r h = cc
+
+seen : (b : Bool) (x r : Record) (why : Why) (w : Option ℕ) → cond b (One x) (refusal_reply why w) ≡ One r → (b ≡ true) × (x ≡ r)
+seen true x r why w h = let e : x ≡ r = cc in (refl, e)
+seen false x r why w h = absurd (no_record why w r h)
+
+shown : (by : Railway) (events : List Event) (o : Option Record) (why also : Why) (w v : Option ℕ) (r : Record) → record_reply by events o (refusal_reply why w) (refusal_reply also v) ≡ One r →
+    (may_see events by ≡ true) × (o ≡ Some r)
+shown by events None why also w v r h = absurd (no_record why w r h)
+shown by events (Some x) why also w v r h = let e = seen (may_see events by) x r also v h in (e.0, ap Some e.1)
+
+wagon_in : (w : ℕ) (events : List Event) (p : Option Trip) (st : Option Stage) (r : Record) → option_and_then (λ q. option_map (record_in w events q) st) p ≡ Some r → w ≡ r.wagon
+wagon_in w events None st r h = absurd (none-some r h)
+wagon_in w events (Some p) None r h = absurd (none-some r h)
+wagon_in w events (Some p) (Some st) r h = ap (λ (x : Record). x.wagon) (same_Some (record_in w events p st) r h)
+
+shown_on_trip : (s : HubState) (by : Railway) (w : ℕ) (why also : Why) (u v : Option ℕ) (r : Record) → record_reply by (s.journey w) (record_of w (s.journey w)) (refusal_reply why u) (refusal_reply also v) ≡ One r →
+    IsOnTrip (s.journey r.wagon) by
+shown_on_trip s by w why also u v r h =
+    let e = shown by (s.journey w) (record_of w (s.journey w)) why also u v r h in
+    subst (λ x. IsOnTrip (s.journey x) by) (wagon_in w (s.journey w) (plan (s.journey w)) (stage (s.journey w)) r e.1) (on_trip (s.journey w) by e.0)
+
+unit_shown : (s : HubState) (by : Railway) (o : Option ℕ) (r : Record) → unit_reply s by o ≡ One r → IsOnTrip (s.journey r.wagon) by
+unit_shown s by None r h = absurd (no_record UnknownUnit None r h)
+unit_shown s by (Some w) r h = shown_on_trip s by w UnknownUnit NotYours None None r h
+
+leads : (b : Bool) (rs qs : List Record) → cond b (Many rs) (refusal_reply NotYours None) ≡ Many qs → b ≡ true
+leads true rs qs h = refl
+leads false rs qs h = cc
+
+lead_shown : (s : HubState) (by : Railway) (o : Option Trip) (rs : List Record) → deviation_reply s by o ≡ Many rs → option_map (λ p. p.lead) o ≡ Some by
+lead_shown s by None rs h = cc
+lead_shown s by (Some p) rs h = ap Some ((bytes_eq-Decides p.lead by).0 (leads (bytes_eq p.lead by) (deviating_records s p) rs h))
+
+pub records_stay_on_trip : RecordsStayOnTrip
+records_stay_on_trip s by = record {
+  wagon = λ w r h. shown_on_trip s by w UnknownWagon NotYours (Some w) (Some w) r h;
+  unit = λ u r h. unit_shown s by (unit_wagon s u) r h;
+  deviations = λ c rs h. lead_shown s by (s.plan_of c) rs h;
+}
+
+-- the first reply of each name is a verdict
+abbrev FirstVerdicts : HubState → Type 0
+FirstVerdicts s = (by : Railway) (n : ℕ) (first : FirstSend) → s.first_send by n ≡ Some first → is_verdict first.reply ≡ true
+
+new_verdict : (number : ℕ) (f : Option Fault) → is_verdict (verdict number f) ≡ true
+new_verdict number None = refl
+new_verdict number (Some f) = refl
+
+first_verdict : (m : Message) (f : Option Fault) (before : Option FirstSend) (b : Bool) (first : FirstSend) → ((x : FirstSend) → before ≡ Some x → is_verdict x.reply ≡ true) →
+    cond b (Some (record { message = m; reply = verdict m.no f })) before ≡ Some first → is_verdict first.reply ≡ true
+first_verdict m f before true first k h =
+    let new : FirstSend = record { message = m; reply = verdict m.no f } in
+    ap (λ (x : FirstSend). is_verdict x.reply) (sym (same_Some new first h)) ∙ new_verdict m.no f
+first_verdict m f before false first k h = k first h
+
+acked_verdicts : (s : HubState) → FirstVerdicts s → (by : Railway) (n : ℕ) (reply : Reply) → FirstVerdicts (after_call s (Ack by n) reply)
+acked_verdicts s v by n (Acknowledged k) = v
+acked_verdicts s v by n _ = v
+
+verdicts_step : (s : HubState) → FirstVerdicts s → (call : Call) → FirstVerdicts (step s call)
+verdicts_step s v (Send m) = λ by n first h.
+    first_verdict m (fault s m) (s.first_send by n) (is_none (s.first_send m.by m.no) && same_name m.by m.no by n) first (v by n) (sym (step-first_send s m by n) ∙ h)
+verdicts_step s v (Ack by n) = acked_verdicts s v by n (reply_to s (Ack by n))
+verdicts_step s v (Ask by w) = v
+verdicts_step s v (AskUnit by u) = v
+verdicts_step s v (Deviation by c) = v
+verdicts_step s v (Fetch by limit) = v
+
+verdicts_all : (s : HubState) → FirstVerdicts s → (calls : List Call) → FirstVerdicts (fold step s calls)
+verdicts_all s v [] = v
+verdicts_all s v (call ∷ calls) = verdicts_all (step s call) (verdicts_step s v call) calls
+
+repeated : (m : Message) (first : FirstSend) (b : Bool) → is_verdict first.reply ≡ true → is_verdict (cond b first.reply (Refused (Some m.no) NumberReused None None)) ≡ true
+repeated m first true h = h
+repeated m first false h = refl
+
+send_verdict : (s : HubState) (m : Message) (o : Option FirstSend) → ((first : FirstSend) → o ≡ Some first → is_verdict first.reply ≡ true) → is_verdict (send_reply s m o) ≡ true
+send_verdict s m None v = new_verdict m.no (fault s m)
+send_verdict s m (Some first) v = repeated m first (same_message first.message m) (v first refl)
+
+pub messages_get_verdicts : MessagesGetVerdicts
+messages_get_verdicts calls m =
+    let s = state_after calls in
+    send_verdict s m (s.first_send m.by m.no) (verdicts_all new_state (λ by n first h. absurd (none-some first h)) calls m.by m.no)
+
+-- lists whose elements are of a kind
+each_option : {A : Type 0} (P : A → Type 0) (o : Option A) → ((x : A) → o ≡ Some x → P x) → All P (option_to_list o)
+each_option P None h = All-nil P
+each_option P (Some x) h = All-cons P x [] (h x refl) (All-nil P)
+
+each_cons : {A : Type 0} (P : A → Type 0) (o : Option A) (xs : List A) → ((x : A) → o ≡ Some x → P x) → All P xs → All P (cons_option o xs)
+each_cons P None xs h all = all
+each_cons P (Some x) xs h all = All-cons P x xs (h x refl) all
+
+has_first : (w : ℕ) (ws : List ℕ) → has (w ∷ ws) w ≡ true
+has_first w ws = or_left (eqb w w) (has ws w) (eq-eqb w w refl)
+
+has_rest : (w v : ℕ) (ws : List ℕ) → has ws v ≡ true → has (w ∷ ws) v ≡ true
+has_rest w v ws h = or_right (eqb w v) (has ws v) h
+
+each_found : {A : Type 0} (P : A → Type 0) (f : ℕ → Option A) (ws : List ℕ) → ((w : ℕ) → has ws w ≡ true → (x : A) → f w ≡ Some x → P x) → All P (filter_map f ws)
+each_found P f [] h = All-nil P
+each_found P f (w ∷ ws) h = each_cons P (f w) (filter_map f ws) (h w (has_first w ws)) (each_found P f ws (λ v e. h v (has_rest w v ws e)))
+
+each_of_wagons : {A : Type 0} (P : A → Type 0) (f : ℕ → List A) (ws : List ℕ) → ((w : ℕ) → has ws w ≡ true → All P (f w)) → All P (flat_map f ws)
+each_of_wagons P f [] h = All-nil P
+each_of_wagons P f (w ∷ ws) h = All-append P (f w) (flat_map f ws) (h w (has_first w ws)) (each_of_wagons P f ws (λ v e. h v (has_rest w v ws e)))
+
+each_of_all : {A B : Type 0} (P : B → Type 0) (f : A → List B) (xs : List A) → ((x : A) → All P (f x)) → All P (flat_map f xs)
+each_of_all P f [] h = All-nil P
+each_of_all P f (x ∷ xs) h = All-append P (f x) (flat_map f xs) (h x) (each_of_all P f xs h)
+
+each_of_once : (P : Railway → Type 0) (rs : List Railway) → All P rs → All P (each_once rs)
+each_of_once P [] h = All-nil P
+each_of_once P (r ∷ rs) h =
+    All-cons P r (filter (λ q. not (bytes_eq q r)) (each_once rs)) (All-head P r rs h)
+    (All-filter (λ q. not (bytes_eq q r)) P (each_once rs) (each_of_once P rs (All-tail P r rs h)))
+
+-- who gets a notice
+module _ (s : HubState) (m : Message) where
+  abbrev IsConcerned : Railway → Type 0
+  IsConcerned r = Concerns s m r
+
+  before_it : (w : ℕ) (r : Railway) → has (named_wagons s.offer m) w ≡ true → IsOnTrip (s.journey w) r → IsConcerned r
+  before_it w r n h = inr (w, n, inl (inl h))
+
+  after_it : (w : ℕ) (r : Railway) → has (named_wagons s.offer m) w ≡ true → IsOnTrip (journey_after s m w) r → IsConcerned r
+  after_it w r n h = inr (w, n, inr (inl h))
+
+  responsible_after_it : (w : ℕ) (r : Railway) → has (named_wagons s.offer m) w ≡ true → responsible (journey_after s m w) ≡ Some r → IsConcerned r
+  responsible_after_it w r n h = inr (w, n, inr (inr h))
+
+  lead_concerned : (w : ℕ) → has (named_wagons s.offer m) w ≡ true → All IsConcerned (option_to_list (lead_of (journey_after s m w)))
+  lead_concerned w n = each_option IsConcerned (lead_of (journey_after s m w)) (λ r h. after_it w r n (inl h))
+
+  runner_concerned : (w i : ℕ) → has (named_wagons s.offer m) w ≡ true → All IsConcerned (option_to_list (runner_of (journey_after s m w) i))
+  runner_concerned w i n =
+      each_option IsConcerned (runner_of (journey_after s m w) i) (λ r h. after_it w r n (inr (in_runners (legs (journey_after s m w)) i r h)))
+
+  responsible_concerned : (w : ℕ) → has (named_wagons s.offer m) w ≡ true → All IsConcerned (option_to_list (responsible (journey_after s m w)))
+  responsible_concerned w n = each_option IsConcerned (responsible (journey_after s m w)) (λ r h. responsible_after_it w r n h)
+
+  movement_concerned : (w : ℕ) → has (named_wagons s.offer m) w ≡ true → (what : MovementKind) → All IsConcerned (movement_receivers (journey_after s m w) what)
+  movement_concerned w n Release = runner_concerned w 0 n
+  movement_concerned w n Estimate = All-nil IsConcerned
+  movement_concerned w n Departure = lead_concerned w n
+  movement_concerned w n (YardArrival place) = lead_concerned w n
+  movement_concerned w n (YardDeparture place) = lead_concerned w n
+  movement_concerned w n (Exception delay) = lead_concerned w n
+  movement_concerned w n Arrival = lead_concerned w n
+  movement_concerned w n Delivery = lead_concerned w n
+
+  -- the legs kept, and those taken away
+  legs_concerned : (w : ℕ) → has (named_wagons s.offer m) w ≡ true → All (λ l. IsConcerned l.ru) (legs (s.journey w))
+  legs_concerned w n =
+      All-weaker (λ l. Contains (runners (legs (s.journey w))) l.ru) (λ l. IsConcerned l.ru) (λ l h. before_it w l.ru n (inr h)) (legs (s.journey w)) (own_runners (legs (s.journey w)))
+
+  current_concerned : (w : ℕ) → has (named_wagons s.offer m) w ≡ true → All (λ l. IsConcerned l.ru) (option_to_list (current_leg (s.journey w)))
+  current_concerned w n =
+      each_option (λ l. IsConcerned l.ru) (current_leg (s.journey w))
+      (λ l h. before_it w l.ru n (inr (in_runners (legs (s.journey w)) (leg_index (s.journey w)) l.ru (ap (option_map (λ k. k.ru)) h))))
+
+  route_concerned : (w : ℕ) → has (named_wagons s.offer m) w ≡ true → (route : List Leg) → All IsConcerned (runners route) → All IsConcerned (route_receivers (s.journey w) route)
+  route_concerned w n route h =
+      let near = option_to_list (current_leg (s.journey w)) in
+      let rest = drop (leg_index (s.journey w) + 1) (legs (s.journey w)) in
+      All-append IsConcerned (runners near ++ runners rest) (runners route)
+      (All-append IsConcerned (runners near) (runners rest)
+      (All-map IsConcerned (λ l. l.ru) near (current_concerned w n))
+      (All-map IsConcerned (λ l. l.ru) rest (All-drop (λ l. IsConcerned l.ru) (leg_index (s.journey w) + 1) (legs (s.journey w)) (legs_concerned w n))))
+      h
+
+  -- those of an estimate and of an alert
+  estimate_concerned : (w : ℕ) → has (named_wagons s.offer m) w ≡ true → (e : EstimateAt) → All (λ i. IsConcerned i.to) (estimate_item (journey_after s m w) w e)
+  estimate_concerned w n e =
+      let after = journey_after s m w in
+      let eta : Railway → AddressedItem = λ r. record { to = r; body = item.Eta w e.at } in
+      let eti : Railway → AddressedItem = λ r. record { to = r; body = item.Eti w e.leg e.at } in
+      cond_both (eqb (e.leg + 1) (length (legs after))) (map eta (option_to_list (lead_of after))) (map eti (option_to_list (runner_of after (e.leg + 1)))) (All (λ i. IsConcerned i.to))
+      (λ h. All-map (λ i. IsConcerned i.to) eta (option_to_list (lead_of after)) (lead_concerned w n))
+      (λ h. All-map (λ i. IsConcerned i.to) eti (option_to_list (runner_of after (e.leg + 1))) (runner_concerned w (e.leg + 1) n))
+
+  estimates_concerned : (w : ℕ) → has (named_wagons s.offer m) w ≡ true → All (λ i. IsConcerned i.to) (estimate_items (s.journey w) (journey_after s m w) w)
+  estimates_concerned w n =
+      each_of_all (λ i. IsConcerned i.to) (estimate_item (journey_after s m w) w) (filter (is_news (s.journey w) (journey_after s m w)) (estimates (journey_after s m w))) (estimate_concerned w n)
+
+  alerted_concerned : (w : ℕ) → has (named_wagons s.offer m) w ≡ true → All IsConcerned (alert_receivers (journey_after s m w))
+  alerted_concerned w n =
+      let after = journey_after s m w in
+      each_of_once IsConcerned (option_to_list (lead_of after) ++ option_to_list (responsible after))
+      (All-append IsConcerned (option_to_list (lead_of after)) (option_to_list (responsible after)) (lead_concerned w n) (responsible_concerned w n))
+
+  alerts_concerned : (w : ℕ) → has (named_wagons s.offer m) w ≡ true → All (λ i. IsConcerned i.to) (alert_items (s.journey w) (journey_after s m w) w)
+  alerts_concerned w n =
+      let after = journey_after s m w in
+      let f : ItemBody → List AddressedItem = λ says. map (λ r. record { to = r; body = says }) (alert_receivers after) in
+      each_of_all (λ i. IsConcerned i.to) f (option_to_list (alert (s.journey w) after w))
+      (λ says. All-map (λ i. IsConcerned i.to) (λ r. record { to = r; body = says }) (alert_receivers after) (alerted_concerned w n))
+
+notified_concerned : (s : HubState) (by : Railway) (number : ℕ) (says : Body) → All (Concerns s (msg by number says)) (notice_receivers s (journey_after s (msg by number says)) by says)
+notified_concerned s by number (body.Plan p) =
+    let m = msg by number (body.Plan p) in
+    All-weaker (Contains (runners p.legs)) (Concerns s m) (λ r h. inl h) (runners p.legs) (All-contains_itself (runners p.legs))
+notified_concerned s by number (body.Movement v) =
+    movement_concerned s (msg by number (body.Movement v)) v.wagon (has_first v.wagon []) v.what
+notified_concerned s by number (body.EtiAsk w) = responsible_concerned s (msg by number (body.EtiAsk w)) w (has_first w [])
+notified_concerned s by number (body.LegTime w leg minutes) = All-nil (Concerns s (msg by number (body.LegTime w leg minutes)))
+notified_concerned s by number (body.Offer o) =
+    let m = msg by number (body.Offer o) in
+    All-cons (Concerns s m) o.to [] (inl refl) (All-nil (Concerns s m))
+notified_concerned s by number (body.Answer a) =
+    let m = msg by number (body.Answer a) in
+    All-cons (Concerns s m) a.offerer (filter_map (λ w. lead_of (journey_after s m w)) (a.received ++ a.refused)) (inl (inl refl))
+    (each_found (Concerns s m) (λ w. lead_of (journey_after s m w)) (a.received ++ a.refused) (λ w n r h. after_it s m w r n (inl h)))
+notified_concerned s by number (body.Withdraw at n) =
+    let m = msg by number (body.Withdraw at n) in
+    each_option (Concerns s m) (asked_by (s.offer by n)) (λ r h. inl h)
+notified_concerned s by number (body.Reroute w route) =
+    let m = msg by number (body.Reroute w route) in
+    route_concerned s m w (has_first w []) route
+    (All-weaker (Contains (runners route)) (Concerns s m) (λ r h. inl h) (runners route) (All-contains_itself (runners route)))
+
+sub_concerned : (s : HubState) (by : Railway) (number : ℕ) (says : Body) → All (λ i. Concerns s (msg by number says) i.to) (sub_items by says)
+sub_concerned s by number (body.Answer a) =
+    let P : AddressedItem → Type 0 = λ i. Concerns s (msg by number (body.Answer a)) i.to in
+    cond_both (eqb (length a.received) 0) [] (map (sub_item by a) (option_to_list a.manager)) (All P)
+    (λ h. All-nil P)
+    (λ h. All-map P (sub_item by a) (option_to_list a.manager) (each_option (λ r. P (sub_item by a r)) a.manager (λ r e. inl (inr e))))
+sub_concerned s by number (body.Plan p) = All-nil (λ i. Concerns s (msg by number (body.Plan p)) i.to)
+sub_concerned s by number (body.Movement m) = All-nil (λ i. Concerns s (msg by number (body.Movement m)) i.to)
+sub_concerned s by number (body.EtiAsk w) = All-nil (λ i. Concerns s (msg by number (body.EtiAsk w)) i.to)
+sub_concerned s by number (body.LegTime w leg minutes) = All-nil (λ i. Concerns s (msg by number (body.LegTime w leg minutes)) i.to)
+sub_concerned s by number (body.Offer o) = All-nil (λ i. Concerns s (msg by number (body.Offer o)) i.to)
+sub_concerned s by number (body.Withdraw at n) = All-nil (λ i. Concerns s (msg by number (body.Withdraw at n)) i.to)
+sub_concerned s by number (body.Reroute w route) = All-nil (λ i. Concerns s (msg by number (body.Reroute w route)) i.to)
+
+pub items_concern : ItemsConcern
+items_concern s m =
+    let P : AddressedItem → Type 0 = λ i. Concerns s m i.to in
+    let rs = notice_receivers s (journey_after s m) m.by m.body in
+    let notice : Railway → AddressedItem = λ r. record { to = r; body = item.Notice m } in
+    let e : ℕ → List AddressedItem = λ w. estimate_items (s.journey w) (journey_after s m w) w in
+    let a : ℕ → List AddressedItem = λ w. alert_items (s.journey w) (journey_after s m w) w in
+    let ws = named_wagons s.offer m in
+    let send_of_name : All P (notices s m) =
+    All-append P (map notice (each_once rs)) (sub_items m.by m.body)
+    (All-map P notice (each_once rs) (each_of_once (Concerns s m) rs (notified_concerned s m.by m.no m.body)))
+    (sub_concerned s m.by m.no m.body) in
+    All-filter (λ i. not (bytes_eq i.to m.by)) P (notices s m ++ flat_map e ws ++ flat_map a ws)
+    (All-append P (notices s m ++ flat_map e ws) (flat_map a ws)
+    (All-append P (notices s m) (flat_map e ws) send_of_name (each_of_wagons P e ws (estimates_concerned s m)))
+    (each_of_wagons P a ws (alerts_concerned s m)))
+
+-- the items that are for one railway
+to_railway : (P : Railway → ItemBody → Type 0) (r : Railway) (items : List AddressedItem) → All (λ i. P i.to i.body) items → All (P r) (items_to r items)
+to_railway P r [] h = All-nil (P r)
+to_railway P r (i ∷ items) h =
+    let rest = to_railway P r items (All-tail (λ j. P j.to j.body) i items h) in
+    cond_both (bytes_eq i.to r) (i ∷ filter (λ j. bytes_eq j.to r) items) (filter (λ j. bytes_eq j.to r) items) (λ xs. All (P r) (map (λ (j : AddressedItem). j.body) xs))
+    (λ e. All-cons (P r) i.body (items_to r items) (subst (λ q. P q i.body) ((bytes_eq-Decides i.to r).0 e) (All-head (λ j. P j.to j.body) i items h)) rest)
+    (λ e. rest)
+
+-- those of a call after calls
+of_message : (before : List Call) (m : Message) (later : List Call) → accepts (state_after before) m ≡ true →
+    All (λ i. ComesOfConcern (before ++ Send m ∷ later) i.to i.body) (items_of (state_after before) m)
+of_message before m later t =
+    let s = state_after before in
+    let both : All (λ i. Contains (items_of s m) i × Concerns s m i.to) (items_of s m) = λ k d h. (All-contains_itself (items_of s m) k d h, items_concern s m k d h) in
+    All-weaker (λ i. Contains (items_of s m) i × Concerns s m i.to) (λ i. ComesOfConcern (before ++ Send m ∷ later) i.to i.body)
+    (λ i h. record { before = before; message = m; later = later; sent = refl; after_acceptance = t; made = h.0; concerned = h.1 })
+    (items_of s m) both
+
+of_taken : (before : List Call) (m : Message) (later : List Call) (b : Bool) → accepts (state_after before) m ≡ b →
+    All (λ i. ComesOfConcern (before ++ Send m ∷ later) i.to i.body) (flat_map (items_of (state_after before)) (cond b (m ∷ []) []))
+of_taken before m later true t =
+    All-append (λ i. ComesOfConcern (before ++ Send m ∷ later) i.to i.body) (items_of (state_after before) m) []
+    (of_message before m later t) (All-nil (λ i. ComesOfConcern (before ++ Send m ∷ later) i.to i.body))
+of_taken before m later false t = All-nil (λ i. ComesOfConcern (before ++ Send m ∷ later) i.to i.body)
+
+of_call : (before : List Call) (call : Call) (later : List Call) → All (λ i. ComesOfConcern (before ++ call ∷ later) i.to i.body) (flat_map (items_of (state_after before)) (accepted_message (state_after before) call))
+of_call before (Send m) later = of_taken before m later (accepts (state_after before) m) refl
+of_call before (Ask by w) later = All-nil (λ i. ComesOfConcern (before ++ Ask by w ∷ later) i.to i.body)
+of_call before (AskUnit by u) later = All-nil (λ i. ComesOfConcern (before ++ AskUnit by u ∷ later) i.to i.body)
+of_call before (Deviation by c) later = All-nil (λ i. ComesOfConcern (before ++ Deviation by c ∷ later) i.to i.body)
+of_call before (Fetch by limit) later = All-nil (λ i. ComesOfConcern (before ++ Fetch by limit ∷ later) i.to i.body)
+of_call before (Ack by n) later = All-nil (λ i. ComesOfConcern (before ++ Ack by n ∷ later) i.to i.body)
+
+of_calls : (before calls : List Call) → All (λ i. ComesOfConcern (before ++ calls) i.to i.body) (items_from (state_after before) calls)
+of_calls before [] = All-nil (λ i. ComesOfConcern (before ++ []) i.to i.body)
+of_calls before (call ∷ calls) =
+    let s = state_after before in
+    let P : AddressedItem → Type 0 = λ i. ComesOfConcern (before ++ call ∷ calls) i.to i.body in
+    let rest : All (λ i. ComesOfConcern ((before ++ call ∷ []) ++ calls) i.to i.body) (items_from (state_after (before ++ call ∷ [])) calls) = of_calls (before ++ call ∷ []) calls in
+    let same : All P (items_from (state_after (before ++ call ∷ [])) calls) =
+    subst (λ cs. All (λ i. ComesOfConcern cs i.to i.body) (items_from (state_after (before ++ call ∷ [])) calls)) (append_assoc before (call ∷ []) calls) rest in
+    All-append P (flat_map (items_of s) (accepted_message s call)) (items_from (step s call) calls) (of_call before call calls)
+    (subst (λ t. All P (items_from t calls)) (state_after-push before call) same)
+
+pub outboxes_concern : OutboxesConcern
+outboxes_concern calls r =
+    subst (All (ComesOfConcern calls r)) (sym (outbox_list r calls)) (to_railway (ComesOfConcern calls) r (items_from new_state calls) (of_calls [] calls))
+
+-- the reply to an outsider
+outsider_reply : (by : Railway) (events : List Event) (o : Option Record) (unknown unseen : Reply) → (IsOnTrip events by → ⊥) → record_reply by events o unknown unseen ≡ cond (is_some o) unseen unknown
+outsider_reply by events None unknown unseen n = refl
+outsider_reply by events (Some r) unknown unseen n = ap (λ b. cond b (One r) unseen) (false_from_ne_true (may_see events by) (λ h. n (on_trip events by h)))
+
+outsider_unit : (s : HubState) (by : Railway) (o : Option ℕ) → ((w : ℕ) → o ≡ Some w → IsOnTrip (s.journey w) by → ⊥) →
+    unit_reply s by o ≡ cond (is_some (option_and_then (λ w. record_of w (s.journey w)) o)) (refusal_reply NotYours None) (refusal_reply UnknownUnit None)
+outsider_unit s by None n = refl
+outsider_unit s by (Some w) n = outsider_reply by (s.journey w) (record_of w (s.journey w)) (refusal_reply UnknownUnit None) (refusal_reply NotYours None) (n w refl)
+
+outsider_deviation : (s : HubState) (by : Railway) (o : Option Trip) → (option_map (λ p. p.lead) o ≡ Some by → ⊥) → deviation_reply s by o ≡ cond (is_some o) (refusal_reply NotYours None) (refusal_reply UnknownConsignment None)
+outsider_deviation s by None n = refl
+outsider_deviation s by (Some p) n =
+    ap (λ b. cond b (Many (deviating_records s p)) (refusal_reply NotYours None)) (false_from_ne_true (bytes_eq p.lead by) (λ h. n (ap Some ((bytes_eq-Decides p.lead by).0 h))))
+
+pub outsiders_learn_nothing : OutsidersLearnNothing
+outsiders_learn_nothing s t (Ask by w) n k e =
+    outsider_reply by (s.journey w) (record_of w (s.journey w)) (refusal_reply UnknownWagon (Some w)) (refusal_reply NotYours (Some w)) n ∙
+    ap (λ b. cond b (refusal_reply NotYours (Some w)) (refusal_reply UnknownWagon (Some w))) e ∙
+    sym (outsider_reply by (t.journey w) (record_of w (t.journey w)) (refusal_reply UnknownWagon (Some w)) (refusal_reply NotYours (Some w)) k)
+outsiders_learn_nothing s t (AskUnit by u) n k e =
+    outsider_unit s by (unit_wagon s u) n ∙ ap (λ b. cond b (refusal_reply NotYours None) (refusal_reply UnknownUnit None)) e ∙ sym (outsider_unit t by (unit_wagon t u) k)
+outsiders_learn_nothing s t (Deviation by c) n k e =
+    outsider_deviation s by (s.plan_of c) n ∙ ap (λ b. cond b (refusal_reply NotYours None) (refusal_reply UnknownConsignment None)) e ∙ sym (outsider_deviation t by (t.plan_of c) k)
+outsiders_learn_nothing s t (Send m) n k e = absurd n
+outsiders_learn_nothing s t (Fetch by limit) n k e = absurd n
+outsiders_learn_nothing s t (Ack by i) n k e = absurd n

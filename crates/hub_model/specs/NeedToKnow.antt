@@ -1,0 +1,113 @@
+-- Who is shown records, and who gets items (4.2.6, 4.2.7, 4.2.8, 4.2.11).
+use Rattle.std.specs.Prelude.{◌≡◌, ◌⊎◌, ℕ, Bool, true, false, List, ◌∷◌, ◌++◌, Some, is_some, option_map, option_and_then, All, Contains}
+use Rattle.taf_codes.specs.declared.code.Railway.{Railway}
+use Rattle.taf_codes.specs.declared.code.UnitCode.{UnitCode}
+use Rattle.taf_codes.specs.declared.name.ConsignmentId.{ConsignmentId}
+use Rattle.trip_plan.specs.Rules.{has}
+use Rattle.taf_messages.specs.declared.call.Call.{Call}
+use Rattle.taf_messages.specs.declared.call.Call.TheVariants.{Send, Ask, AskUnit, Deviation}
+use Rattle.taf_messages.specs.declared.reply.Reply.{Reply}
+use Rattle.taf_messages.specs.declared.reply.Reply.TheVariants.{Accepted, Refused, One, Many}
+use Rattle.taf_messages.specs.declared.item.ItemBody.{ItemBody}
+use Rattle.taf_messages.specs.declared.message.Message.{Message}
+use Rattle.taf_messages.specs.declared.message.Body.{Body}
+use Rattle.taf_messages.specs.declared.message.Body.TheVariants as body
+use Rattle.taf_messages.specs.declared.record.Record.{Record}
+use Rattle.journey.specs.declared.event.Event.{Event}
+use Rattle.journey.specs.Stages.{responsible}
+use Rattle.journey.specs.Legs.{legs, lead_of}
+use Rattle.interchange.specs.Offers.{asked_by}
+use Rattle.wimo.specs.Records.{record_of}
+use Rattle.hub_model.specs.HubState.{HubState, named_wagons, journey_after}
+use Rattle.hub_model.specs.Units.{unit_wagon}
+use Rattle.hub_model.specs.Items.{runners, items_of}
+use Rattle.hub_model.specs.Replies.{reply_to}
+use Rattle.hub_model.specs.Histories.{state_after}
+use Rattle.hub_model.specs.AcceptedMessages.{accepts}
+
+-- the railway is the lead of the wagon's plan, or runs one of its legs
+abbrev pub IsOnTrip : List Event → Railway → Type 0
+IsOnTrip events r = (lead_of events ≡ Some r) ⊎ Contains (runners (legs events)) r
+
+-- the railway is the lead of the plan of the consignment
+abbrev pub IsLead : HubState → ConsignmentId → Railway → Type 0
+IsLead s c r = option_map (λ p. p.lead) (s.plan_of c) ≡ Some r
+
+-- questions show the record of a wagon to those on its trip alone, and deviations to the lead alone (4.2.11)
+pub record IsShownTo (s : HubState) (by : Railway) : Type 0 where
+  pub wagon : (w : ℕ) (r : Record) → reply_to s (Ask by w) ≡ One r → IsOnTrip (s.journey r.wagon) by
+  pub unit : (u : UnitCode) (r : Record) → reply_to s (AskUnit by u) ≡ One r → IsOnTrip (s.journey r.wagon) by
+  pub deviations : (c : ConsignmentId) (rs : List Record) → reply_to s (Deviation by c) ≡ Many rs → IsLead s c by
+
+-- so it is for whoever asks, whatever is known
+abbrev pub RecordsStayOnTrip : Type 0
+RecordsStayOnTrip = (s : HubState) (by : Railway) → IsShownTo s by
+
+-- the reply accepts a message or refuses it, and shows nothing else
+abbrev pub is_verdict : Reply → Bool
+is_verdict (Accepted number) = true
+is_verdict (Refused number why wagon last) = true
+is_verdict _ = false
+
+-- each message gets such a reply, the first time and again
+abbrev pub MessagesGetVerdicts : Type 0
+MessagesGetVerdicts = (calls : List Call) (m : Message) → is_verdict (reply_to (state_after calls) (Send m)) ≡ true
+
+-- the railway leads the wagon's trip, runs one of its legs, or answers for the wagon
+abbrev pub HasPart : List Event → Railway → Type 0
+HasPart events r = IsOnTrip events r ⊎ (responsible events ≡ Some r)
+
+-- the message names the railway: for a leg, as the one that an offer asks, that made it, or that manages the infrastructure
+abbrev pub NamesRailway : HubState → Message → Body → Railway → Type 0
+NamesRailway s m (body.Plan p) r = Contains (runners p.legs) r
+NamesRailway s m (body.Reroute w route) r = Contains (runners route) r
+NamesRailway s m (body.Offer o) r = o.to ≡ r
+NamesRailway s m (body.Answer a) r = (a.offerer ≡ r) ⊎ (a.manager ≡ Some r)
+NamesRailway s m (body.Withdraw at n) r = asked_by (s.offer m.by n) ≡ Some r
+NamesRailway s m _ r = ⊥
+
+-- the railway has part in a wagon that the message names, before the message or after it
+abbrev pub HasPartIn : HubState → Message → Railway → Type 0
+HasPartIn s m r =
+    (w : ℕ) × (has (named_wagons s.offer m) w ≡ true) × (HasPart (s.journey w) r ⊎ HasPart (journey_after s m w) r)
+
+-- the message concerns the railway
+abbrev pub Concerns : HubState → Message → Railway → Type 0
+Concerns s m r = NamesRailway s m m.body r ⊎ HasPartIn s m r
+
+-- each item of a message goes to a railway that the message concerns
+abbrev pub ItemsConcern : Type 0
+ItemsConcern = (s : HubState) (m : Message) → All (λ i. Concerns s m i.to) (items_of s m)
+
+-- the item is for the railway, and is made by an accepted message of the calls that concerned it
+pub record ComesOfConcern (calls : List Call) (r : Railway) (i : ItemBody) : Type 0 where
+  pub before : List Call
+  pub message : Message
+  pub later : List Call
+  pub sent : calls ≡ before ++ Send message ∷ later
+  pub after_acceptance : accepts (state_after before) message ≡ true
+  pub made : Contains (items_of (state_after before) message) (record { to = r; body = i })
+  pub concerned : Concerns (state_after before) message r
+
+-- whatever calls came, each item of an outbox is such an item
+abbrev pub OutboxesConcern : Type 0
+OutboxesConcern = (calls : List Call) (r : Railway) → All (ComesOfConcern calls r) ((state_after calls).outbox r)
+
+-- the question is for what is known: a wagon with a record, a unit on such a wagon, a consignment with a plan
+abbrev pub is_known : HubState → Call → Bool
+is_known s (Ask by w) = is_some (record_of w (s.journey w))
+is_known s (AskUnit by u) = is_some (option_and_then (λ w. record_of w (s.journey w)) (unit_wagon s u))
+is_known s (Deviation by c) = is_some (s.plan_of c)
+is_known s _ = false
+
+-- the call is a question for what the railway that asks has no part in
+abbrev pub IsOfOutsider : HubState → Call → Type 0
+IsOfOutsider s (Ask by w) = IsOnTrip (s.journey w) by → ⊥
+IsOfOutsider s (AskUnit by u) = (w : ℕ) → unit_wagon s u ≡ Some w → IsOnTrip (s.journey w) by → ⊥
+IsOfOutsider s (Deviation by c) = IsLead s c by → ⊥
+IsOfOutsider s _ = ⊥
+
+-- an outsider learns no more than whether it is known
+abbrev pub OutsidersLearnNothing : Type 0
+OutsidersLearnNothing = (s t : HubState) (call : Call) → IsOfOutsider s call → IsOfOutsider t call →
+    is_known s call ≡ is_known t call → reply_to s call ≡ reply_to t call
