@@ -122,7 +122,7 @@ calendar_eta = refl
 
 -- a reception at that moment would pass it, and the first received wagon is named
 abbrev at_the_end : List ℕ → List ℕ → Body
-at_the_end received refused = body.Answer (record { at = last_minute; offerer = r101; offer = 6; received = received; refused = refusal_reply; manager = None })
+at_the_end received refused = body.Answer (record { at = last_minute; offerer = r101; offer = 6; received = received; refused = refused; manager = None })
 
 calendar_received : reply_to (state_after offered) (send r102 1 (at_the_end (w1 ∷ w2 ∷ []) [])) ≡ Refused (Some 1) why.BeyondCalendar (Some w1) None
 calendar_received = refl

@@ -16,7 +16,7 @@ use Rattle.journey.specs.declared.event.EventBody.{EventBody}
 use Rattle.journey.specs.declared.event.EventBody.TheVariants.{Planned, Moved, EstimateAsked, LegTimed, Offered, Answered, Withdrawn, Rerouted}
 use Rattle.journey.specs.Stages.{stage, is_delivered}
 use Rattle.journey.specs.Checks.{refusal}
-use Rattle.journey.proofs.OfferStageLemmas.{in_offer, offering_by, stage_in_offer, in_offer-push, in_offer-kept, closes_offer, StaysDelivered, delivered-kept}
+use Rattle.journey.proofs.OfferStageLemmas.{in_offer, offering_by, stage_in_offer, in_offer-push, in_offer-kept, settles, StaysDelivered, delivered-kept}
 use Rattle.interchange.specs.Offers.{wagons_of}
 use Rattle.replay_numbers.specs.Names.{same_name}
 use Rattle.hub_model.specs.HubState.{HubState, new_state, named_wagons, event_for, event_body_for, with_event, journey_after}
@@ -31,7 +31,7 @@ pub record IsSound (s : HubState) : Type 0 where
   pub delivered : (w : ℕ) → StaysDelivered (s.journey w)
 
 -- a wagon stays in its offer where the message does not settle it
-stays_in : (s : HubState) (m : Message) (w : ℕ) (x : Railway × ℕ) → in_offer (s.journey w) ≡ Some x → closes_offer (event_body_for s.offer m.by m.body w) ≡ false →
+stays_in : (s : HubState) (m : Message) (w : ℕ) (x : Railway × ℕ) → in_offer (s.journey w) ≡ Some x → settles (event_body_for s.offer m.by m.body w) ≡ false →
     (has (named_wagons s.offer m) w ≡ true → known_fault s m w ≡ None) → in_offer (journey_after s m w) ≡ Some x
 stays_in s m w x i k known =
     cond_both (has (named_wagons s.offer m) w) (with_event (s.journey w) (event_for s.offer m w)) (s.journey w) (λ events. in_offer events ≡ Some x)
@@ -126,7 +126,7 @@ module _ (s : HubState) (so : IsSound s) (by : Railway) (number : ℕ) where
       settled_case s so (msg by number (body.Withdraw at k)) by k (withdraw_fits s by at k (no_whole_fault s (msg by number (body.Withdraw at k)) f)) (λ v e. e) b n w opened h
 
 -- an answer or a withdrawal comes to a wagon that is offered, and known
-pub answered_known : (events : List Event) (by : Railway) (says : EventBody) → closes_offer says ≡ true → stage events ≡ Some stage_is.Offered → cond (is_unknown events) (Some UnknownWagon) (refusal events by says) ≡ None
+pub answered_known : (events : List Event) (by : Railway) (says : EventBody) → settles says ≡ true → stage events ≡ Some stage_is.Offered → cond (is_unknown events) (Some UnknownWagon) (refusal events by says) ≡ None
 answered_known [] by says k o = cc
 answered_known (e ∷ events) by (Answered place received) k o = rw o refl
 answered_known (e ∷ events) by (Withdrawn place) k o = rw o refl
