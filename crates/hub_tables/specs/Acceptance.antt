@@ -39,7 +39,7 @@ with_event_on events s w = if s.0 == w then events w ++ s.1 ∷ [] else events w
 -- each event may come next once those before it are put
 abbrev pub AreAdmitted : (ℕ → List Event) → List (ℕ × Event) → Type 0
 AreAdmitted events [] = Unit {0}
-AreAdmitted events (s ∷ events) = IsAdmitted (events s.0) s.1 × AreAdmitted (with_event_on events s) events
+AreAdmitted events (s ∷ later) = IsAdmitted (events s.0) s.1 × AreAdmitted (with_event_on events s) later
 
 -- journeys go on by a message, and plans stay
 pub record ContinuesJourneys (old new : TableEntries) (m : Message) : Type 0 where
