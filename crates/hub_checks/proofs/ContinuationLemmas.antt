@@ -13,13 +13,13 @@ use Rattle.eti_chain.specs.Estimates.{fits, is_calendar_checked}
 use Rattle.hub_model.specs.HubState.{HubState, named_wagons, event_for, event_body_for, journey_after}
 use Rattle.hub_model.specs.Faults.{is_unknown, whole_fault, known_fault, calendar_fault}
 use Rattle.hub_model.specs.Laws.{OpenIsOffered}
-use Rattle.hub_model.proofs.NoFaultLemmas.{continues_journeys, listed, answer_fits}
+use Rattle.hub_model.proofs.NoFaultLemmas.{goes_on, listed, answer_fits}
 use Rattle.hub_model.proofs.SoundnessLemmas.{answered_known}
 
 -- the message comes last
 pub comes_last : (s : HubState) (m : Message) (w : ℕ) → has (named_wagons s.offer m) w ≡ true → known_fault s m w ≡ None →
     journey_after s m w ≡ s.journey w ++ event_for s.offer m w ∷ []
-comes_last s m w h k = rw h (continues_journeys (s.journey w) (event_for s.offer m w) k)
+comes_last s m w h k = rw h (goes_on (s.journey w) (event_for s.offer m w) k)
 
 -- a wagon that an answer names is offered, so its journey admits the answer
 pub answer_admitted : (s : HubState) (m : Message) (a : TrainAnswer) (w : ℕ) → m.body ≡ body.Answer a → whole_fault s m.by m.body ≡ None → OpenIsOffered s →
