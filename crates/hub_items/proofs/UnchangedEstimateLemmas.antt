@@ -23,7 +23,7 @@ use Rattle.journey.specs.Legs.{legs, runner_of, lead_of}
 use Rattle.journey.proofs.LegPositionLemmas.{plan-push}
 use Rattle.eti_chain.specs.declared.anchor.Anchor.{Anchor}
 use Rattle.eti_chain.specs.Estimates.{estimate, eta, late_by, lateness, is_late, is_anchor, delay_in}
-use Rattle.eti_chain.specs.EstimateStates.{EstimateBasis, anchor, anchor_in, delayed, with_delays, basis_from, estimate_basis, end_in}
+use Rattle.eti_chain.specs.EstimateStates.{EstimateBasis, anchor, anchor_in, with_delay_of, with_delays, basis_from, estimate_basis, end_in}
 use Rattle.eti_chain.proofs.EstimateStateLemmas.{anchor-push, end_by_basis}
 use Rattle.eti_chain.proofs.EstimateLemmas.{IsSilent, legs-kept, leg_index-kept, silent_yard_arrival, silent_yard_departure, silent_offered, silent_withdrawn, silent_asked}
 use Rattle.hub_model.specs.Items.{is_news, estimate_item, estimate_items, alert_receivers, alert_items, movement_receivers}
@@ -63,7 +63,7 @@ lead_told events Estimate h = absurd (false≢true h)
 lead_told events Arrival h = refl
 lead_told events Delivery h = refl
 
-undelayed : (a : Option Anchor) (body : EventBody) → is_anchor body ≡ false → delay_in body ≡ 0 → delayed a body ≡ a
+undelayed : (a : Option Anchor) (body : EventBody) → is_anchor body ≡ false → delay_in body ≡ 0 → with_delay_of a body ≡ a
 undelayed None body h k = refl
 undelayed (Some a) body h k =
     ap (λ (b : Bool). Some (with_delays (cond b 0 (a.delays + delay_in body)) a)) h ∙ ap (λ n. Some (with_delays (a.delays + n) a)) k ∙
@@ -99,7 +99,7 @@ module _ (events : List Event) (e : Event) (k : IsStill e.body) where
 
   anchor_left : anchor more ≡ anchor events
   anchor_left =
-      anchor-push events e ∙ ap (λ o. option_or o (delayed (anchor events) e.body)) (k.no_anchor e.at) ∙
+      anchor-push events e ∙ ap (λ o. option_or o (with_delay_of (anchor events) e.body)) (k.no_anchor e.at) ∙
       undelayed (anchor events) e.body k.silent.no_anchor k.silent.no_delay
 
   legs_left : legs more ≡ legs events
