@@ -33,7 +33,7 @@ use Rattle.hub_model.proofs.StepLemmas.{state_after-push, state_of-push, step-jo
 use Rattle.hub_model.proofs.OfferOpeningLemmas.{none_fault}
 use Rattle.hub_model.proofs.JourneyLemmas.{acks_journey}
 use Rattle.hub_model.proofs.ReceiverLemmas.{has_left, share_taker}
-use Rattle.hub_model.proofs.ResponsibleEventLemmas.{IsInHand, in_hand-push, in_hand_anew, in_hand_nothing, none_anew, none_delivered, taker_is, event_becomes, event_stops, text_is}
+use Rattle.hub_model.proofs.ResponsibleEventLemmas.{IsConsistent, consistent-push, consistent_anew, consistent_nothing, none_anew, none_delivered, taker_is, event_becomes, event_stops, text_is}
 
 -- what is said of a wagon begins its journey anew, or the message is no plan
 plan_or_not : (offers : Offers) (by : Railway) (says : Body) (w : ℕ) → (is_plan (event_body_for offers by says w) ≡ true) ⊎ NoPlan says
@@ -67,14 +67,14 @@ none_idle [] h = refl
 none_idle (e ∷ events) h = none_delivered (e ∷ events) (not-false (is_delivered (e ∷ events)) h)
 
 -- what holds of all wagons and offers
-pub record AreInHand (s : HubState) : Type 0 where
+pub record AreConsistent (s : HubState) : Type 0 where
   pub sound : IsSound s
-  pub each : (w : ℕ) → IsInHand (s.journey w)
+  pub each : (w : ℕ) → IsConsistent (s.journey w)
 
--- the events of a wagon that a message without a fault names: with the event at the end, or the plan alone
-module _ (s : HubState) (hands : AreInHand s) (m : Message) (f : fault s m ≡ None) (w : ℕ) (n : has (named_wagons s.offer m) w ≡ true) where
+-- the events of a wagon that a message without a fault names: with the share at the end, or the plan alone
+module _ (s : HubState) (all : AreConsistent s) (m : Message) (f : fault s m ≡ None) (w : ℕ) (n : has (named_wagons s.offer m) w ≡ true) where
   known : NoPlan m.body → known_fault s m w ≡ None
-  known p = all_known s hands.sound m.by m.no m.body w p f n
+  known p = all_known s all.sound m.by m.no m.body w p f n
 
   next : NoPlan m.body → with_event (s.journey w) (event_for s.offer m w) ≡ s.journey w ++ event_for s.offer m w ∷ []
   next p = goes_on (s.journey w) (event_for s.offer m w) (known p)
@@ -82,12 +82,12 @@ module _ (s : HubState) (hands : AreInHand s) (m : Message) (f : fault s m ≡ N
   anew : is_plan (event_body_for s.offer m.by m.body w) ≡ true → with_event (s.journey w) (event_for s.offer m w) ≡ event_for s.offer m w ∷ []
   anew p = planned_anew (s.journey w) (event_for s.offer m w) p
 
-  hand_named : IsInHand (with_event (s.journey w) (event_for s.offer m w))
-  hand_named = elim (plan_or_not s.offer m.by m.body w) [
-    | inl p ↦ subst IsInHand (sym (anew p)) (in_hand_anew m.by m.no (moment_in m.body) (event_body_for s.offer m.by m.body w) p)
+  consistent_named : IsConsistent (with_event (s.journey w) (event_for s.offer m w))
+  consistent_named = elim (plan_or_not s.offer m.by m.body w) [
+    | inl p ↦ subst IsConsistent (sym (anew p)) (consistent_anew m.by m.no (moment_in m.body) (event_body_for s.offer m.by m.body w) p)
     | inr p ↦
-        subst IsInHand (sym (next p))
-        (in_hand-push (s.journey w) (event_for s.offer m w) (known_allowed (s.journey w) m.by (event_body_for s.offer m.by m.body w) (known p)) (hands.each w))
+        subst IsConsistent (sym (next p))
+        (consistent-push (s.journey w) (event_for s.offer m w) (known_allowed (s.journey w) m.by (event_body_for s.offer m.by m.body w) (known p)) (all.each w))
   ]
 
   -- whoever becomes responsible takes the wagon over
@@ -103,32 +103,32 @@ module _ (s : HubState) (hands : AreInHand s) (m : Message) (f : fault s m ≡ N
   named_stops r h k = elim (plan_or_not s.offer m.by m.body w) [
     | inl p ↦ absurd (none-some r (sym (none_idle (s.journey w) (not_busy s m w m.body (no_named_fault s m w f n) p)) ∙ h))
     | inr p ↦
-        event_stops (s.journey w) (event_for s.offer m w) r (known_allowed (s.journey w) m.by (event_body_for s.offer m.by m.body w) (known p)) (hands.each w) h
+        event_stops (s.journey w) (event_for s.offer m w) r (known_allowed (s.journey w) m.by (event_body_for s.offer m.by m.body w) (known p)) (all.each w) h
         (λ e. k (ap responsible (next p) ∙ e))
   ]
 
--- wagons stay in hand
-hand_after : (s : HubState) → AreInHand s → (m : Message) → fault s m ≡ None → (w : ℕ) → IsInHand (journey_after s m w)
-hand_after s hands m f w =
-    cond_both (has (named_wagons s.offer m) w) (with_event (s.journey w) (event_for s.offer m w)) (s.journey w) IsInHand
-    (λ n. hand_named s hands m f w n)
-    (λ n. hands.each w)
+-- an accepted message keeps it so
+consistent_after : (s : HubState) → AreConsistent s → (m : Message) → fault s m ≡ None → (w : ℕ) → IsConsistent (journey_after s m w)
+consistent_after s all m f w =
+    cond_both (has (named_wagons s.offer m) w) (with_event (s.journey w) (event_for s.offer m w)) (s.journey w) IsConsistent
+    (λ n. consistent_named s all m f w n)
+    (λ n. all.each w)
 
-kept_in_hand : IsTrackState (λ m. Unit {0}) AreInHand
-kept_in_hand = record {
-  accepts = λ s m d f hands. record { sound = sound_accepted s hands.sound m f; each = λ w. hand_after s hands m f w };
-  notes = λ s m reply hands. record { sound = record { offered = hands.sound.offered; delivered = hands.sound.delivered }; each = hands.each };
-  acks = λ s by n hands. record { sound = record { offered = hands.sound.offered; delivered = hands.sound.delivered }; each = hands.each };
+kept_consistent : IsTrackState (λ m. Unit {0}) AreConsistent
+kept_consistent = record {
+  accepts = λ s m d f all. record { sound = sound_accepted s all.sound m f; each = λ w. consistent_after s all m f w };
+  notes = λ s m reply all. record { sound = record { offered = all.sound.offered; delivered = all.sound.delivered }; each = all.each };
+  acks = λ s by n all. record { sound = record { offered = all.sound.offered; delivered = all.sound.delivered }; each = all.each };
 }
 
-in_hand_at_first : AreInHand new_state
-in_hand_at_first = record { sound = sound_nothing; each = λ w. in_hand_nothing }
+all_nothing : AreConsistent new_state
+all_nothing = record { sound = sound_nothing; each = λ w. consistent_nothing }
 
-in_hand_all : (s : HubState) (calls : List Call) → AreInHand s → AreInHand (fold step s calls)
-in_hand_all s [] hands = hands
-in_hand_all s (call ∷ calls) hands = in_hand_all (step s call) calls (kept_after (λ m. Unit {0}) AreInHand kept_in_hand s call (reply_to s call) (is_any call) refl hands)
+consistent_all : (s : HubState) (calls : List Call) → AreConsistent s → AreConsistent (fold step s calls)
+consistent_all s [] all = all
+consistent_all s (call ∷ calls) all = consistent_all (step s call) calls (kept_after (λ m. Unit {0}) AreConsistent kept_consistent s call (reply_to s call) (is_any call) refl all)
 
--- the event of a message that hands the wagon to a railway
+-- the share of a message that all the wagon to a railway
 receiver_named : (s : HubState) (m : Message) (w : ℕ) (r : Railway) → has (named_wagons s.offer m) w ≡ true → new_responsible m.by (event_body_for s.offer m.by m.body w) ≡ Some r → receiver_in m.by m.body w ≡ Some r
 receiver_named s m w r n h =
     sym (share_taker s.offer m.by m.no m.body w) ∙
@@ -155,14 +155,14 @@ asked_answers : (s : HubState) (by : Railway) (a : TrainAnswer) → whole_fault 
 asked_answers s by a h = let checks = passed (whole_checks s by (body.Answer a)) h in text_is (asked_by (s.offer a.offerer a.offer)) by (not-false _ checks.1.0)
 
 -- and where it received a wagon, that is in an open offer of the responsible railway
-answered_from : (s : HubState) (hands : AreInHand s) (by : Railway) (number : ℕ) (a : TrainAnswer) (w : ℕ) (r : Railway) → fault s (msg by number (body.Answer a)) ≡ None →
+answered_from : (s : HubState) (all : AreConsistent s) (by : Railway) (number : ℕ) (a : TrainAnswer) (w : ℕ) (r : Railway) → fault s (msg by number (body.Answer a)) ≡ None →
     has a.received w ≡ true → responsible (s.journey w) ≡ Some r → ReceivesFrom s r by (body.Answer a) w
-answered_from s hands by number a w r f received h =
+answered_from s all by number a w r f received h =
     let whole = no_whole_fault s (msg by number (body.Answer a)) f in
     let fits = answer_fits s by a whole in
     let inside = listed (wagons_of (s.offer a.offerer a.offer)) (a.received ++ a.refused) w fits.1 (has_left a.received a.refused w received) in
-    let offered = hands.sound.offered a.offerer a.offer w fits.0 inside in
-    let same : a.offerer ≡ r = same_Some a.offerer r (sym ((hands.each w).offerer (a.offerer, a.offer) offered) ∙ h) in
+    let offered = all.sound.offered a.offerer a.offer w fits.0 inside in
+    let same : a.offerer ≡ r = same_Some a.offerer r (sym ((all.each w).offerer (a.offerer, a.offer) offered) ∙ h) in
     let asked = asked_answers s by a whole in (
       same,
       received,
@@ -170,25 +170,25 @@ answered_from s hands by number a w r f received h =
       (subst (λ q. s.is_open q a.offer ≡ true) same fits.0, subst (λ q. has (wagons_of (s.offer q a.offer)) w ≡ true) same inside),
     )
 
-received_from : (s : HubState) (hands : AreInHand s) (by : Railway) (number : ℕ) (says : Body) (w : ℕ) (r : Railway) → fault s (msg by number says) ≡ None →
+received_from : (s : HubState) (all : AreConsistent s) (by : Railway) (number : ℕ) (says : Body) (w : ℕ) (r : Railway) → fault s (msg by number says) ≡ None →
     is_reception (event_body_for s.offer by says w) ≡ true → responsible (s.journey w) ≡ Some r → ReceivesFrom s r by says w
-received_from s hands by number (body.Answer a) w r f k h = answered_from s hands by number a w r f k h
-received_from s hands by number (body.Plan p) w r f k h = absurd (false≢true k)
-received_from s hands by number (body.Movement m) w r f k h = absurd (false≢true k)
-received_from s hands by number (body.EtiAsk v) w r f k h = absurd (false≢true k)
-received_from s hands by number (body.LegTime v leg minutes) w r f k h = absurd (false≢true k)
-received_from s hands by number (body.Offer o) w r f k h = absurd (false≢true k)
-received_from s hands by number (body.Withdraw at n) w r f k h = absurd (false≢true k)
-received_from s hands by number (body.Reroute v route) w r f k h = absurd (false≢true k)
+received_from s all by number (body.Answer a) w r f k h = answered_from s all by number a w r f k h
+received_from s all by number (body.Plan p) w r f k h = absurd (false≢true k)
+received_from s all by number (body.Movement m) w r f k h = absurd (false≢true k)
+received_from s all by number (body.EtiAsk v) w r f k h = absurd (false≢true k)
+received_from s all by number (body.LegTime v leg minutes) w r f k h = absurd (false≢true k)
+received_from s all by number (body.Offer o) w r f k h = absurd (false≢true k)
+received_from s all by number (body.Withdraw at n) w r f k h = absurd (false≢true k)
+received_from s all by number (body.Reroute v route) w r f k h = absurd (false≢true k)
 
 -- what an accepted message changes
-module _ (s : HubState) (hands : AreInHand s) (m : Message) (f : fault s m ≡ None) (w : ℕ) (r : Railway) where
+module _ (s : HubState) (all : AreConsistent s) (m : Message) (f : fault s m ≡ None) (w : ℕ) (r : Railway) where
   message_becomes : responsible (journey_after s m w) ≡ Some r → (responsible (s.journey w) ≡ Some r → ⊥) → (m.by ≡ r) × (receiver_in r m.body w ≡ Some r)
   message_becomes h k = elim (cases_Bool (has (named_wagons s.offer m) w)) [
     | inl n ↦
         (let here : responsible (with_event (s.journey w) (event_for s.offer m w)) ≡ Some r =
         sym (ap (λ b. responsible (cond b (with_event (s.journey w) (event_for s.offer m w)) (s.journey w))) n) ∙ h in
-        let takes_over = named_becomes s hands m f w n r here k in
+        let takes_over = named_becomes s all m f w n r here k in
         let own = taker_is m.by (event_body_for s.offer m.by m.body w) r takes_over in
         (own, subst (λ q. receiver_in q m.body w ≡ Some r) own (receiver_named s m w r n takes_over)))
     | inr n ↦ absurd (k (sym (ap (λ b. responsible (cond b (with_event (s.journey w) (event_for s.offer m w)) (s.journey w))) n) ∙ h))
@@ -197,9 +197,9 @@ module _ (s : HubState) (hands : AreInHand s) (m : Message) (f : fault s m ≡ N
   message_stops : responsible (s.journey w) ≡ Some r → (responsible (journey_after s m w) ≡ Some r → ⊥) → ((m.by ≡ r) × (delivers m.body w ≡ true)) ⊎ ReceivesFrom s r m.by m.body w
   message_stops h k = elim (cases_Bool (has (named_wagons s.offer m) w)) [
     | inl n ↦
-        (elim (named_stops s hands m f w n r h (λ e. k (ap (λ b. responsible (cond b (with_event (s.journey w) (event_for s.offer m w)) (s.journey w))) n ∙ e))) [
+        (elim (named_stops s all m f w n r h (λ e. k (ap (λ b. responsible (cond b (with_event (s.journey w) (event_for s.offer m w)) (s.journey w))) n ∙ e))) [
           | inl d ↦ inl (d.0, delivers_named s.offer m.by m.body w n d.1)
-          | inr e ↦ inr (received_from s hands m.by m.no m.body w r f e h)
+          | inr e ↦ inr (received_from s all m.by m.no m.body w r f e h)
         ])
     | inr n ↦ absurd (k (ap (λ b. responsible (cond b (with_event (s.journey w) (event_for s.offer m w)) (s.journey w))) n ∙ h))
   ]
@@ -211,34 +211,34 @@ unchanged s t call w r e = record {
   stops = λ h k. absurd (k (ap responsible e ∙ h));
 }
 
-sent_by_consent : (s : HubState) → AreInHand s → (m : Message) (w : ℕ) (r : Railway) → accepts s m ≡ true → IsByConsent s (step s (Send m)) (Send m) w r
-sent_by_consent s hands m w r t =
+sent_by_consent : (s : HubState) → AreConsistent s → (m : Message) (w : ℕ) (r : Railway) → accepts s m ≡ true → IsByConsent s (step s (Send m)) (Send m) w r
+sent_by_consent s all m w r t =
     let parts = and_parts (is_none (s.first_send m.by m.no)) (is_none (fault s m)) t in
     let f = none_fault (fault s m) parts.1 in
     let after : (step s (Send m)).journey w ≡ journey_after s m w = step-journey s m w ∙ ap (λ b. cond b (journey_after s m w) (s.journey w)) t in
-    let accepts : IsAcceptedSend s (Send m) m = record { sent = refl; after_acceptance = t } in
+    let accepts : IsAcceptedSend s (Send m) m = record { sent = refl; accepted = t } in
     record {
-      becomes = λ h k. let own = message_becomes s hands m f w r (sym (ap responsible after) ∙ h) k in (m, accepts, own.0, own.1);
-      stops = λ h k. (m, accepts, message_stops s hands m f w r h (λ e. k (ap responsible after ∙ e)));
+      becomes = λ h k. let own = message_becomes s all m f w r (sym (ap responsible after) ∙ h) k in (m, accepts, own.0, own.1);
+      stops = λ h k. (m, accepts, message_stops s all m f w r h (λ e. k (ap responsible after ∙ e)));
     }
 
-by_consent : (s : HubState) → AreInHand s → (call : Call) (w : ℕ) (r : Railway) → IsByConsent s (step s call) call w r
-by_consent s hands (Send m) w r = elim (cases_Bool (accepts s m)) [
-  | inl t ↦ sent_by_consent s hands m w r t
+by_consent : (s : HubState) → AreConsistent s → (call : Call) (w : ℕ) (r : Railway) → IsByConsent s (step s call) call w r
+by_consent s all (Send m) w r = elim (cases_Bool (accepts s m)) [
+  | inl t ↦ sent_by_consent s all m w r t
   | inr t ↦ unchanged s (step s (Send m)) (Send m) w r (step-journey s m w ∙ ap (λ b. cond b (journey_after s m w) (s.journey w)) t)
 ]
-by_consent s hands (Ack by k) w r = unchanged s (step s (Ack by k)) (Ack by k) w r (acks_journey s w by k (reply_to s (Ack by k)))
-by_consent s hands (Ask by v) w r = unchanged s s (Ask by v) w r refl
-by_consent s hands (AskUnit by u) w r = unchanged s s (AskUnit by u) w r refl
-by_consent s hands (Deviation by c) w r = unchanged s s (Deviation by c) w r refl
-by_consent s hands (Fetch by limit) w r = unchanged s s (Fetch by limit) w r refl
+by_consent s all (Ack by k) w r = unchanged s (step s (Ack by k)) (Ack by k) w r (acks_journey s w by k (reply_to s (Ack by k)))
+by_consent s all (Ask by v) w r = unchanged s s (Ask by v) w r refl
+by_consent s all (AskUnit by u) w r = unchanged s s (AskUnit by u) w r refl
+by_consent s all (Deviation by c) w r = unchanged s s (Deviation by c) w r refl
+by_consent s all (Fetch by limit) w r = unchanged s s (Fetch by limit) w r refl
 
 pub calls_by_consent : CallsByConsent
 calls_by_consent calls call w r =
     subst (λ t. IsByConsent (state_after calls) t call w r) (sym (state_after-push calls call))
-    (by_consent (state_after calls) (in_hand_all new_state calls in_hand_at_first) call w r)
+    (by_consent (state_after calls) (consistent_all new_state calls all_nothing) call w r)
 
 pub entries_by_consent : EntriesByConsent
 entries_by_consent history call w r legal =
     subst (λ t. IsByConsent (state_of history) t call w r) (sym (state_of-push history (record { call = call; reply = answer history call })))
-    (by_consent (state_of history) (kept_from (λ m. Unit {0}) AreInHand kept_in_hand new_state history legal (each_any history) in_hand_at_first) call w r)
+    (by_consent (state_of history) (kept_from (λ m. Unit {0}) AreConsistent kept_consistent new_state history legal (each_any history) all_nothing) call w r)

@@ -5,6 +5,7 @@ mod ReplyExamples
 mod FullExamples
 mod RouteExamples
 mod UnitExamples
+mod OutsiderExamples
 pub mod HistoryLemmas
 pub mod NamedWagonLemmas
 pub mod NoFaultLemmas

@@ -45,7 +45,7 @@ use Rattle.hub_model.specs.Replies.{reply_to, refusal_reply, verdict, send_reply
 use Rattle.hub_model.specs.Updates.{after_call}
 use Rattle.hub_model.specs.Histories.{step, state_after}
 use Rattle.hub_model.specs.AcceptedMessages.{accepts, accepted_message, items_from}
-use Rattle.hub_model.specs.NeedToKnow.{IsOnTrip, RecordsStayOnTrip, is_verdict, MessagesGetVerdicts, Concerns, ItemsConcern, ComesOfConcern, OutboxesConcern, OutsidersLearnNothing}
+use Rattle.hub_model.specs.NeedToKnow.{IsOfTrip, RecordsAreForTheTrip, is_verdict, MessagesGetVerdicts, Concerns, ItemsGoToTheConcerned, HasSource, ItemsHaveSources, OutsidersLearnWhetherKnown}
 use Rattle.hub_model.proofs.ListLemmas.{outbox_list}
 use Rattle.hub_model.proofs.NoFaultLemmas.{msg}
 use Rattle.hub_model.proofs.StepLemmas.{state_after-push, step-first_send}
@@ -68,8 +68,8 @@ any_runner (l ∷ ls) r h = elim (or_cases (bytes_eq l.ru r) (list_any (λ k. by
 ]
 
 -- whoever may see a wagon is on its trip
-on_trip : (events : List Event) (by : Railway) → may_see events by ≡ true → IsOnTrip events by
-on_trip events by h = elim (or_cases (is_text (lead_of events) by) (list_any (λ l. bytes_eq l.ru by) (legs events)) h) [
+of_trip : (events : List Event) (by : Railway) → may_see events by ≡ true → IsOfTrip events by
+of_trip events by h = elim (or_cases (is_text (lead_of events) by) (list_any (λ l. bytes_eq l.ru by) (legs events)) h) [
   | inl e ↦ inl (text_is (lead_of events) by e)
   | inr e ↦ inr (any_runner (legs events) by e)
 ]
@@ -92,15 +92,15 @@ wagon_in w events None st r h = absurd (none-some r h)
 wagon_in w events (Some p) None r h = absurd (none-some r h)
 wagon_in w events (Some p) (Some st) r h = ap (λ (x : Record). x.wagon) (same_Some (record_in w events p st) r h)
 
-shown_on_trip : (s : HubState) (by : Railway) (w : ℕ) (why also : Why) (u v : Option ℕ) (r : Record) → record_reply by (s.journey w) (record_of w (s.journey w)) (refusal_reply why u) (refusal_reply also v) ≡ One r →
-    IsOnTrip (s.journey r.wagon) by
-shown_on_trip s by w why also u v r h =
+shown_of_trip : (s : HubState) (by : Railway) (w : ℕ) (why also : Why) (u v : Option ℕ) (r : Record) → record_reply by (s.journey w) (record_of w (s.journey w)) (refusal_reply why u) (refusal_reply also v) ≡ One r →
+    IsOfTrip (s.journey r.wagon) by
+shown_of_trip s by w why also u v r h =
     let e = shown by (s.journey w) (record_of w (s.journey w)) why also u v r h in
-    subst (λ x. IsOnTrip (s.journey x) by) (wagon_in w (s.journey w) (plan (s.journey w)) (stage (s.journey w)) r e.1) (on_trip (s.journey w) by e.0)
+    subst (λ x. IsOfTrip (s.journey x) by) (wagon_in w (s.journey w) (plan (s.journey w)) (stage (s.journey w)) r e.1) (of_trip (s.journey w) by e.0)
 
-unit_shown : (s : HubState) (by : Railway) (o : Option ℕ) (r : Record) → unit_reply s by o ≡ One r → IsOnTrip (s.journey r.wagon) by
+unit_shown : (s : HubState) (by : Railway) (o : Option ℕ) (r : Record) → unit_reply s by o ≡ One r → IsOfTrip (s.journey r.wagon) by
 unit_shown s by None r h = absurd (no_record UnknownUnit None r h)
-unit_shown s by (Some w) r h = shown_on_trip s by w UnknownUnit NotYours None None r h
+unit_shown s by (Some w) r h = shown_of_trip s by w UnknownUnit NotYours None None r h
 
 leads : (b : Bool) (rs qs : List Record) → cond b (Many rs) (refusal_reply NotYours None) ≡ Many qs → b ≡ true
 leads true rs qs h = refl
@@ -110,9 +110,9 @@ lead_shown : (s : HubState) (by : Railway) (o : Option Trip) (rs : List Record) 
 lead_shown s by None rs h = cc
 lead_shown s by (Some p) rs h = ap Some ((bytes_eq-Decides p.lead by).0 (leads (bytes_eq p.lead by) (deviating_records s p) rs h))
 
-pub records_stay_on_trip : RecordsStayOnTrip
-records_stay_on_trip s by = record {
-  wagon = λ w r h. shown_on_trip s by w UnknownWagon NotYours (Some w) (Some w) r h;
+pub records_are_for_the_trip : RecordsAreForTheTrip
+records_are_for_the_trip s by = record {
+  wagon = λ w r h. shown_of_trip s by w UnknownWagon NotYours (Some w) (Some w) r h;
   unit = λ u r h. unit_shown s by (unit_wagon s u) r h;
   deviations = λ c rs h. lead_shown s by (s.plan_of c) rs h;
 }
@@ -200,10 +200,10 @@ module _ (s : HubState) (m : Message) where
   abbrev IsConcerned : Railway → Type 0
   IsConcerned r = Concerns s m r
 
-  before_it : (w : ℕ) (r : Railway) → has (named_wagons s.offer m) w ≡ true → IsOnTrip (s.journey w) r → IsConcerned r
+  before_it : (w : ℕ) (r : Railway) → has (named_wagons s.offer m) w ≡ true → IsOfTrip (s.journey w) r → IsConcerned r
   before_it w r n h = inr (w, n, inl (inl h))
 
-  after_it : (w : ℕ) (r : Railway) → has (named_wagons s.offer m) w ≡ true → IsOnTrip (journey_after s m w) r → IsConcerned r
+  after_it : (w : ℕ) (r : Railway) → has (named_wagons s.offer m) w ≡ true → IsOfTrip (journey_after s m w) r → IsConcerned r
   after_it w r n h = inr (w, n, inr (inl h))
 
   responsible_after_it : (w : ℕ) (r : Railway) → has (named_wagons s.offer m) w ≡ true → responsible (journey_after s m w) ≡ Some r → IsConcerned r
@@ -313,8 +313,8 @@ sub_concerned s by number (body.Offer o) = All-nil (λ i. Concerns s (msg by num
 sub_concerned s by number (body.Withdraw at n) = All-nil (λ i. Concerns s (msg by number (body.Withdraw at n)) i.to)
 sub_concerned s by number (body.Reroute w route) = All-nil (λ i. Concerns s (msg by number (body.Reroute w route)) i.to)
 
-pub items_concern : ItemsConcern
-items_concern s m =
+pub items_go_to_the_concerned : ItemsGoToTheConcerned
+items_go_to_the_concerned s m =
     let P : AddressedItem → Type 0 = λ i. Concerns s m i.to in
     let rs = notice_receivers s (journey_after s m) m.by m.body in
     let notice : Railway → AddressedItem = λ r. record { to = r; body = item.Notice m } in
@@ -341,50 +341,50 @@ to_railway P r (i ∷ items) h =
 
 -- those of a call after calls
 of_message : (before : List Call) (m : Message) (later : List Call) → accepts (state_after before) m ≡ true →
-    All (λ i. ComesOfConcern (before ++ Send m ∷ later) i.to i.body) (items_of (state_after before) m)
+    All (λ i. HasSource (before ++ Send m ∷ later) i.to i.body) (items_of (state_after before) m)
 of_message before m later t =
     let s = state_after before in
-    let both : All (λ i. Contains (items_of s m) i × Concerns s m i.to) (items_of s m) = λ k d h. (All-contains_itself (items_of s m) k d h, items_concern s m k d h) in
-    All-weaker (λ i. Contains (items_of s m) i × Concerns s m i.to) (λ i. ComesOfConcern (before ++ Send m ∷ later) i.to i.body)
-    (λ i h. record { before = before; message = m; later = later; sent = refl; after_acceptance = t; made = h.0; concerned = h.1 })
+    let both : All (λ i. Contains (items_of s m) i × Concerns s m i.to) (items_of s m) = λ k d h. (All-contains_itself (items_of s m) k d h, items_go_to_the_concerned s m k d h) in
+    All-weaker (λ i. Contains (items_of s m) i × Concerns s m i.to) (λ i. HasSource (before ++ Send m ∷ later) i.to i.body)
+    (λ i h. record { before = before; message = m; later = later; sent = refl; accepted = t; made = h.0; concerned = h.1 })
     (items_of s m) both
 
 of_taken : (before : List Call) (m : Message) (later : List Call) (b : Bool) → accepts (state_after before) m ≡ b →
-    All (λ i. ComesOfConcern (before ++ Send m ∷ later) i.to i.body) (flat_map (items_of (state_after before)) (cond b (m ∷ []) []))
+    All (λ i. HasSource (before ++ Send m ∷ later) i.to i.body) (flat_map (items_of (state_after before)) (cond b (m ∷ []) []))
 of_taken before m later true t =
-    All-append (λ i. ComesOfConcern (before ++ Send m ∷ later) i.to i.body) (items_of (state_after before) m) []
-    (of_message before m later t) (All-nil (λ i. ComesOfConcern (before ++ Send m ∷ later) i.to i.body))
-of_taken before m later false t = All-nil (λ i. ComesOfConcern (before ++ Send m ∷ later) i.to i.body)
+    All-append (λ i. HasSource (before ++ Send m ∷ later) i.to i.body) (items_of (state_after before) m) []
+    (of_message before m later t) (All-nil (λ i. HasSource (before ++ Send m ∷ later) i.to i.body))
+of_taken before m later false t = All-nil (λ i. HasSource (before ++ Send m ∷ later) i.to i.body)
 
-of_call : (before : List Call) (call : Call) (later : List Call) → All (λ i. ComesOfConcern (before ++ call ∷ later) i.to i.body) (flat_map (items_of (state_after before)) (accepted_message (state_after before) call))
+of_call : (before : List Call) (call : Call) (later : List Call) → All (λ i. HasSource (before ++ call ∷ later) i.to i.body) (flat_map (items_of (state_after before)) (accepted_message (state_after before) call))
 of_call before (Send m) later = of_taken before m later (accepts (state_after before) m) refl
-of_call before (Ask by w) later = All-nil (λ i. ComesOfConcern (before ++ Ask by w ∷ later) i.to i.body)
-of_call before (AskUnit by u) later = All-nil (λ i. ComesOfConcern (before ++ AskUnit by u ∷ later) i.to i.body)
-of_call before (Deviation by c) later = All-nil (λ i. ComesOfConcern (before ++ Deviation by c ∷ later) i.to i.body)
-of_call before (Fetch by limit) later = All-nil (λ i. ComesOfConcern (before ++ Fetch by limit ∷ later) i.to i.body)
-of_call before (Ack by n) later = All-nil (λ i. ComesOfConcern (before ++ Ack by n ∷ later) i.to i.body)
+of_call before (Ask by w) later = All-nil (λ i. HasSource (before ++ Ask by w ∷ later) i.to i.body)
+of_call before (AskUnit by u) later = All-nil (λ i. HasSource (before ++ AskUnit by u ∷ later) i.to i.body)
+of_call before (Deviation by c) later = All-nil (λ i. HasSource (before ++ Deviation by c ∷ later) i.to i.body)
+of_call before (Fetch by limit) later = All-nil (λ i. HasSource (before ++ Fetch by limit ∷ later) i.to i.body)
+of_call before (Ack by n) later = All-nil (λ i. HasSource (before ++ Ack by n ∷ later) i.to i.body)
 
-of_calls : (before calls : List Call) → All (λ i. ComesOfConcern (before ++ calls) i.to i.body) (items_from (state_after before) calls)
-of_calls before [] = All-nil (λ i. ComesOfConcern (before ++ []) i.to i.body)
+of_calls : (before calls : List Call) → All (λ i. HasSource (before ++ calls) i.to i.body) (items_from (state_after before) calls)
+of_calls before [] = All-nil (λ i. HasSource (before ++ []) i.to i.body)
 of_calls before (call ∷ calls) =
     let s = state_after before in
-    let P : AddressedItem → Type 0 = λ i. ComesOfConcern (before ++ call ∷ calls) i.to i.body in
-    let rest : All (λ i. ComesOfConcern ((before ++ call ∷ []) ++ calls) i.to i.body) (items_from (state_after (before ++ call ∷ [])) calls) = of_calls (before ++ call ∷ []) calls in
+    let P : AddressedItem → Type 0 = λ i. HasSource (before ++ call ∷ calls) i.to i.body in
+    let rest : All (λ i. HasSource ((before ++ call ∷ []) ++ calls) i.to i.body) (items_from (state_after (before ++ call ∷ [])) calls) = of_calls (before ++ call ∷ []) calls in
     let same : All P (items_from (state_after (before ++ call ∷ [])) calls) =
-    subst (λ cs. All (λ i. ComesOfConcern cs i.to i.body) (items_from (state_after (before ++ call ∷ [])) calls)) (append_assoc before (call ∷ []) calls) rest in
+    subst (λ cs. All (λ i. HasSource cs i.to i.body) (items_from (state_after (before ++ call ∷ [])) calls)) (append_assoc before (call ∷ []) calls) rest in
     All-append P (flat_map (items_of s) (accepted_message s call)) (items_from (step s call) calls) (of_call before call calls)
     (subst (λ t. All P (items_from t calls)) (state_after-push before call) same)
 
-pub outboxes_concern : OutboxesConcern
-outboxes_concern calls r =
-    subst (All (ComesOfConcern calls r)) (sym (outbox_list r calls)) (to_railway (ComesOfConcern calls) r (items_from new_state calls) (of_calls [] calls))
+pub items_have_sources : ItemsHaveSources
+items_have_sources calls r =
+    subst (All (HasSource calls r)) (sym (outbox_list r calls)) (to_railway (HasSource calls) r (items_from new_state calls) (of_calls [] calls))
 
 -- the reply to an outsider
-outsider_reply : (by : Railway) (events : List Event) (o : Option Record) (unknown unseen : Reply) → (IsOnTrip events by → ⊥) → record_reply by events o unknown unseen ≡ cond (is_some o) unseen unknown
+outsider_reply : (by : Railway) (events : List Event) (o : Option Record) (unknown unseen : Reply) → (IsOfTrip events by → ⊥) → record_reply by events o unknown unseen ≡ cond (is_some o) unseen unknown
 outsider_reply by events None unknown unseen n = refl
-outsider_reply by events (Some r) unknown unseen n = ap (λ b. cond b (One r) unseen) (false_from_ne_true (may_see events by) (λ h. n (on_trip events by h)))
+outsider_reply by events (Some r) unknown unseen n = ap (λ b. cond b (One r) unseen) (false_from_ne_true (may_see events by) (λ h. n (of_trip events by h)))
 
-outsider_unit : (s : HubState) (by : Railway) (o : Option ℕ) → ((w : ℕ) → o ≡ Some w → IsOnTrip (s.journey w) by → ⊥) →
+outsider_unit : (s : HubState) (by : Railway) (o : Option ℕ) → ((w : ℕ) → o ≡ Some w → IsOfTrip (s.journey w) by → ⊥) →
     unit_reply s by o ≡ cond (is_some (option_and_then (λ w. record_of w (s.journey w)) o)) (refusal_reply NotYours None) (refusal_reply UnknownUnit None)
 outsider_unit s by None n = refl
 outsider_unit s by (Some w) n = outsider_reply by (s.journey w) (record_of w (s.journey w)) (refusal_reply UnknownUnit None) (refusal_reply NotYours None) (n w refl)
@@ -394,15 +394,15 @@ outsider_deviation s by None n = refl
 outsider_deviation s by (Some p) n =
     ap (λ b. cond b (Many (deviating_records s p)) (refusal_reply NotYours None)) (false_from_ne_true (bytes_eq p.lead by) (λ h. n (ap Some ((bytes_eq-Decides p.lead by).0 h))))
 
-pub outsiders_learn_nothing : OutsidersLearnNothing
-outsiders_learn_nothing s t (Ask by w) n k e =
+pub outsiders_learn_whether_known : OutsidersLearnWhetherKnown
+outsiders_learn_whether_known s t (Ask by w) n k e =
     outsider_reply by (s.journey w) (record_of w (s.journey w)) (refusal_reply UnknownWagon (Some w)) (refusal_reply NotYours (Some w)) n ∙
     ap (λ b. cond b (refusal_reply NotYours (Some w)) (refusal_reply UnknownWagon (Some w))) e ∙
     sym (outsider_reply by (t.journey w) (record_of w (t.journey w)) (refusal_reply UnknownWagon (Some w)) (refusal_reply NotYours (Some w)) k)
-outsiders_learn_nothing s t (AskUnit by u) n k e =
+outsiders_learn_whether_known s t (AskUnit by u) n k e =
     outsider_unit s by (unit_wagon s u) n ∙ ap (λ b. cond b (refusal_reply NotYours None) (refusal_reply UnknownUnit None)) e ∙ sym (outsider_unit t by (unit_wagon t u) k)
-outsiders_learn_nothing s t (Deviation by c) n k e =
+outsiders_learn_whether_known s t (Deviation by c) n k e =
     outsider_deviation s by (s.plan_of c) n ∙ ap (λ b. cond b (refusal_reply NotYours None) (refusal_reply UnknownConsignment None)) e ∙ sym (outsider_deviation t by (t.plan_of c) k)
-outsiders_learn_nothing s t (Send m) n k e = absurd n
-outsiders_learn_nothing s t (Fetch by limit) n k e = absurd n
-outsiders_learn_nothing s t (Ack by i) n k e = absurd n
+outsiders_learn_whether_known s t (Send m) n k e = absurd n
+outsiders_learn_whether_known s t (Fetch by limit) n k e = absurd n
+outsiders_learn_whether_known s t (Ack by i) n k e = absurd n

@@ -30,7 +30,7 @@ is_early (Some stage_is.Released) = true
 is_early _ = false
 
 -- a wagon that is planned or released has not departed, and the railway that made the offer it is in answers for it
-pub record IsInHand (events : List Event) : Type 0 where
+pub record IsConsistent (events : List Event) : Type 0 where
   pub waits : is_early (stage events) ≡ true → has_departed events ≡ false
   pub offerer : (x : Railway × ℕ) → in_offer events ≡ Some x → responsible events ≡ Some x.0
 
@@ -136,20 +136,20 @@ offerer_said events by number at EstimateAsked r k x h = stays events (an by num
 offerer_said events by number at (LegTimed leg minutes) r k x h = stays events (an by number at (LegTimed leg minutes)) refl refl refl ∙ k x h
 offerer_said events by number at (Rerouted route) r k x h = stays events (an by number at (Rerouted route)) refl refl refl ∙ k x h
 
--- an event that may come next keeps a wagon in hand
-pub in_hand-push : (events : List Event) (e : Event) → refusal events e.by e.body ≡ None → IsInHand events → IsInHand (events ++ e ∷ [])
-in_hand-push events e r k = record {
+-- an event that may come next keeps that
+pub consistent-push : (events : List Event) (e : Event) → refusal events e.by e.body ≡ None → IsConsistent events → IsConsistent (events ++ e ∷ [])
+consistent-push events e r k = record {
   waits = λ h. list_any-append (λ d. is_departure d.body) events (e ∷ []) ∙ waits_said events e.by e.body r k.waits (ap is_early (sym (stage-push events e)) ∙ h);
   offerer = λ x h. offerer_said events e.by e.no e.at e.body r k.offerer x (sym (in_offer-push events e) ∙ h);
 }
 
 -- so does a plan, which begins the journey anew
-pub in_hand_anew : (by : Railway) (number : ℕ) (at : Option ℕ) (says : EventBody) → is_plan says ≡ true → IsInHand (an by number at says ∷ [])
-in_hand_anew by number at (Planned p) h = record { waits = λ e. refl; offerer = λ x e. absurd (none-some x e) }
-in_hand_anew by number at _ h = absurd (false≢true h)
+pub consistent_anew : (by : Railway) (number : ℕ) (at : Option ℕ) (says : EventBody) → is_plan says ≡ true → IsConsistent (an by number at says ∷ [])
+consistent_anew by number at (Planned p) h = record { waits = λ e. refl; offerer = λ x e. absurd (none-some x e) }
+consistent_anew by number at _ h = absurd (false≢true h)
 
-pub in_hand_nothing : IsInHand []
-in_hand_nothing = record { waits = λ e. refl; offerer = λ x e. absurd (none-some x e) }
+pub consistent_nothing : IsConsistent []
+consistent_nothing = record { waits = λ e. refl; offerer = λ x e. absurd (none-some x e) }
 
 -- and then nobody answers for it
 pub none_anew : (by : Railway) (number : ℕ) (at : Option ℕ) (says : EventBody) → is_plan says ≡ true → responsible (an by number at says ∷ []) ≡ None
@@ -206,20 +206,20 @@ not_departed events r d h =
     none-some r (ap (λ b. cond (b && not (is_delivered events)) (newest (λ x. new_responsible x.by x.body) events) None) (sym d) ∙ h)
 
 -- so what takes the wagon over from a railway is an answer that received it
-received_then : (events : List Event) (by : Railway) (says : EventBody) (r : Railway) → is_some (new_responsible by says) ≡ true → refusal events by says ≡ None → IsInHand events → responsible events ≡ Some r →
+received_then : (events : List Event) (by : Railway) (says : EventBody) (r : Railway) → is_some (new_responsible by says) ≡ true → refusal events by says ≡ None → IsConsistent events → responsible events ≡ Some r →
     is_reception says ≡ true
-received_then events by (Moved Departure) r k f hand h =
+received_then events by (Moved Departure) r k f kept h =
     let p = passed (movement_checks (journey_state events) by Departure) f in
-    absurd (not_departed events r (hand.waits (released_early (stage events) (not-false _ p.0))) h)
-received_then events by (Answered place true) r k f hand h = refl
-received_then events by (Answered place false) r k f hand h = absurd (false≢true k)
-received_then events by _ r k f hand h = absurd (false≢true k)
+    absurd (not_departed events r (kept.waits (released_early (stage events) (not-false _ p.0))) h)
+received_then events by (Answered place true) r k f kept h = refl
+received_then events by (Answered place false) r k f kept h = absurd (false≢true k)
+received_then events by _ r k f kept h = absurd (false≢true k)
 
 -- whoever stops being responsible by an event that may come next delivers the wagon by it, or another receives it by it
-pub event_stops : (events : List Event) (e : Event) (r : Railway) → refusal events e.by e.body ≡ None → IsInHand events → responsible events ≡ Some r →
+pub event_stops : (events : List Event) (e : Event) (r : Railway) → refusal events e.by e.body ≡ None → IsConsistent events → responsible events ≡ Some r →
     (responsible (events ++ e ∷ []) ≡ Some r → ⊥) → ((e.by ≡ r) × (is_delivery e.body ≡ true)) ⊎ (is_reception e.body ≡ true)
-event_stops events e r f hand h n =
+event_stops events e r f kept h n =
     elim (stops_cases (has_departed events) (is_departure e.body) (is_delivered events) (is_delivery e.body) (new_responsible e.by e.body) (newest (λ d. new_responsible d.by d.body) events) r h (λ k. n (responsible-push events e ∙ k))) [
       | inl d ↦ inl (own_delivery events e.by e.body r d f h, d)
-      | inr k ↦ inr (received_then events e.by e.body r k f hand h)
+      | inr k ↦ inr (received_then events e.by e.body r k f kept h)
     ]

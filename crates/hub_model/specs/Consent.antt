@@ -24,9 +24,9 @@ IsResponsible s w r = responsible (s.journey w) ≡ Some r
 -- the call sends this message, which is new and accepted
 pub record IsAcceptedSend (s : HubState) (call : Call) (m : Message) : Type 0 where
   pub sent : call ≡ Send m
-  pub after_acceptance : accepts s m ≡ true
+  pub accepted : accepts s m ≡ true
 
--- by the call the railway takes the wagon over: by its own departure notice, or its own answer that received the wagon
+-- the railway takes the wagon over by the call: its own departure notice, or its own answer that received the wagon
 abbrev pub TakesOver : HubState → Call → ℕ → Railway → Type 0
 TakesOver s call w r = (m : Message) × IsAcceptedSend s call m × (m.by ≡ r) × (receiver_in r m.body w ≡ Some r)
 
@@ -41,7 +41,7 @@ ReceivesFrom s r by (body.Answer a) w =
     (a.offerer ≡ r) × (has a.received w ≡ true) × (asked_by (s.offer r a.offer) ≡ Some by) × IsInOpenOffer s r a.offer w
 ReceivesFrom s r by _ w = ⊥
 
--- by the call the railway gives the wagon up: by its own delivery notice, or by an answer that received the wagon from it
+-- the railway gives the wagon up by the call: its own delivery notice, or an answer that received the wagon from it
 abbrev pub GivesUp : HubState → Call → ℕ → Railway → Type 0
 GivesUp s call w r =
     (m : Message) × IsAcceptedSend s call m × (((m.by ≡ r) × (delivers m.body w ≡ true)) ⊎ ReceivesFrom s r m.by m.body w)

@@ -25,23 +25,23 @@ use Rattle.hub_model.specs.Replies.{reply_to}
 use Rattle.hub_model.specs.Histories.{state_after}
 use Rattle.hub_model.specs.AcceptedMessages.{accepts}
 
--- the railway is the lead of the wagon's plan, or runs one of its legs
-abbrev pub IsOnTrip : List Event → Railway → Type 0
-IsOnTrip events r = (lead_of events ≡ Some r) ⊎ Contains (runners (legs events)) r
+-- the railway is of the wagon's trip: its lead, or the railway of one of its legs
+abbrev pub IsOfTrip : List Event → Railway → Type 0
+IsOfTrip events r = (lead_of events ≡ Some r) ⊎ Contains (runners (legs events)) r
 
 -- the railway is the lead of the plan of the consignment
 abbrev pub IsLead : HubState → ConsignmentId → Railway → Type 0
 IsLead s c r = option_map (λ p. p.lead) (s.plan_of c) ≡ Some r
 
--- questions show the record of a wagon to those on its trip alone, and deviations to the lead alone (4.2.11)
+-- a question shows the record of a wagon to a railway of its trip alone, and deviations to the lead alone (4.2.11)
 pub record IsShownTo (s : HubState) (by : Railway) : Type 0 where
-  pub wagon : (w : ℕ) (r : Record) → reply_to s (Ask by w) ≡ One r → IsOnTrip (s.journey r.wagon) by
-  pub unit : (u : UnitCode) (r : Record) → reply_to s (AskUnit by u) ≡ One r → IsOnTrip (s.journey r.wagon) by
+  pub wagon : (w : ℕ) (r : Record) → reply_to s (Ask by w) ≡ One r → IsOfTrip (s.journey r.wagon) by
+  pub unit : (u : UnitCode) (r : Record) → reply_to s (AskUnit by u) ≡ One r → IsOfTrip (s.journey r.wagon) by
   pub deviations : (c : ConsignmentId) (rs : List Record) → reply_to s (Deviation by c) ≡ Many rs → IsLead s c by
 
 -- so it is for whoever asks, whatever is known
-abbrev pub RecordsStayOnTrip : Type 0
-RecordsStayOnTrip = (s : HubState) (by : Railway) → IsShownTo s by
+abbrev pub RecordsAreForTheTrip : Type 0
+RecordsAreForTheTrip = (s : HubState) (by : Railway) → IsShownTo s by
 
 -- the reply accepts a message or refuses it, and shows nothing else
 abbrev pub is_verdict : Reply → Bool
@@ -53,11 +53,11 @@ is_verdict _ = false
 abbrev pub MessagesGetVerdicts : Type 0
 MessagesGetVerdicts = (calls : List Call) (m : Message) → is_verdict (reply_to (state_after calls) (Send m)) ≡ true
 
--- the railway leads the wagon's trip, runs one of its legs, or answers for the wagon
-abbrev pub HasPart : List Event → Railway → Type 0
-HasPart events r = IsOnTrip events r ⊎ (responsible events ≡ Some r)
+-- the railway is of the wagon's trip, or answers for the wagon
+abbrev pub IsInvolved : List Event → Railway → Type 0
+IsInvolved events r = IsOfTrip events r ⊎ (responsible events ≡ Some r)
 
--- the message names the railway: for a leg, as the one that an offer asks, that made it, or that manages the infrastructure
+-- the message names the railway: for a leg, as the one that an offer asks or that made it, or as the infrastructure manager
 abbrev pub NamesRailway : HubState → Message → Body → Railway → Type 0
 NamesRailway s m (body.Plan p) r = Contains (runners p.legs) r
 NamesRailway s m (body.Reroute w route) r = Contains (runners route) r
@@ -66,32 +66,32 @@ NamesRailway s m (body.Answer a) r = (a.offerer ≡ r) ⊎ (a.manager ≡ Some r
 NamesRailway s m (body.Withdraw at n) r = asked_by (s.offer m.by n) ≡ Some r
 NamesRailway s m _ r = ⊥
 
--- the railway has part in a wagon that the message names, before the message or after it
-abbrev pub HasPartIn : HubState → Message → Railway → Type 0
-HasPartIn s m r =
-    (w : ℕ) × (has (named_wagons s.offer m) w ≡ true) × (HasPart (s.journey w) r ⊎ HasPart (journey_after s m w) r)
+-- before the message or after it, the railway is involved in a wagon that the message names
+abbrev pub IsInvolvedIn : HubState → Message → Railway → Type 0
+IsInvolvedIn s m r =
+    (w : ℕ) × (has (named_wagons s.offer m) w ≡ true) × (IsInvolved (s.journey w) r ⊎ IsInvolved (journey_after s m w) r)
 
 -- the message concerns the railway
 abbrev pub Concerns : HubState → Message → Railway → Type 0
-Concerns s m r = NamesRailway s m m.body r ⊎ HasPartIn s m r
+Concerns s m r = NamesRailway s m m.body r ⊎ IsInvolvedIn s m r
 
--- each item of a message goes to a railway that the message concerns
-abbrev pub ItemsConcern : Type 0
-ItemsConcern = (s : HubState) (m : Message) → All (λ i. Concerns s m i.to) (items_of s m)
+-- each item that a message makes goes to a railway that the message concerns
+abbrev pub ItemsGoToTheConcerned : Type 0
+ItemsGoToTheConcerned = (s : HubState) (m : Message) → All (λ i. Concerns s m i.to) (items_of s m)
 
--- the item is for the railway, and is made by an accepted message of the calls that concerned it
-pub record ComesOfConcern (calls : List Call) (r : Railway) (i : ItemBody) : Type 0 where
+-- the item's source: an accepted message of the calls, which made the item for the railway and concerned it
+pub record HasSource (calls : List Call) (r : Railway) (i : ItemBody) : Type 0 where
   pub before : List Call
   pub message : Message
   pub later : List Call
   pub sent : calls ≡ before ++ Send message ∷ later
-  pub after_acceptance : accepts (state_after before) message ≡ true
+  pub accepted : accepts (state_after before) message ≡ true
   pub made : Contains (items_of (state_after before) message) (record { to = r; body = i })
   pub concerned : Concerns (state_after before) message r
 
--- whatever calls came, each item of an outbox is such an item
-abbrev pub OutboxesConcern : Type 0
-OutboxesConcern = (calls : List Call) (r : Railway) → All (ComesOfConcern calls r) ((state_after calls).outbox r)
+-- whatever calls came, each item of an outbox has one
+abbrev pub ItemsHaveSources : Type 0
+ItemsHaveSources = (calls : List Call) (r : Railway) → All (HasSource calls r) ((state_after calls).outbox r)
 
 -- the question is for what is known: a wagon with a record, a unit on such a wagon, a consignment with a plan
 abbrev pub is_known : HubState → Call → Bool
@@ -100,14 +100,14 @@ is_known s (AskUnit by u) = is_some (option_and_then (λ w. record_of w (s.journ
 is_known s (Deviation by c) = is_some (s.plan_of c)
 is_known s _ = false
 
--- the call is a question for what the railway that asks has no part in
-abbrev pub IsOfOutsider : HubState → Call → Type 0
-IsOfOutsider s (Ask by w) = IsOnTrip (s.journey w) by → ⊥
-IsOfOutsider s (AskUnit by u) = (w : ℕ) → unit_wagon s u ≡ Some w → IsOnTrip (s.journey w) by → ⊥
-IsOfOutsider s (Deviation by c) = IsLead s c by → ⊥
-IsOfOutsider s _ = ⊥
+-- the call is a question of an outsider: of a railway that is not of the trip, or not the lead of the consignment's plan
+abbrev pub IsByOutsider : HubState → Call → Type 0
+IsByOutsider s (Ask by w) = IsOfTrip (s.journey w) by → ⊥
+IsByOutsider s (AskUnit by u) = (w : ℕ) → unit_wagon s u ≡ Some w → IsOfTrip (s.journey w) by → ⊥
+IsByOutsider s (Deviation by c) = IsLead s c by → ⊥
+IsByOutsider s _ = ⊥
 
--- an outsider learns no more than whether it is known
-abbrev pub OutsidersLearnNothing : Type 0
-OutsidersLearnNothing = (s t : HubState) (call : Call) → IsOfOutsider s call → IsOfOutsider t call →
+-- an outsider learns whether what it asks for is known, and nothing else
+abbrev pub OutsidersLearnWhetherKnown : Type 0
+OutsidersLearnWhetherKnown = (s t : HubState) (call : Call) → IsByOutsider s call → IsByOutsider t call →
     is_known s call ≡ is_known t call → reply_to s call ≡ reply_to t call

@@ -23,11 +23,11 @@ ghost use Rattle.hub_model.specs.Laws.{
   OneMoreEntry,
 };
 ghost use Rattle.hub_model.specs.NeedToKnow.{
-  RecordsStayOnTrip,
+  RecordsAreForTheTrip,
   MessagesGetVerdicts,
-  ItemsConcern,
-  OutboxesConcern,
-  OutsidersLearnNothing,
+  ItemsGoToTheConcerned,
+  ItemsHaveSources,
+  OutsidersLearnWhetherKnown,
 };
 ghost use Rattle.hub_model.specs.Overtaking.{
   ApartIsExact,
@@ -123,11 +123,11 @@ pub fn first_sends_stand_in_the_history()
 /// outbox is of an accepted message that concerned its railway. What an outsider is replied to a
 /// question depends on nothing but whether that which it asks for is known.
 pub fn railways_see_what_concerns_them()
-    ensures records { RecordsStayOnTrip }
+    ensures records { RecordsAreForTheTrip }
     ensures messages { MessagesGetVerdicts }
-    ensures items { ItemsConcern }
-    ensures outboxes { OutboxesConcern }
-    ensures outsiders { OutsidersLearnNothing }
+    ensures items { ItemsGoToTheConcerned }
+    ensures outboxes { ItemsHaveSources }
+    ensures outsiders { OutsidersLearnWhetherKnown }
 {}
 
 /// The test of messages that are apart is exact. Whichever of two such messages comes first, each
