@@ -27,7 +27,7 @@ use Rattle.hub_model.specs.Histories.{answer, state_of}
 use Rattle.hub_model.specs.Laws.{IsMoment, EstimatesFit, AlwaysInOrder, OpenIsOffered}
 use Rattle.hub_model.proofs.HistoryLemmas.{one_more_entry}
 use Rattle.hub_model.proofs.StepLemmas.{state_of-push}
-use Rattle.hub_model.proofs.NoFaultLemmas.{ContinuesJourneys, no_known_fault, no_whole_fault, known_allowed, answer_fits, withdraw_fits, listed}
+use Rattle.hub_model.proofs.NoFaultLemmas.{GoesOn, no_known_fault, no_whole_fault, known_allowed, answer_fits, withdraw_fits, listed}
 use Rattle.hub_tables.specs.TableStates.{continues_journeys, IsAcceptable}
 use Rattle.hub_core.specs.States.{Represents, KeepsLimits}
 use Rattle.hub_core.proofs.HistoryLemmas.{each_more}
@@ -62,7 +62,7 @@ module _ (s : HubState) (by : Railway) (number : ℕ) (offered : OpenIsOffered s
   withdraw_offered : (at k w : ℕ) → fault s (msg (body.Withdraw at k)) ≡ None → has (named_wagons s.offer (msg (body.Withdraw at k))) w ≡ true → stage (s.journey w) ≡ Some OfferedStage
   withdraw_offered at k w f h = offered w k by (withdraw_fits s by at k (no_whole_fault s (msg (body.Withdraw at k)) f), h)
 
-  single : (says : Body) (w : ℕ) → ContinuesJourneys says → fault s (msg says) ≡ None → has (named_wagons s.offer (msg says)) w ≡ true →
+  single : (says : Body) (w : ℕ) → GoesOn says → fault s (msg says) ≡ None → has (named_wagons s.offer (msg says)) w ≡ true →
       (is_unknown (s.journey w) ≡ false) × (refusal (s.journey w) by (event_body_for s.offer by says w) ≡ None)
   single says w g f h =
       let k = no_known_fault s by number says w g f h in

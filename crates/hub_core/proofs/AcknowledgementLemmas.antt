@@ -10,7 +10,7 @@ use Rattle.taf_messages.specs.declared.reply.Reply.TheVariants.{Acknowledged, Re
 use Rattle.taf_messages.specs.declared.reply.Why.TheVariants.{AckAhead as Ahead}
 use Rattle.taf_messages.specs.declared.item.ItemBody.{ItemBody}
 use Rattle.outbox.specs.declared.fault.AckAhead.{AckAhead}
-use Rattle.outbox.specs.OutboxStates.{BoxState, OutboxState, outbox_state_of, last_of, acknowledged_to}
+use Rattle.outbox.specs.OutboxStates.{BoxState, OutboxState, outbox_state_of, last_of, acknowledged_up_to}
 use Rattle.outbox.specs.Keeping.{Keeps, LastCounts, Acknowledges}
 use Rattle.hub_model.specs.declared.entry.Entry.{Entry}
 use Rattle.hub_model.specs.HubState.{HubState}
@@ -20,10 +20,10 @@ use Rattle.hub_core.specs.States.{Represents, ack_outcome_reply}
 use Rattle.hub_core.proofs.HistoryLemmas.{kept_more, kept_entered, leads_on}
 
 -- the box of one railway after it
-keeps_acked : (acks : Acknowledges) (b : Bool) (k new : OutboxState) (bodies : List ItemBody) (a m n : ℕ) → new ≡ cond b (acknowledged_to k n) k → Keeps k bodies a →
+keeps_acked : (acks : Acknowledges) (b : Bool) (k new : OutboxState) (bodies : List ItemBody) (a m n : ℕ) → new ≡ cond b (acknowledged_up_to k n) k → Keeps k bodies a →
     (b ≡ true → (n ≤ length bodies) × (m ≡ max a n)) → Keeps new bodies (cond b m a)
 keeps_acked acks true k new bodies a m n is keeps h =
-    subst (λ (c : OutboxState). Keeps c bodies m) (sym is) (subst (λ (c : ℕ). Keeps (acknowledged_to k n) bodies c) (sym (h refl).1) (acks k bodies a n keeps (h refl).0))
+    subst (λ (c : OutboxState). Keeps c bodies m) (sym is) (subst (λ (c : ℕ). Keeps (acknowledged_up_to k n) bodies c) (sym (h refl).1) (acks k bodies a n keeps (h refl).0))
 keeps_acked acks false k new bodies a m n is keeps h = subst (λ (c : OutboxState). Keeps c bodies a) (sym is) keeps
 
 never : false ≡ true → ⊥
@@ -56,7 +56,7 @@ module _ (count : LastCounts) (acks : Acknowledges) (history : List Entry) (by :
       ap (λ (b : Bool). cond b (Refused None Ahead None (Some (length (s.outbox by)))) (Acknowledged (max (s.acknowledged by) n))) (sym (lt-ltb (length (s.outbox by)) n past))
 
   pub kept_ack : (o : Result ℕ AckAhead) → (IsOk o ↔ (n ≤ last_of (outbox_state_of old by))) → IfOk o (λ stands. stands ≡ max (outbox_state_of old by).acknowledged n) → IfErr o (λ x. x.last ≡ last_of (outbox_state_of old by)) →
-      OnOk o ((r : Railway) → outbox_state_of new r ≡ cond (bytes_eq by r) (acknowledged_to (outbox_state_of old r) n) (outbox_state_of old r)) → OnErr o (new ≡ old) →
+      OnOk o ((r : Railway) → outbox_state_of new r ≡ cond (bytes_eq by r) (acknowledged_up_to (outbox_state_of old r) n) (outbox_state_of old r)) → OnErr o (new ≡ old) →
       Represents (history ++ record { call = Ack by n; reply = ack_outcome_reply o } ∷ []) looked_up position (outbox_state_of new)
   kept_ack (Ok stands) when is ahead boxes err =
       let within : n ≤ length (s.outbox by) = subst (λ (k : ℕ). n ≤ k) counted (when.0 refl) in

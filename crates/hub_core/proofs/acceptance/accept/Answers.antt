@@ -1,4 +1,4 @@
-use Rattle.std.proofs.Common.{◌≡◌, ℕ, List, [], ◌∷◌, ◌++◌, Option, Some, None, cond, length, ap, ◌∙◌, ◌<◌, ◌^◌, sym, subst}
+use Rattle.std.proofs.Common.{tt, ◌≡◌, ℕ, List, [], ◌∷◌, ◌++◌, Option, Some, None, cond, length, ap, ◌∙◌, ◌<◌, ◌^◌, sym, subst}
 use Rattle.taf_messages.specs.declared.call.Call.TheVariants.{Send}
 use Rattle.taf_messages.specs.declared.message.Message.{Message}
 use Rattle.taf_messages.specs.declared.reply.Reply.{Reply}
@@ -18,27 +18,35 @@ use Rattle.hub_core.proofs.HistoryLemmas.{kept_same}
 use Rattle.hub_core.proofs.SendLemmas.{few_items, new_answer, kept_accepted}
 use Rattle.hub_core.proofs.acceptance.accept.Goals as goal
 
-pub returns-in_err-make_room-clause-kept : goal.returns-in_err-make_room-clause-kept
-returns-in_err-make_room-clause-kept c =
-    let b = c.args.state.now in
+pub returns-in_err-make_room : goal.returns-in_err-make_room
+returns-in_err-make_room c = record {
+  kept = let b = c.args.state.now in
     let n = c.make_room.new.state in
     let r = c.in_err-make_room.ensures in
     subst (λ (es : List Entry). Represents es (table_state n.tables) (position_of n.seen) (outbox_state_of n.outboxes)) (sym r.entries)
     (kept_same b.history.entries (table_state b.tables) (table_state n.tables) (position_of b.seen) (position_of n.seen) (outbox_state_of b.outboxes) (outbox_state_of n.outboxes)
-    (ap table_state r.tables) (λ by k i. r.positions i by k) r.boxes c.requires.kept)
+    (ap table_state r.tables) (λ by k i. r.positions i by k) r.boxes c.requires.kept);
+  answered = tt;
+  grows = tt;
+  err = c.in_err-make_room.ensures.entries;
+}
 
-pub returns-in_err-accept-clause-kept : goal.returns-in_err-accept-clause-kept
-returns-in_err-accept-clause-kept c =
-    let b = c.args.state.now in
+pub returns-in_err-accept : goal.returns-in_err-accept
+returns-in_err-accept c = record {
+  kept = let b = c.args.state.now in
     let n = c.make_room.new.state in
     let r = c.in_ok-make_room.ensures in
     subst (λ (es : List Entry). Represents es (table_state c.accept.new.self) (position_of n.seen) (outbox_state_of n.outboxes)) (sym r.entries)
     (kept_same b.history.entries (table_state b.tables) (table_state c.accept.new.self) (position_of b.seen) (position_of n.seen) (outbox_state_of b.outboxes) (outbox_state_of n.outboxes)
-    (c.in_err-accept.ensures.err ∙ ap table_state r.tables) (λ by k i. r.positions i by k) r.boxes c.requires.kept)
+    (c.in_err-accept.ensures.err ∙ ap table_state r.tables) (λ by k i. r.positions i by k) r.boxes c.requires.kept);
+  answered = tt;
+  grows = tt;
+  err = c.in_ok-make_room.ensures.entries;
+}
 
-pub returns-clause-kept : goal.returns-clause-kept
-returns-clause-kept c =
-    let b = c.args.state.now in
+pub returns : goal.returns
+returns c = record {
+  kept = let b = c.args.state.now in
     let m = c.args.message in
     let sent = c.get-sent.ensures in
     let same = c.content-content.ensures.value ∙ sent in
@@ -60,18 +68,19 @@ returns-clause-kept c =
     ap (λ (o : Option ℕ). cond (same_name m.by m.no by k) (Some (length b.history.entries)) o) (λ i. r.positions i by k))
     (λ q. c.deliver.ensures q ∙
     ap (λ (k : OutboxState). with_items k (items_to q c.in_ok-items.items.items)) (r.boxes q) ∙
-    ap (λ (is : List AddressedItem). with_items (outbox_state_of b.outboxes q) (items_to q is)) c.in_ok-items.ensures))
-
-pub returns-clause-answered : goal.returns-clause-answered
-returns-clause-answered c =
-    let b = c.args.state.now in
+    ap (λ (is : List AddressedItem). with_items (outbox_state_of b.outboxes q) (items_to q is)) c.in_ok-items.ensures));
+  answered = let b = c.args.state.now in
     c.verdict-2.ensures ∙ ap (λ (x : Message). Accepted x.no) (c.content-content.ensures.value ∙ c.get-sent.ensures) ∙
-    new_answer b.history.entries c.args.message (table_state b.tables) (position_of b.seen) (outbox_state_of b.outboxes) c.requires.kept c.requires.room c.requires.limits c.requires.new None c.requires.acceptable.sound
+    new_answer b.history.entries c.args.message (table_state b.tables) (position_of b.seen) (outbox_state_of b.outboxes) c.requires.kept c.requires.room c.requires.limits c.requires.new None c.requires.acceptable.sound;
+  grows = search rules;
+  err = tt;
+}
 
 pub note_reserved-requires-clause-new : goal.note_reserved-requires-clause-new
 note_reserved-requires-clause-new c =
     let sent = c.content-content.result.now in
     ap (λ (found : Railway → ℕ → Option ℕ). found sent.by sent.no) c.in_ok-make_room.ensures.positions ∙ ap (λ (x : Message). position_of c.args.state.now.seen x.by x.no) (c.content-content.ensures.value ∙ c.get-sent.ensures) ∙ c.requires.new
+
 
 pub deliver-requires-clause-few : goal.deliver-requires-clause-few
 deliver-requires-clause-few c =

@@ -1,4 +1,4 @@
-use Rattle.std.proofs.Common.{◌≡◌, ℕ, List, [], ◌∷◌, ◌++◌, ap, ◌∙◌, sym, subst}
+use Rattle.std.proofs.Common.{tt, ◌≡◌, ℕ, List, [], ◌∷◌, ◌++◌, ap, ◌∙◌, sym, subst}
 use Rattle.taf_messages.specs.declared.call.Call.TheVariants.{Ack}
 use Rattle.taf_messages.specs.declared.reply.Reply.{Reply}
 use Rattle.history_pages.specs.Paged.{Paged}
@@ -11,9 +11,9 @@ use Rattle.hub_core.specs.States.{Represents, ack_outcome_reply}
 use Rattle.hub_core.proofs.AcknowledgementLemmas.{ack_answer, kept_ack}
 use Rattle.hub_core.proofs.ack.apply_ack.Goals as goal
 
-pub returns-clause-kept : goal.returns-clause-kept
-returns-clause-kept c =
-    let b = c.args.state.now in
+pub returns : goal.returns
+returns c = record {
+  kept = let b = c.args.state.now in
     let laws = c.boxes_keep_the_lists.ensures in
     let o = c.ack-outcome.ensures in
     let entry : Reply → Entry = λ r. record { call = Ack c.args.by c.args.item; reply = r } in
@@ -22,14 +22,14 @@ returns-clause-kept c =
     subst (λ (es : List Entry). Represents es (table_state b.tables) (position_of b.seen) (outbox_state_of c.ack-outcome.new.self)) (sym entered)
     (subst (λ (n : ℕ). Represents (b.history.entries ++ record { call = Ack c.args.by n; reply = ack_outcome_reply c.ack-outcome.result } ∷ []) (table_state b.tables) (position_of b.seen) (outbox_state_of c.ack-outcome.new.self)) c.get.ensures.value
     (kept_ack laws.last laws.acknowledgement b.history.entries c.args.by c.get.result (table_state b.tables) (position_of b.seen) b.outboxes c.ack-outcome.new.self c.requires.kept c.requires.room
-    c.ack-outcome.result o.when o.stands o.ahead o.kept o.err))
-
-pub returns-clause-answered : goal.returns-clause-answered
-returns-clause-answered c =
-    let b = c.args.state.now in
+    c.ack-outcome.result o.when o.stands o.ahead o.kept o.err));
+  answered = let b = c.args.state.now in
     let laws = c.boxes_keep_the_lists.ensures in
     let o = c.ack-outcome.ensures in
     c.reply_of-2.ensures ∙
     ack_answer laws.last laws.acknowledgement b.history.entries c.args.by c.get.result (table_state b.tables) (position_of b.seen) b.outboxes c.ack-outcome.new.self c.requires.kept c.requires.room
     c.ack-outcome.result o.when o.stands o.ahead ∙
-    ap (λ (n : ℕ). answer b.history.entries (Ack c.args.by n)) c.get.ensures.value
+    ap (λ (n : ℕ). answer b.history.entries (Ack c.args.by n)) c.get.ensures.value;
+  grows = search rules;
+  err = tt;
+}

@@ -1,4 +1,4 @@
-use Rattle.std.proofs.Common.{◌≡◌, ℕ, List, [], ◌∷◌, ◌++◌, Option, Some, cond, length, ap, ◌∙◌, sym, subst}
+use Rattle.std.proofs.Common.{tt, ◌≡◌, ℕ, List, [], ◌∷◌, ◌++◌, Option, Some, cond, length, ap, ◌∙◌, sym, subst}
 use Rattle.taf_codes.specs.declared.code.Railway.{Railway}
 use Rattle.taf_messages.specs.declared.call.Call.TheVariants.{Send}
 use Rattle.taf_messages.specs.declared.message.Message.{Message}
@@ -14,9 +14,9 @@ use Rattle.hub_core.specs.States.{Represents}
 use Rattle.hub_core.proofs.SendLemmas.{new_answer, kept_refused}
 use Rattle.hub_core.proofs.refusals.refuse.Goals as goal
 
-pub returns-clause-kept : goal.returns-clause-kept
-returns-clause-kept c =
-    let b = c.args.state.now in
+pub returns : goal.returns
+returns c = record {
+  kept = let b = c.args.state.now in
     let m = c.args.message in
     let same = (c.content-content.ensures.value ∙ c.get.ensures) in
     let entry : Reply → Entry = λ r. record { call = Send m; reply = r } in
@@ -29,13 +29,13 @@ returns-clause-kept c =
     (λ by n. c.note_reserved.ensures by n ∙
     ap (λ (x : Message). cond (same_name x.by x.no by n) (Some c.len-position.result) (position_of c.reserve.new.self by n)) same ∙
     ap (λ (k : ℕ). cond (same_name m.by m.no by n) (Some k) (position_of c.reserve.new.self by n)) len ∙
-    ap (λ (found : Railway → ℕ → Option ℕ). cond (same_name m.by m.no by n) (Some (length b.history.entries)) (found by n)) c.reserve.ensures.positions))
-
-pub returns-clause-answered : goal.returns-clause-answered
-returns-clause-answered c =
-    let b = c.args.state.now in
+    ap (λ (found : Railway → ℕ → Option ℕ). cond (same_name m.by m.no by n) (Some (length b.history.entries)) (found by n)) c.reserve.ensures.positions));
+  answered = let b = c.args.state.now in
     c.in_ok-reply_copy.ensures ∙ c.verdict-reply.ensures ∙ ap (λ (x : Message). verdict x.no (Some c.args.found)) (c.content-content.ensures.value ∙ c.get.ensures) ∙
-    new_answer b.history.entries c.args.message (table_state b.tables) (position_of b.seen) (outbox_state_of b.outboxes) c.requires.kept c.requires.room c.requires.limits c.requires.new (Some c.args.found) c.requires.fault
+    new_answer b.history.entries c.args.message (table_state b.tables) (position_of b.seen) (outbox_state_of b.outboxes) c.requires.kept c.requires.room c.requires.limits c.requires.new (Some c.args.found) c.requires.fault;
+  grows = search rules;
+  err = tt;
+}
 
 pub note_reserved-requires-clause-new : goal.note_reserved-requires-clause-new
 note_reserved-requires-clause-new c =

@@ -1,4 +1,4 @@
-use Rattle.std.proofs.Common.{◌≡◌, List, [], ◌∷◌, ◌++◌, ap, ◌∙◌, sym, subst}
+use Rattle.std.proofs.Common.{tt, ◌≡◌, List, [], ◌∷◌, ◌++◌, ap, ◌∙◌, sym, subst}
 use Rattle.history_pages.specs.Paged.{Paged}
 use Rattle.replay_numbers.specs.SentPositions.{position_of}
 use Rattle.outbox.specs.OutboxStates.{outbox_state_of}
@@ -8,11 +8,14 @@ use Rattle.hub_core.specs.States.{Represents}
 use Rattle.hub_core.proofs.HistoryLemmas.{kept_entered}
 use Rattle.hub_core.proofs.state.append_entry.Goals as goal
 
--- src/state.rt:41:1
-pub returns-clause-kept : goal.returns-clause-kept
-returns-clause-kept c =
-    let b = c.args.state.now in
+pub returns : goal.returns
+returns c = record {
+  kept = let b = c.args.state.now in
     let entered : c.push_reserved.new.self.entries ≡ b.history.entries ++ record { call = c.args.call; reply = c.args.reply } ∷ [] =
     ap (λ (p : Paged Entry). p.entries) c.push_reserved.ensures ∙ ap (λ (es : List Entry). es ++ record { call = c.args.call; reply = c.args.reply } ∷ []) c.in_ok-reserve.ensures.entries in
     subst (λ (es : List Entry). Represents es (table_state b.tables) (position_of b.seen) (outbox_state_of b.outboxes)) (sym entered)
-    (kept_entered b.history.entries c.args.call c.args.reply (table_state b.tables) (position_of b.seen) (outbox_state_of b.outboxes) c.requires.kept c.requires.room c.requires.limits c.requires.answered c.requires.quiet)
+    (kept_entered b.history.entries c.args.call c.args.reply (table_state b.tables) (position_of b.seen) (outbox_state_of b.outboxes) c.requires.kept c.requires.room c.requires.limits c.requires.answered c.requires.quiet);
+  answered = search rules;
+  grows = search rules;
+  err = tt;
+}
