@@ -27,6 +27,7 @@ pub mod ReceiverLemmas
 pub mod ResponsibleEventLemmas
 pub mod ConsentLemmas
 pub mod NeedToKnowLemmas
+pub mod RefusalLemmas
 pub mod OfferOpeningLemmas
 pub mod FleetLemmas
 pub mod LookupLemmas

@@ -52,7 +52,7 @@ use Rattle.hub_model.proofs.StepLemmas.{state_after-push, step-first_send}
 use Rattle.hub_model.proofs.ResponsibleEventLemmas.{text_is}
 
 -- the railway of a leg is among those of the legs
-in_runners : (ls : List Leg) (i : ℕ) (r : Railway) → option_map (λ l. l.ru) (slice_get ls i) ≡ Some r → Contains (runners ls) r
+pub in_runners : (ls : List Leg) (i : ℕ) (r : Railway) → option_map (λ l. l.ru) (slice_get ls i) ≡ Some r → Contains (runners ls) r
 in_runners ls i r h =
     let there : slice_get (runners ls) i ≡ Some r = slice_get-map (λ l. l.ru) ls i ∙ h in
     (i, slice_get_within (runners ls) i r there, get_or_from_slice_get (runners ls) i r r there)

@@ -1,5 +1,5 @@
 -- Who is shown records, and who gets items (4.2.6, 4.2.7, 4.2.8, 4.2.11).
-use Rattle.std.specs.Prelude.{◌≡◌, ◌⊎◌, ℕ, Bool, true, false, List, ◌∷◌, ◌++◌, Some, is_some, option_map, option_and_then, All, Contains}
+use Rattle.std.specs.Prelude.{◌≡◌, ◌⊎◌, ℕ, Bool, true, false, List, ◌∷◌, ◌++◌, length, Option, Some, None, IsSome, is_some, option_map, option_and_then, All, Contains}
 use Rattle.taf_codes.specs.declared.code.Railway.{Railway}
 use Rattle.taf_codes.specs.declared.code.UnitCode.{UnitCode}
 use Rattle.taf_codes.specs.declared.name.ConsignmentId.{ConsignmentId}
@@ -14,12 +14,13 @@ use Rattle.taf_messages.specs.declared.message.Body.{Body}
 use Rattle.taf_messages.specs.declared.message.Body.TheVariants as body
 use Rattle.taf_messages.specs.declared.record.Record.{Record}
 use Rattle.journey.specs.declared.event.Event.{Event}
-use Rattle.journey.specs.Stages.{responsible}
+use Rattle.journey.specs.Stages.{stage, responsible, is_on_its_way}
 use Rattle.journey.specs.Legs.{legs, lead_of}
 use Rattle.interchange.specs.Offers.{asked_by}
 use Rattle.wimo.specs.Records.{record_of}
 use Rattle.hub_model.specs.HubState.{HubState, named_wagons, journey_after}
 use Rattle.hub_model.specs.Units.{unit_wagon}
+use Rattle.hub_model.specs.Faults.{fault, is_unknown}
 use Rattle.hub_model.specs.Items.{runners, items_of}
 use Rattle.hub_model.specs.Replies.{reply_to}
 use Rattle.hub_model.specs.Histories.{state_after}
@@ -111,3 +112,24 @@ IsByOutsider s _ = ⊥
 abbrev pub OutsidersLearnWhetherKnown : Type 0
 OutsidersLearnWhetherKnown = (s t : HubState) (call : Call) → IsByOutsider s call → IsByOutsider t call →
     is_known s call ≡ is_known t call → reply_to s call ≡ reply_to t call
+
+-- the wagon of a message that is of a single wagon by its kind
+abbrev pub only_wagon : Body → Option ℕ
+only_wagon (body.Movement m) = Some m.wagon
+only_wagon (body.EtiAsk w) = Some w
+only_wagon (body.LegTime w leg minutes) = Some w
+only_wagon (body.Reroute w route) = Some w
+only_wagon _ = None
+
+-- both journeys are known or neither is, they are in the same stage, on their way or not, and have as many legs
+pub record LookAlike (before after : List Event) : Type 0 where
+  pub known : is_unknown before ≡ is_unknown after
+  pub in_stage : stage before ≡ stage after
+  pub on_its_way : is_on_its_way before ≡ is_on_its_way after
+  pub as_many : length (legs before) ≡ length (legs after)
+
+-- a new message of one wagon is refused to a railway that is not involved in it, and the refusal tells no more than these
+abbrev pub RefusalsTellTheStage : Type 0
+RefusalsTellTheStage = (s t : HubState) (m : Message) (w : ℕ) → only_wagon m.body ≡ Some w →
+    (IsInvolved (s.journey w) m.by → ⊥) → (IsInvolved (t.journey w) m.by → ⊥) → LookAlike (s.journey w) (t.journey w) →
+    IsSome (fault s m) × (fault s m ≡ fault t m)

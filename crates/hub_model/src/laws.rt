@@ -28,6 +28,7 @@ ghost use Rattle.hub_model.specs.NeedToKnow.{
   ItemsGoToTheConcerned,
   ItemsHaveSources,
   OutsidersLearnWhetherKnown,
+  RefusalsTellTheStage,
 };
 ghost use Rattle.hub_model.specs.Overtaking.{
   ApartIsExact,
@@ -121,13 +122,17 @@ pub fn first_sends_stand_in_the_history()
 /// deviations to the lead alone (4.2.11); the reply to a message shows neither. Each item of a
 /// message goes to a railway that the message concerns, so whatever calls came, each item of an
 /// outbox is of an accepted message that concerned its railway. What an outsider is replied to a
-/// question depends on nothing but whether that which it asks for is known.
+/// question depends on nothing but whether that which it asks for is known. A new message of a
+/// single wagon is refused to a railway that is not involved in it, and the refusal depends on
+/// nothing but whether the wagon is known, its stage, whether it is on its way, and how many legs it
+/// has.
 pub fn railways_see_what_concerns_them()
     ensures records { RecordsAreForTheTrip }
     ensures messages { MessagesGetVerdicts }
     ensures items { ItemsGoToTheConcerned }
     ensures outboxes { ItemsHaveSources }
     ensures outsiders { OutsidersLearnWhetherKnown }
+    ensures refusals { RefusalsTellTheStage }
 {}
 
 /// The test of messages that are apart is exact. Whichever of two such messages comes first, each
