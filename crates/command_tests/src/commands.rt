@@ -48,7 +48,8 @@ const BAD_CHECK_DIGIT: &str = "fault 2: bad check digit\n";
 const NOT_TWELVE_DIGITS: &str = "fault 1: not twelve digits\n";
 
 // The words, the input, the status, the output, and the errors.
-static COMMANDS: [(&str, &str, u8, &str, &str); 10] = [
+static COMMANDS: [(&str, &str, u8, &str, &str); 11] = [
+    ("taf_hub|--version", "", 0, "taf_hub 0.1.0\n", ""),
     ("taf_hub|number|218124712173", "", 0, MARKED, ""),
     ("taf_hub|number|21 81 2471 217-3", "", 0, MARKED, ""),
     ("taf_hub|number|218124712174", "", 1, "", BAD_CHECK_DIGIT),
@@ -125,6 +126,37 @@ fn other_words_are_explained(rt: HostRuntime) -> Result<(), Fail> {
         let is_output = !ended.output.is_empty();
         let is_error = !ended.errors.is_empty();
         if ended.status != *status || is_output != (*status == 0) || is_error != (*status == 2) {
+            return Err(Fail::new(*line));
+        }
+    }
+    Ok(())
+}
+
+// The words that ask for help, and the last lines of what is printed.
+static ENDS: [(&str, &str); 4] = [
+    (
+        "taf_hub|--help",
+        "\n  6  the answers that the sessions got are not those of the history\n",
+    ),
+    (
+        "taf_hub|replay|--help",
+        "\nExample:\n  taf_hub replay < records.jsonl > answers.txt\n\nStatuses: 0, 2, 3, 4\n",
+    ),
+    (
+        "taf_hub|number|--help",
+        "\nExample:\n  taf_hub number 218124712173\n\nStatuses: 0, 1, 2, 3, 4\n",
+    ),
+    (
+        "taf_hub|serve|--help",
+        "\nExample:\n  taf_hub serve --port 7000 --sessions 3\n\nStatuses: 0, 2, 3, 4, 5, 6\n",
+    ),
+];
+
+#[test]
+fn help_ends_with_an_example_and_the_statuses(rt: HostRuntime) -> Result<(), Fail> {
+    for (line, end) in &ENDS {
+        let ended = end_of(&rt, line, "")?;
+        if ended.status != 0 || !ended.output.ends_with(end.as_bytes()) {
             return Err(Fail::new(*line));
         }
     }

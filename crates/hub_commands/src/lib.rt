@@ -6,13 +6,15 @@
 //! | `taf_hub serve --port P --sessions N [--workers K]` | serves N railways on connections of their own by K workers, and prints how many calls settled and the report of all wagons | 0; 4 memory was refused; 5 a socket or a thread could not be had; 6 the shift did not settle |
 //! | `taf_hub number TEXT` | prints the vehicle number that TEXT shows in the marked form | 0; 1 TEXT shows none |
 //!
-//! [`words`] reads the command line, and [`perform`] does what it names. [`serve_on`] is `serve` on a listener. `--help` prints clap's help, with status 0. Words
-//! that name no command end with status 2 and clap's text among the errors. A [`Fault`] is one line there, by [`tell`],
-//! which gives its status. Where the words cannot be read, the status is 4 if memory was refused and else 2.
+//! [`words`] reads the command line, and [`perform`] does what it names. [`serve_on`] is `serve` on a listener. `--help` prints
+//! clap's help, which ends with an example and the statuses, and `--version` the version, both with status 0. Words that name no
+//! command end with status 2 and clap's text among the errors. A [`Fault`] is one line there, by [`tell`], which gives its
+//! status. Where the words cannot be read, the status is 4 if memory was refused and else 2.
 #![tactic(auto)]
 
 mod command_line;
 mod commands;
+mod help;
 mod number;
 mod print;
 mod replay;

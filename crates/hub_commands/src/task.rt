@@ -1,6 +1,7 @@
 ghost use Rattle.std.specs.Prelude.{IfOk, IfSome};
 ghost use Rattle.hub_commands.specs.Tasks.{IsWithinLimits};
 
+use crate::help;
 use clap::error::ErrorKind;
 use clap::{Arg, ArgAction, ArgMatches, Command, Error, value_parser};
 use hub_server::ShiftSize;
@@ -16,9 +17,9 @@ pub enum Task<'a> {
 }
 
 fn replay<'a>(alloc: Global) -> Command<'a> {
-    Command::new(alloc, "replay").about(
-        "Answers the records of standard input, one line for each, on a new hub",
-    )
+    Command::new(alloc, "replay")
+        .about("Answers the records of standard input, one line for each, on a new hub")
+        .after_help(help::REPLAY)
 }
 
 fn number<'a>(alloc: Global) -> Result<Command<'a>, AllocError> {
@@ -28,6 +29,7 @@ fn number<'a>(alloc: Global) -> Result<Command<'a>, AllocError> {
         .help("Twelve digits, or the marked form as 21 81 2471 217-3");
     Command::new(alloc, "number")
         .about("Prints the vehicle number of a wagon in the marked form")
+        .after_help(help::NUMBER)
         .arg(text)
 }
 
@@ -61,6 +63,7 @@ fn serve<'a>(alloc: Global) -> Result<Command<'a>, AllocError> {
     .value_parser(value_parser!(u8).range(1..9));
     Command::new(alloc, "serve")
         .about("Serves railways on connections of their own, on a new hub, until each has ended")
+        .after_help(help::SERVE)
         .arg(port)?
         .arg(sessions)?
         .arg(workers)
@@ -69,6 +72,8 @@ fn serve<'a>(alloc: Global) -> Result<Command<'a>, AllocError> {
 fn command<'a>(alloc: Global) -> Result<Command<'a>, AllocError> {
     Command::new(alloc, "taf_hub")
         .about("The hub for wagon movement, interchange and estimated times in rail freight")
+        .version(help::VERSION)
+        .after_help(help::PROGRAM)
         .subcommand_required(true)
         .subcommand(replay(alloc))?
         .subcommand(number(alloc)?)?

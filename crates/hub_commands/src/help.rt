@@ -1,0 +1,31 @@
+//! The version, and how each help ends. `docs/taf_hub.1` says the same, and `docs/check_man` compares them.
+
+/// The version of the program: `CHANGELOG.md` says what its numbers mean.
+pub(crate) const VERSION: &str = "0.1.0";
+
+pub(crate) static PROGRAM: &str = "Example:
+  taf_hub replay < records.jsonl > answers.txt
+
+Statuses:
+  0  all was done; refused messages and fault lines are answers
+  1  TEXT is no vehicle number
+  2  the arguments name no command, or cannot be read
+  3  reading or writing failed, or the input has no end
+  4  memory was refused
+  5  a port, a connection or a thread could not be had
+  6  the answers that the sessions got are not those of the history";
+
+pub(crate) static REPLAY: &str = "Example:
+  taf_hub replay < records.jsonl > answers.txt
+
+Statuses: 0, 2, 3, 4";
+
+pub(crate) static NUMBER: &str = "Example:
+  taf_hub number 218124712173
+
+Statuses: 0, 1, 2, 3, 4";
+
+pub(crate) static SERVE: &str = "Example:
+  taf_hub serve --port 7000 --sessions 3
+
+Statuses: 0, 2, 3, 4, 5, 6";
