@@ -35,7 +35,7 @@ use Rattle.hub_model.proofs.NeedToKnowLemmas.{in_runners}
 -- two checks' results that refuse alike
 pub record RefusesAlike (a b : Option Why) : Type 0 where
   pub same : a ≡ b
-  pub refusal_reply : is_some a ≡ true
+  pub refused : is_some a ≡ true
 
 -- where the second check applies, the first two decide
 decided : {A : Type 0} (b c : Bool) (x y : A) (rest : List (Bool × A)) → c ≡ true → first_of ((b, x) ∷ (c, y) ∷ rest) ≡ Some (cond b x y)
