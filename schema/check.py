@@ -170,6 +170,12 @@ def check_examples():
     return {kind: next(it for it in records if it["kind"] == kind) for kind in KINDS}
 
 
+def check_shown_answers():
+    """The answers that stand in the text of the page of records."""
+    for answer in re.findall(r'`(\{"[^`]+)`', (TOP / "docs/RECORDS.md").read_text()):
+        need(fits(answer), f"docs/RECORDS.md shows an answer that is refused: {answer}")
+
+
 def check_table(examples):
     """The lines of the table."""
     table = [*cases.whole_lines(), *(it for kind in KINDS for it in cases.of_kind(examples[kind], DEFINITIONS[kind]))]
@@ -215,6 +221,7 @@ def check_session():
 
 def main():
     check_names()
+    check_shown_answers()
     check_table(check_examples())
     check_session()
 
