@@ -1,7 +1,7 @@
 #!/usr/bin/env python3
 """A railway's session with taf_hub, with up to sixteen records on the way: client.py PORT RAILWAY <RECORDS
 
-Says hello, sends the records of its standard input, and shows what is said to each, in their order. Then it fetches and
+Says hello, sends the records of its standard input, and shows the answers in their order. Then it fetches and
 acknowledges the items of its outbox until there is none. It needs the standard library alone.
 """
 import json
@@ -70,7 +70,7 @@ def main():
     session = Session(port)
     session.send(json.dumps({"kind": "hello", "from": railway}))
     for record in sys.stdin:
-        # A blank line is no record, and nothing is said to it.
+        # A blank line is no record, and has no answer.
         if record.strip():
             session.send(record.rstrip("\n"))
     session.wait()

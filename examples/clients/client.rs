@@ -1,6 +1,6 @@
 //! A railway's session with taf_hub, with up to sixteen records on the way: `client PORT RAILWAY <RECORDS`
 //!
-//! Says hello, sends the records of its standard input, and shows what is said to each, in their order. Then it fetches and
+//! Says hello, sends the records of its standard input, and shows the answers in their order. Then it fetches and
 //! acknowledges the items of its outbox until there is none. It needs no crate: `rustc -O client.rs`.
 
 use std::io::{BufRead, BufReader, Error, ErrorKind, Result, Write};
@@ -91,7 +91,7 @@ fn run(port: u16, railway: &str) -> Result<()> {
     session.send(&format!(r#"{{"kind":"hello","from":"{railway}"}}"#))?;
     for record in io::stdin().lines() {
         let record = record?;
-        // A blank line is no record, and nothing is said to it.
+        // A blank line is no record, and has no answer.
         if !record.trim().is_empty() {
             session.send(&record)?;
         }
@@ -101,8 +101,8 @@ fn run(port: u16, railway: &str) -> Result<()> {
 }
 
 fn main() {
-    let words: Vec<String> = env::args().collect();
-    let (Some(port), Some(railway)) = (words.get(1).and_then(|word| word.parse().ok()), words.get(2)) else {
+    let arguments: Vec<String> = env::args().collect();
+    let (Some(port), Some(railway)) = (arguments.get(1).and_then(|it| it.parse().ok()), arguments.get(2)) else {
         eprintln!("client PORT RAILWAY <RECORDS");
         process::exit(2);
     };
