@@ -1,4 +1,4 @@
-pub mod ScalarLemmas
+pub mod PlainTextLemmas
 pub mod TextLemmas
 pub mod ReadLemmas
 pub mod NumberLemmas

@@ -9,7 +9,7 @@ use Rattle.json.proofs.Printed.Tokens.{tokens-print, print_from_push, ends_push,
 use Rattle.json.proofs.Printed.Decimals.{IsNumber-decimal}
 use Rattle.json_tokens.specs.Texts.{IsSmallToken, AreSmall}
 use Rattle.json_tokens.specs.Writing.{written, IsWriting, CanBePut, is_plain}
-use Rattle.json_tokens.proofs.ScalarLemmas.{escape_plain}
+use Rattle.json_tokens.proofs.PlainTextLemmas.{escape_plain}
 use Rattle.json_tokens.specs.declared.writer.Writer.TheInside.{Inside}
 
 small_more : (ts : List Token) (t : Token) → AreSmall ts → IsSmallToken t → AreSmall (ts ++ t ∷ [])

@@ -1,4 +1,4 @@
-pub mod ScalarLemmas
+pub mod PlainTextLemmas
 pub mod ShapeLemmas
 pub mod FieldLemmas
 pub mod MessageLemmas

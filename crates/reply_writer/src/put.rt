@@ -72,7 +72,7 @@ impl Json for Railway {
     ghost shape = { text };
 
     #[inline]
-    #[tactic(auto, using(crate::proofs::ScalarLemmas::railway_is_plain))]
+    #[tactic(auto, using(crate::proofs::PlainTextLemmas::railway_is_plain))]
     fn put(&self, out: &mut Writer) -> Result<(), AllocError> {
         out.string(self.as_str())
     }
@@ -82,7 +82,7 @@ impl Json for Place {
     ghost shape = { text };
 
     #[inline]
-    #[tactic(auto, using(crate::proofs::ScalarLemmas::place_is_plain))]
+    #[tactic(auto, using(crate::proofs::PlainTextLemmas::place_is_plain))]
     fn put(&self, out: &mut Writer) -> Result<(), AllocError> {
         out.string(self.as_str())
     }
@@ -92,7 +92,7 @@ impl Json for ConsignmentId {
     ghost shape = { text };
 
     #[inline]
-    #[tactic(auto, using(crate::proofs::ScalarLemmas::name_is_plain))]
+    #[tactic(auto, using(crate::proofs::PlainTextLemmas::name_is_plain))]
     fn put(&self, out: &mut Writer) -> Result<(), AllocError> {
         out.string(self.as_str())
     }
@@ -102,7 +102,7 @@ impl Json for TrainId {
     ghost shape = { text };
 
     #[inline]
-    #[tactic(auto, using(crate::proofs::ScalarLemmas::name_is_plain))]
+    #[tactic(auto, using(crate::proofs::PlainTextLemmas::name_is_plain))]
     fn put(&self, out: &mut Writer) -> Result<(), AllocError> {
         out.string(self.as_str())
     }
@@ -112,7 +112,7 @@ impl Json for UnitCode {
     ghost shape = { text };
 
     #[inline]
-    #[tactic(auto, using(crate::proofs::ScalarLemmas::unit_is_plain))]
+    #[tactic(auto, using(crate::proofs::PlainTextLemmas::unit_is_plain))]
     fn put(&self, out: &mut Writer) -> Result<(), AllocError> {
         out.string(self.as_str())
     }
@@ -122,7 +122,7 @@ impl Json for WagonNumber {
     ghost shape = { wagon_text };
 
     #[inline]
-    #[tactic(auto, using(crate::proofs::ScalarLemmas::number_is_plain))]
+    #[tactic(auto, using(crate::proofs::PlainTextLemmas::number_is_plain))]
     fn put(&self, out: &mut Writer) -> Result<(), AllocError> {
         out.string(self.text().as_str())
     }
@@ -132,7 +132,7 @@ impl Json for Moment {
     ghost shape = { at_text };
 
     #[inline]
-    #[tactic(auto, using(crate::proofs::ScalarLemmas::moment_is_plain))]
+    #[tactic(auto, using(crate::proofs::PlainTextLemmas::moment_is_plain))]
     fn put(&self, out: &mut Writer) -> Result<(), AllocError> {
         out.string(self.text().as_str())
     }

@@ -19,7 +19,7 @@ impl Json for BodyName {
     ghost shape = { λ name. text (body_name name) };
 
     #[inline]
-    #[tactic(auto, using(crate::proofs::ScalarLemmas::body_is_plain))]
+    #[tactic(auto, using(crate::proofs::PlainTextLemmas::body_is_plain))]
     fn put(&self, out: &mut Writer) -> Result<(), AllocError> {
         out.string(self.name())
     }
@@ -29,7 +29,7 @@ impl Json for MovementName {
     ghost shape = { λ name. text (movement_name name) };
 
     #[inline]
-    #[tactic(auto, using(crate::proofs::ScalarLemmas::movement_is_plain))]
+    #[tactic(auto, using(crate::proofs::PlainTextLemmas::movement_is_plain))]
     fn put(&self, out: &mut Writer) -> Result<(), AllocError> {
         out.string(self.name())
     }

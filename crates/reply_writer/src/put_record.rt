@@ -16,7 +16,7 @@ use taf_messages::{
 impl Json for Stage {
     ghost shape = { λ stage. text (stage_name stage) };
 
-    #[tactic(auto, using(crate::proofs::ScalarLemmas::stage_is_plain))]
+    #[tactic(auto, using(crate::proofs::PlainTextLemmas::stage_is_plain))]
     fn put(&self, out: &mut Writer) -> Result<(), AllocError> {
         out.string(self.name())
     }
@@ -25,7 +25,7 @@ impl Json for Stage {
 impl Json for Status {
     ghost shape = { λ status. text (status_name status) };
 
-    #[tactic(auto, using(crate::proofs::ScalarLemmas::status_is_plain))]
+    #[tactic(auto, using(crate::proofs::PlainTextLemmas::status_is_plain))]
     fn put(&self, out: &mut Writer) -> Result<(), AllocError> {
         out.string(self.name())
     }

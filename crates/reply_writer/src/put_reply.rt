@@ -15,7 +15,7 @@ use wagon_number::WagonNumber;
 impl Json for Why {
     ghost shape = { λ why. text (why_name why) };
 
-    #[tactic(auto, using(crate::proofs::ScalarLemmas::why_is_plain))]
+    #[tactic(auto, using(crate::proofs::PlainTextLemmas::why_is_plain))]
     fn put(&self, out: &mut Writer) -> Result<(), AllocError> {
         out.string(self.name())
     }
@@ -24,7 +24,7 @@ impl Json for Why {
 impl Json for Field {
     ghost shape = { λ field. text (field_name field) };
 
-    #[tactic(auto, using(crate::proofs::ScalarLemmas::field_is_plain))]
+    #[tactic(auto, using(crate::proofs::PlainTextLemmas::field_is_plain))]
     fn put(&self, out: &mut Writer) -> Result<(), AllocError> {
         out.string(self.name())
     }
