@@ -1,4 +1,4 @@
-use Rattle.std.proofs.Common.{tt, ◌≡◌, ℕ, List, [], ◌∷◌, ◌++◌, Option, Some, None, cond, length, ap, ◌∙◌, ◌<◌, ◌^◌, sym, subst}
+use Rattle.std.proofs.Common.{rules, ◌≡◌, ℕ, List, [], ◌∷◌, ◌++◌, Option, Some, None, cond, length, ap, ◌∙◌, ◌<◌, ◌^◌, sym, subst}
 use Rattle.taf_messages.specs.declared.call.Call.TheVariants.{Send}
 use Rattle.taf_messages.specs.declared.message.Message.{Message}
 use Rattle.taf_messages.specs.declared.reply.Reply.{Reply}
@@ -26,9 +26,9 @@ returns-in_err-make_room c = record {
     subst (λ (es : List Entry). Represents es (table_state n.tables) (position_of n.seen) (outbox_state_of n.outboxes)) (sym r.entries)
     (kept_same b.history.entries (table_state b.tables) (table_state n.tables) (position_of b.seen) (position_of n.seen) (outbox_state_of b.outboxes) (outbox_state_of n.outboxes)
     (ap table_state r.tables) (λ by k i. r.positions i by k) r.boxes c.requires.kept);
-  answered = tt;
-  grows = tt;
-  err = c.in_err-make_room.ensures.entries;
+  answered = search rules;
+  grows = search rules;
+  err = search rules;
 }
 
 pub returns-in_err-accept : goal.returns-in_err-accept
@@ -39,9 +39,9 @@ returns-in_err-accept c = record {
     subst (λ (es : List Entry). Represents es (table_state c.accept.new.self) (position_of n.seen) (outbox_state_of n.outboxes)) (sym r.entries)
     (kept_same b.history.entries (table_state b.tables) (table_state c.accept.new.self) (position_of b.seen) (position_of n.seen) (outbox_state_of b.outboxes) (outbox_state_of n.outboxes)
     (c.in_err-accept.ensures.err ∙ ap table_state r.tables) (λ by k i. r.positions i by k) r.boxes c.requires.kept);
-  answered = tt;
-  grows = tt;
-  err = c.in_ok-make_room.ensures.entries;
+  answered = search rules;
+  grows = search rules;
+  err = search rules;
 }
 
 pub returns : goal.returns
@@ -73,7 +73,7 @@ returns c = record {
     c.verdict-2.ensures ∙ ap (λ (x : Message). Accepted x.no) (c.content-content.ensures.value ∙ c.get-sent.ensures) ∙
     new_answer b.history.entries c.args.message (table_state b.tables) (position_of b.seen) (outbox_state_of b.outboxes) c.requires.kept c.requires.room c.requires.limits c.requires.new None c.requires.acceptable.sound;
   grows = search rules;
-  err = tt;
+  err = search rules;
 }
 
 pub note_reserved-requires-clause-new : goal.note_reserved-requires-clause-new

@@ -1,4 +1,4 @@
-use Rattle.std.proofs.Common.{tt, ◌≡◌, ℕ, List, [], ◌∷◌, ◌++◌, ap, ◌∙◌, sym, subst}
+use Rattle.std.proofs.Common.{rules, ◌≡◌, ℕ, List, [], ◌∷◌, ◌++◌, ap, ◌∙◌, sym, subst}
 use Rattle.taf_messages.specs.declared.call.Call.TheVariants.{Ack}
 use Rattle.taf_messages.specs.declared.reply.Reply.{Reply}
 use Rattle.history_pages.specs.Paged.{Paged}
@@ -31,5 +31,5 @@ returns c = record {
     c.ack-outcome.result o.when o.stands o.ahead ∙
     ap (λ (n : ℕ). answer b.history.entries (Ack c.args.by n)) c.get.ensures.value;
   grows = search rules;
-  err = tt;
+  err = search rules;
 }

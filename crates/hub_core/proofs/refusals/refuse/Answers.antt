@@ -1,4 +1,4 @@
-use Rattle.std.proofs.Common.{tt, ◌≡◌, ℕ, List, [], ◌∷◌, ◌++◌, Option, Some, cond, length, ap, ◌∙◌, sym, subst}
+use Rattle.std.proofs.Common.{rules, ◌≡◌, ℕ, List, [], ◌∷◌, ◌++◌, Option, Some, cond, length, ap, ◌∙◌, sym, subst}
 use Rattle.taf_codes.specs.declared.code.Railway.{Railway}
 use Rattle.taf_messages.specs.declared.call.Call.TheVariants.{Send}
 use Rattle.taf_messages.specs.declared.message.Message.{Message}
@@ -34,7 +34,7 @@ returns c = record {
     c.in_ok-reply_copy.ensures ∙ c.verdict-reply.ensures ∙ ap (λ (x : Message). verdict x.no (Some c.args.found)) (c.content-content.ensures.value ∙ c.get.ensures) ∙
     new_answer b.history.entries c.args.message (table_state b.tables) (position_of b.seen) (outbox_state_of b.outboxes) c.requires.kept c.requires.room c.requires.limits c.requires.new (Some c.args.found) c.requires.fault;
   grows = search rules;
-  err = tt;
+  err = search rules;
 }
 
 pub note_reserved-requires-clause-new : goal.note_reserved-requires-clause-new

@@ -1,4 +1,4 @@
-use Rattle.std.proofs.Common.{tt, ◌≡◌, List, [], ◌∷◌, ◌++◌, ap, ◌∙◌, sym, subst}
+use Rattle.std.proofs.Common.{rules, ◌≡◌, List, [], ◌∷◌, ◌++◌, ap, ◌∙◌, sym, subst}
 use Rattle.history_pages.specs.Paged.{Paged}
 use Rattle.replay_numbers.specs.SentPositions.{position_of}
 use Rattle.outbox.specs.OutboxStates.{outbox_state_of}
@@ -17,5 +17,5 @@ returns c = record {
     (kept_entered b.history.entries c.args.call c.args.reply (table_state b.tables) (position_of b.seen) (outbox_state_of b.outboxes) c.requires.kept c.requires.room c.requires.limits c.requires.answered c.requires.quiet);
   answered = search rules;
   grows = search rules;
-  err = tt;
+  err = search rules;
 }
