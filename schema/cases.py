@@ -30,24 +30,26 @@ UNIT = "CSQU3054383"
 # Lists, and texts of JSON
 
 
+def wagon(number):
+    """A wagon with its check digit."""
+    digits = f"3380{number:07}"
+    total = sum(sum(divmod(int(digit) * (2 - place % 2), 10)) for place, digit in enumerate(digits))
+    return f"{digits}{-total % 10}"
+
+
 def wagons(count):
-    """So many wagons, each with its check digit."""
-    return [WAGON, *(with_check_digit(f"3380{number:07}") for number in range(1, count))]
+    return [WAGON, *(wagon(number) for number in range(1, count))]
 
 
-def with_check_digit(eleven):
-    total = sum(sum(divmod(int(digit) * (2 - place % 2), 10)) for place, digit in enumerate(eleven))
-    return f"{eleven}{-total % 10}"
+def unit(number):
+    """A unit with its check digit. With A as 10 the letters AAAU count 10 + 20 + 40 + 8 * 32."""
+    digits = sum(int(digit) * 2**place for place, digit in enumerate(f"{number:06}", 4))
+    return f"AAAU{number:06}{(10 + 20 + 40 + 8 * 32 + digits) % 11 % 10}"
 
 
 def loads(count):
-    """So many units on one wagon. With A as 10 the letters AAAU count 10 + 20 + 40 + 8 * 32."""
-    return [{"unit": f"AAAU{number:06}{unit_digit(number)}", "wagon": WAGON} for number in range(count)]
-
-
-def unit_digit(number):
-    digits = sum(int(digit) * 2**place for place, digit in enumerate(f"{number:06}", 4))
-    return (10 + 20 + 40 + 8 * 32 + digits) % 11 % 10
+    """So many units on one wagon."""
+    return [{"unit": unit(number), "wagon": WAGON} for number in range(count)]
 
 
 def legs(count):
@@ -175,7 +177,7 @@ def leg_lists(most):
 
 def load_lists():
     load = {"unit": UNIT, "wagon": WAGON}
-    twice, elsewhere = text_of([load, load | {"wagon": OTHER}]), text_of([load | {"wagon": wagons(2)[1]}])
+    twice, elsewhere = text_of([load, load | {"wagon": OTHER}]), text_of([load | {"wagon": wagon(1)}])
     return Values(
         ["null", "[]", text_of([load]), text_of(loads(120)), text_of([load | {"unknown": None}])],
         [*NO_LIST[1:], *lists_lacking(load), *lists_refused(load, LOAD), text_of(loads(121))],
@@ -281,6 +283,20 @@ def whole_lines():
     yield from (Case(line, "refused", BAD_KIND) for line in OTHER_KINDS)
     yield from (Case(line, "good", None) for line in GOOD_LINES)
     yield from (Case(line, "good", fault) for _, line, fault in PROGRAM_ALONE)
+
+
+def long_plan(number):
+    """A plan of 60 wagons, with two units on each, and of eight legs."""
+    numbers = [wagon(60 * number + place) for place in range(60)]
+    units = [{"unit": unit(120 * number + place), "wagon": numbers[place // 2]} for place in range(120)]
+    plan = {"kind": "plan", "from": "R100", "no": number + 1, "consignment": f"CONSIGNMENT-{number:08}", "load": "loaded"}
+    slow_legs = [leg | {"minutes": 100000} for leg in legs(8)]
+    return text_of(plan | {"commit": "2025-03-01T15:30Z", "wagons": numbers, "legs": slow_legs, "units": units}).encode()
+
+
+def long_fetch():
+    """Fifty long plans, and a fetch of their notices."""
+    return [*(long_plan(number) for number in range(50)), b'{"kind":"fetch","from":"R207","limit":50}']
 
 
 REASONS = {reason for values in VALUES.values() for reason in values.program_alone} | {reason for reason, _, _ in PROGRAM_ALONE}

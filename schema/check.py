@@ -5,6 +5,7 @@
   the program alone refuses has a reason that stands in README.md.
 - What the schemas refuse of the examples the program refuses too.
 - Whatever the program answers fits its schema, without a key that the schema does not name.
+- Answers that the page of records shows in its text fit their schema, and the length of a long one is the one that it gives.
 
 Prints nothing where all is so. Else it prints the first difference, and ends with status 1.
 """
@@ -186,6 +187,14 @@ def check_table(examples):
         need(fault == case.fault, f"the program says {answer} to {case.line}, and not {case.fault}")
 
 
+def check_longest():
+    """The length of a long answer is the one that the page of records gives."""
+    lines = cases.long_fetch()
+    answer = replay(lines)[-1]
+    need(len(check_answer(lines[-1], answer)["items"]) == 50, "the long plans are not accepted")
+    need(f"{len(answer):,} bytes" in (TOP / "docs/RECORDS.md").read_text(), f"a long answer has {len(answer):,} bytes")
+
+
 # A session
 
 
@@ -223,6 +232,7 @@ def main():
     check_names()
     check_shown_answers()
     check_table(check_examples())
+    check_longest()
     check_session()
 
 
