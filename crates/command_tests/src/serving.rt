@@ -1,8 +1,7 @@
 //! A shift of two railways over loopback.
 
 use crate::commands::end_of;
-use hub_commands::serve_on;
-use hub_server::ShiftSize;
+use hub_commands::{ShiftSize, serve_on};
 use memory_limit::MemoryLimit;
 use std::alloc::Global;
 use std::io::{Read, Write};

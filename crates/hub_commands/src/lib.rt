@@ -24,4 +24,5 @@ mod task;
 pub use command_line::words;
 pub use commands::{perform, serve_on, tell};
 pub use hub_faults::Fault;
+pub use hub_server::ShiftSize;
 pub use task::{Task, task_of};

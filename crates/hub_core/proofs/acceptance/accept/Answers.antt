@@ -21,11 +21,11 @@ use Rattle.hub_core.proofs.acceptance.accept.Goals as goal
 pub returns-in_err-make_room : goal.returns-in_err-make_room
 returns-in_err-make_room c = record {
   kept = let b = c.args.state.now in
-    let n = c.make_room.new.state in
-    let r = c.in_err-make_room.ensures in
-    subst (λ (es : List Entry). Represents es (table_state n.tables) (position_of n.seen) (outbox_state_of n.outboxes)) (sym r.entries)
-    (kept_same b.history.entries (table_state b.tables) (table_state n.tables) (position_of b.seen) (position_of n.seen) (outbox_state_of b.outboxes) (outbox_state_of n.outboxes)
-    (ap table_state r.tables) (λ by k i. r.positions i by k) r.boxes c.requires.kept);
+      let n = c.make_room.new.state in
+      let r = c.in_err-make_room.ensures in
+      subst (λ (es : List Entry). Represents es (table_state n.tables) (position_of n.seen) (outbox_state_of n.outboxes)) (sym r.entries)
+      (kept_same b.history.entries (table_state b.tables) (table_state n.tables) (position_of b.seen) (position_of n.seen) (outbox_state_of b.outboxes) (outbox_state_of n.outboxes)
+      (ap table_state r.tables) (λ by k i. r.positions i by k) r.boxes c.requires.kept);
   answered = search rules;
   grows = search rules;
   err = search rules;
@@ -34,11 +34,11 @@ returns-in_err-make_room c = record {
 pub returns-in_err-accept : goal.returns-in_err-accept
 returns-in_err-accept c = record {
   kept = let b = c.args.state.now in
-    let n = c.make_room.new.state in
-    let r = c.in_ok-make_room.ensures in
-    subst (λ (es : List Entry). Represents es (table_state c.accept.new.self) (position_of n.seen) (outbox_state_of n.outboxes)) (sym r.entries)
-    (kept_same b.history.entries (table_state b.tables) (table_state c.accept.new.self) (position_of b.seen) (position_of n.seen) (outbox_state_of b.outboxes) (outbox_state_of n.outboxes)
-    (c.in_err-accept.ensures.err ∙ ap table_state r.tables) (λ by k i. r.positions i by k) r.boxes c.requires.kept);
+      let n = c.make_room.new.state in
+      let r = c.in_ok-make_room.ensures in
+      subst (λ (es : List Entry). Represents es (table_state c.accept.new.self) (position_of n.seen) (outbox_state_of n.outboxes)) (sym r.entries)
+      (kept_same b.history.entries (table_state b.tables) (table_state c.accept.new.self) (position_of b.seen) (position_of n.seen) (outbox_state_of b.outboxes) (outbox_state_of n.outboxes)
+      (c.in_err-accept.ensures.err ∙ ap table_state r.tables) (λ by k i. r.positions i by k) r.boxes c.requires.kept);
   answered = search rules;
   grows = search rules;
   err = search rules;
@@ -47,31 +47,31 @@ returns-in_err-accept c = record {
 pub returns : goal.returns
 returns c = record {
   kept = let b = c.args.state.now in
-    let m = c.args.message in
-    let sent = c.get-sent.ensures in
-    let same = c.content-content.ensures.value ∙ sent in
-    let n = c.make_room.new.state in
-    let r = c.in_ok-make_room.ensures in
-    let entry : Reply → Entry = λ reply. record { call = Send m; reply = reply } in
-    let entered : c.push_reserved.new.self.entries ≡ b.history.entries ++ entry (Accepted m.no) ∷ [] =
-    ap (λ (p : Paged Entry). p.entries) c.push_reserved.ensures ∙
-    ap (λ (e : Entry). n.history.entries ++ e ∷ []) (c.entry_of.ensures ∙ ap entry (c.verdict.ensures ∙ ap (λ (x : Message). Accepted x.no) same)) ∙
-    ap (λ (es : List Entry). es ++ entry (Accepted m.no) ∷ []) r.entries in
-    let len : c.len-position.result ≡ length b.history.entries = c.len-position.ensures.value ∙ ap length r.entries in
-    subst (λ (es : List Entry). Represents es (table_state c.accept.new.self) (position_of c.note_reserved.new.self) (outbox_state_of c.deliver.new.outboxes)) (sym entered)
-    (kept_accepted b.history.entries m (table_state b.tables) (position_of b.seen) (outbox_state_of b.outboxes) c.requires.kept c.requires.room c.requires.limits c.requires.new
-    c.boxes_keep_the_lists.ensures.push (table_state c.accept.new.self) (position_of c.note_reserved.new.self) (outbox_state_of c.deliver.new.outboxes) c.requires.acceptable.sound
-    (c.in_ok-accept.ensures.ok ∙ ap (λ (x : Message). table_part (after_acceptance (table_state n.tables) x)) sent ∙ ap (λ (t : TableEntries). table_part (after_acceptance (table_state t) m)) r.tables)
-    (λ by k. c.note_reserved.ensures by k ∙
-    ap (λ (x : Message). cond (same_name x.by x.no by k) (Some c.len-position.result) (position_of n.seen by k)) same ∙
-    ap (λ (p : ℕ). cond (same_name m.by m.no by k) (Some p) (position_of n.seen by k)) len ∙
-    ap (λ (o : Option ℕ). cond (same_name m.by m.no by k) (Some (length b.history.entries)) o) (λ i. r.positions i by k))
-    (λ q. c.deliver.ensures q ∙
-    ap (λ (k : OutboxState). with_items k (items_to q c.in_ok-items.items.items)) (r.boxes q) ∙
-    ap (λ (is : List AddressedItem). with_items (outbox_state_of b.outboxes q) (items_to q is)) c.in_ok-items.ensures));
+      let m = c.args.message in
+      let sent = c.get-sent.ensures in
+      let same = c.content-content.ensures.value ∙ sent in
+      let n = c.make_room.new.state in
+      let r = c.in_ok-make_room.ensures in
+      let entry : Reply → Entry = λ reply. record { call = Send m; reply = reply } in
+      let entered : c.push_reserved.new.self.entries ≡ b.history.entries ++ entry (Accepted m.no) ∷ [] =
+      ap (λ (p : Paged Entry). p.entries) c.push_reserved.ensures ∙
+      ap (λ (e : Entry). n.history.entries ++ e ∷ []) (c.entry_of.ensures ∙ ap entry (c.verdict.ensures ∙ ap (λ (x : Message). Accepted x.no) same)) ∙
+      ap (λ (es : List Entry). es ++ entry (Accepted m.no) ∷ []) r.entries in
+      let len : c.len-position.result ≡ length b.history.entries = c.len-position.ensures.value ∙ ap length r.entries in
+      subst (λ (es : List Entry). Represents es (table_state c.accept.new.self) (position_of c.note_reserved.new.self) (outbox_state_of c.deliver.new.outboxes)) (sym entered)
+      (kept_accepted b.history.entries m (table_state b.tables) (position_of b.seen) (outbox_state_of b.outboxes) c.requires.kept c.requires.room c.requires.limits c.requires.new
+      c.boxes_keep_the_lists.ensures.push (table_state c.accept.new.self) (position_of c.note_reserved.new.self) (outbox_state_of c.deliver.new.outboxes) c.requires.acceptable.sound
+      (c.in_ok-accept.ensures.ok ∙ ap (λ (x : Message). table_part (after_acceptance (table_state n.tables) x)) sent ∙ ap (λ (t : TableEntries). table_part (after_acceptance (table_state t) m)) r.tables)
+      (λ by k. c.note_reserved.ensures by k ∙
+      ap (λ (x : Message). cond (same_name x.by x.no by k) (Some c.len-position.result) (position_of n.seen by k)) same ∙
+      ap (λ (p : ℕ). cond (same_name m.by m.no by k) (Some p) (position_of n.seen by k)) len ∙
+      ap (λ (o : Option ℕ). cond (same_name m.by m.no by k) (Some (length b.history.entries)) o) (λ i. r.positions i by k))
+      (λ q. c.deliver.ensures q ∙
+      ap (λ (k : OutboxState). with_items k (items_to q c.in_ok-items.items.items)) (r.boxes q) ∙
+      ap (λ (is : List AddressedItem). with_items (outbox_state_of b.outboxes q) (items_to q is)) c.in_ok-items.ensures));
   answered = let b = c.args.state.now in
-    c.verdict-2.ensures ∙ ap (λ (x : Message). Accepted x.no) (c.content-content.ensures.value ∙ c.get-sent.ensures) ∙
-    new_answer b.history.entries c.args.message (table_state b.tables) (position_of b.seen) (outbox_state_of b.outboxes) c.requires.kept c.requires.room c.requires.limits c.requires.new None c.requires.acceptable.sound;
+      c.verdict-2.ensures ∙ ap (λ (x : Message). Accepted x.no) (c.content-content.ensures.value ∙ c.get-sent.ensures) ∙
+      new_answer b.history.entries c.args.message (table_state b.tables) (position_of b.seen) (outbox_state_of b.outboxes) c.requires.kept c.requires.room c.requires.limits c.requires.new None c.requires.acceptable.sound;
   grows = search rules;
   err = search rules;
 }
@@ -80,7 +80,6 @@ pub note_reserved-requires-clause-new : goal.note_reserved-requires-clause-new
 note_reserved-requires-clause-new c =
     let sent = c.content-content.result.now in
     ap (λ (found : Railway → ℕ → Option ℕ). found sent.by sent.no) c.in_ok-make_room.ensures.positions ∙ ap (λ (x : Message). position_of c.args.state.now.seen x.by x.no) (c.content-content.ensures.value ∙ c.get-sent.ensures) ∙ c.requires.new
-
 
 pub deliver-requires-clause-few : goal.deliver-requires-clause-few
 deliver-requires-clause-few c =

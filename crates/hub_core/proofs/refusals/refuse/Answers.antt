@@ -17,22 +17,22 @@ use Rattle.hub_core.proofs.refusals.refuse.Goals as goal
 pub returns : goal.returns
 returns c = record {
   kept = let b = c.args.state.now in
-    let m = c.args.message in
-    let same = (c.content-content.ensures.value ∙ c.get.ensures) in
-    let entry : Reply → Entry = λ r. record { call = Send m; reply = r } in
-    let entered : c.push_reserved.new.self.entries ≡ b.history.entries ++ entry (verdict m.no (Some c.args.found)) ∷ [] =
-    ap (λ (p : Paged Entry). p.entries) c.push_reserved.ensures ∙ ap (λ (e : Entry). c.reserve-2.new.self.entries ++ e ∷ []) (c.entry_of.ensures ∙ ap entry (c.verdict-reply.ensures ∙ ap (λ (x : Message). verdict x.no (Some c.args.found)) same)) ∙
-    ap (λ (es : List Entry). es ++ entry (verdict m.no (Some c.args.found)) ∷ []) c.in_ok-reserve-2.ensures.entries in
-    let len : c.len-position.result ≡ length b.history.entries = c.len-position.ensures.value ∙ ap length c.in_ok-reserve-2.ensures.entries in
-    subst (λ (es : List Entry). Represents es (table_state b.tables) (position_of c.note_reserved.new.self) (outbox_state_of b.outboxes)) (sym entered)
-    (kept_refused b.history.entries m (table_state b.tables) (position_of b.seen) (outbox_state_of b.outboxes) c.requires.kept c.requires.room c.requires.limits c.requires.new c.args.found (position_of c.note_reserved.new.self) c.requires.fault
-    (λ by n. c.note_reserved.ensures by n ∙
-    ap (λ (x : Message). cond (same_name x.by x.no by n) (Some c.len-position.result) (position_of c.reserve.new.self by n)) same ∙
-    ap (λ (k : ℕ). cond (same_name m.by m.no by n) (Some k) (position_of c.reserve.new.self by n)) len ∙
-    ap (λ (found : Railway → ℕ → Option ℕ). cond (same_name m.by m.no by n) (Some (length b.history.entries)) (found by n)) c.reserve.ensures.positions));
+      let m = c.args.message in
+      let same = (c.content-content.ensures.value ∙ c.get.ensures) in
+      let entry : Reply → Entry = λ r. record { call = Send m; reply = r } in
+      let entered : c.push_reserved.new.self.entries ≡ b.history.entries ++ entry (verdict m.no (Some c.args.found)) ∷ [] =
+      ap (λ (p : Paged Entry). p.entries) c.push_reserved.ensures ∙ ap (λ (e : Entry). c.reserve-2.new.self.entries ++ e ∷ []) (c.entry_of.ensures ∙ ap entry (c.verdict-reply.ensures ∙ ap (λ (x : Message). verdict x.no (Some c.args.found)) same)) ∙
+      ap (λ (es : List Entry). es ++ entry (verdict m.no (Some c.args.found)) ∷ []) c.in_ok-reserve-2.ensures.entries in
+      let len : c.len-position.result ≡ length b.history.entries = c.len-position.ensures.value ∙ ap length c.in_ok-reserve-2.ensures.entries in
+      subst (λ (es : List Entry). Represents es (table_state b.tables) (position_of c.note_reserved.new.self) (outbox_state_of b.outboxes)) (sym entered)
+      (kept_refused b.history.entries m (table_state b.tables) (position_of b.seen) (outbox_state_of b.outboxes) c.requires.kept c.requires.room c.requires.limits c.requires.new c.args.found (position_of c.note_reserved.new.self) c.requires.fault
+      (λ by n. c.note_reserved.ensures by n ∙
+      ap (λ (x : Message). cond (same_name x.by x.no by n) (Some c.len-position.result) (position_of c.reserve.new.self by n)) same ∙
+      ap (λ (k : ℕ). cond (same_name m.by m.no by n) (Some k) (position_of c.reserve.new.self by n)) len ∙
+      ap (λ (found : Railway → ℕ → Option ℕ). cond (same_name m.by m.no by n) (Some (length b.history.entries)) (found by n)) c.reserve.ensures.positions));
   answered = let b = c.args.state.now in
-    c.in_ok-reply_copy.ensures ∙ c.verdict-reply.ensures ∙ ap (λ (x : Message). verdict x.no (Some c.args.found)) (c.content-content.ensures.value ∙ c.get.ensures) ∙
-    new_answer b.history.entries c.args.message (table_state b.tables) (position_of b.seen) (outbox_state_of b.outboxes) c.requires.kept c.requires.room c.requires.limits c.requires.new (Some c.args.found) c.requires.fault;
+      c.in_ok-reply_copy.ensures ∙ c.verdict-reply.ensures ∙ ap (λ (x : Message). verdict x.no (Some c.args.found)) (c.content-content.ensures.value ∙ c.get.ensures) ∙
+      new_answer b.history.entries c.args.message (table_state b.tables) (position_of b.seen) (outbox_state_of b.outboxes) c.requires.kept c.requires.room c.requires.limits c.requires.new (Some c.args.found) c.requires.fault;
   grows = search rules;
   err = search rules;
 }
