@@ -83,8 +83,8 @@ impl Run {
         if self.track.admits(&event).is_some() {
             bail!("the sample is refused");
         }
-        let step = self.track.step(&event);
-        if self.estimates().transition_passes_calendar(&step) {
+        let transition = self.track.transition(&event);
+        if self.estimates().transition_passes_calendar(&transition) {
             bail!("the sample passes the calendar");
         }
         if self.track.events().len() >= 1 << 62 {

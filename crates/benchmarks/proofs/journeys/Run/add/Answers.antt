@@ -7,11 +7,11 @@ use Rattle.benchmarks.proofs.journeys.Run.add.Goals as goal
 
 pub invariant_of-self : goal.invariant_of-self
 invariant_of-self c =
-    let fits_after : fits (after c.step-step.result) ≡ true = search rules in
-    let step = ap (λ (o : NextEvent). after o) c.step-step.ensures in
+    let fits_after : fits (after c.transition-transition.result) ≡ true = search rules in
+    let transition = ap (λ (o : NextEvent). after o) c.transition-transition.ensures in
     let next = ap (λ (e : Event). c.args.self.now.track.events ++ e ∷ []) c.in_ok-next.ensures in
     let now = ap (λ (j : Journey). j.events) c.put.ensures.track in
     record {
       follows = c.put.ensures.kept ∙ ap estimate_anchor (sym now);
-      within = ap fits (now ∙ next ∙ sym step) ∙ fits_after;
+      within = ap fits (now ∙ next ∙ sym transition) ∙ fits_after;
     }
