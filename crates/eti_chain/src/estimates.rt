@@ -128,7 +128,7 @@ impl<'a> Estimates<'a> {
         self.basis().last_moment()
     }
 
-    /// Whether the wagon is expected after what the plan committed to to the customer.
+    /// Whether the wagon is expected after the moment to which the plan committed.
     pub fn late(&self) -> bool
         ensures { (events : List Event) → self.now ≡ estimates_state events → result
             ≡ of.is_late events }

@@ -17,7 +17,7 @@
 //!   an event to the track and go on with it.
 //! - [`Estimates::follow`] goes from the estimates of a track to those of the track with one event more.
 //!   [`Estimates::would_pass_calendar`] says beforehand whether one would pass the calendar.
-//! - [`Estimates::followed`] and [`Estimates::transition_passes_calendar`] do the same by a [`Transition`](journey::Step), whose
+//! - [`Estimates::followed`] and [`Estimates::transition_passes_calendar`] do the same by a [`Transition`](journey::Transition), whose
 //!   state they don't make anew and whose legs they borrow.
 //! - [`Estimates::estimate`], [`Estimates::eta`], [`Estimates::late`] and [`Estimates::late_by`] read them.
 //!

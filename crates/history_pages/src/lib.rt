@@ -1,4 +1,4 @@
-//! A list in pages, which keeps what the hub was told and what it answered.
+//! A list in pages, which keeps the entries of a history.
 //!
 //! [`Pages`] holds up to 2^62 entries, in the order in which they were pushed, 1,024 to a page. A push never moves an entry
 //! that stands: a page is made with all its places, and where there are more pages, only their headers move. So a push

@@ -1,4 +1,4 @@
--- What a message has told, before the items for its sender are taken out.
+-- All items of a message, before those for its sender are taken out.
 use Rattle.std.specs.Prelude.{Bool, true, false, List, ◌++◌, flat_map}
 use Rattle.taf_messages.specs.declared.message.Message.{Message}
 use Rattle.taf_messages.specs.declared.message.Body.{Body}

@@ -16,7 +16,7 @@ pub record IsNextEvent (o : NextEvent) : Type 0 where
   pub admitted : refusal o.before o.event.by o.event.body ≡ None
   pub fits_after : fits (after o) ≡ true
 
--- the step is one of this wagon, and the estimates are those of the events with the next one
+-- the transition is of this wagon, and the estimates are those of the events with the next one
 pub record IsTransitionOf (j : Journey) (o : NextEvent) (c : EstimatesState) : Type 0 where
   pub wagon_is : o.wagon ≡ j.wagon
   pub before_is : o.before ≡ j.events

@@ -68,7 +68,7 @@ fn sub_notice(alloc: Global, by: Railway, says: &Body) -> Result<Option<Addresse
     }
 }
 
-// What the manager gets the notice of an answer that received wagons.
+// The sub notice of an answer that received wagons.
 fn sub_item(
     alloc: Global,
     by: Railway,

@@ -18,7 +18,7 @@ use trip_plan::Leg;
 use wagon_number::WagonNumber;
 
 /// Who gets the notice of a message, as often as one is concerned. It is no movement and no question for an estimate,
-/// which tell one railway at most.
+/// whose notice goes to one railway at most.
 pub(crate) fn notice_receivers(
     alloc: Global,
     tables: &Tables,

@@ -84,14 +84,14 @@ impl<'a> WagonEvent<'a> {
         keeps_estimates(&self.event.body)
     }
 
-    /// The step that the event makes.
+    /// The transition that the event makes.
     pub(crate) fn transition(&self) -> Transition<'_>
         ensures { result ≡ self.now }
     {
         self.wagon.track().transition(&self.event)
     }
 
-    /// What the journey and the estimates come to with its step.
+    /// What the journey and the estimates come to with its transition.
     pub(crate) fn change<'b>(&'b self, transition: &'b Transition<'b>) -> WagonChange<'b>
         requires { transition.now ≡ self.now }
         ensures { result ≡ self.now }

@@ -71,7 +71,7 @@ pub record AreConsistent (s : HubState) : Type 0 where
   pub sound : IsSound s
   pub each : (w : ℕ) → IsConsistent (s.journey w)
 
--- the events of a wagon that a message without a fault names: with the share at the end, or the plan alone
+-- the events of a wagon that a message without a fault names: with its event at the end, or the plan alone
 module _ (s : HubState) (all : AreConsistent s) (m : Message) (f : fault s m ≡ None) (w : ℕ) (n : has (named_wagons s.offer m) w ≡ true) where
   known : NoPlan m.body → known_fault s m w ≡ None
   known p = all_known s all.sound m.by m.no m.body w p f n
@@ -128,7 +128,7 @@ consistent_all : (s : HubState) (calls : List Call) → AreConsistent s → AreC
 consistent_all s [] all = all
 consistent_all s (call ∷ calls) all = consistent_all (step s call) calls (kept_after (λ m. Unit {0}) AreConsistent kept_consistent s call (reply_to s call) (is_any call) refl all)
 
--- the share of a message that all the wagon to a railway
+-- the event of a message that hands the wagon to a railway
 receiver_named : (s : HubState) (m : Message) (w : ℕ) (r : Railway) → has (named_wagons s.offer m) w ≡ true → new_responsible m.by (event_body_for s.offer m.by m.body w) ≡ Some r → receiver_in m.by m.body w ≡ Some r
 receiver_named s m w r n h =
     sym (share_taker s.offer m.by m.no m.body w) ∙
@@ -139,7 +139,7 @@ or_false : (b : Bool) → (b || false) ≡ true → b ≡ true
 or_false true h = refl
 or_false false h = h
 
--- a share that delivers the wagon is of its delivery notice
+-- an event that delivers the wagon is of its delivery notice
 delivers_named : (offers : Offers) (by : Railway) (says : Body) (w : ℕ) → has (wagons_in offers by says) w ≡ true → is_delivery (event_body_for offers by says w) ≡ true → delivers says w ≡ true
 delivers_named offers by (body.Movement m) w n h = and_from _ _ (or_false (eqb m.wagon w) n) h
 delivers_named offers by (body.Plan p) w n h = absurd (false≢true h)

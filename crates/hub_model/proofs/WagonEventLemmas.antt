@@ -1,4 +1,4 @@
--- A share by the offers known before its message is the event by the offers of the whole list.
+-- An event by the offers known before its message is the event by the offers of the whole list.
 use Rattle.std.proofs.Common.{◌≡◌, ℕ, Bool, true, false, cond, List, [], ◌∷◌, ◌++◌, Option, Some, None, refl, ap, ◌∙◌, sym, inl, inr}
 use Rattle.std.specs.Prelude.{◌&&◌, is_some, is_none, filter_map}
 use Rattle.std.specs.Option.{option_or}

@@ -11,8 +11,8 @@
 //!
 //! Of the input no more than 4,259,840 bytes are held at once, beside what the lines of two batches say, and of the output
 //! the lines of one call and of the faults before it. Each reply is handed to the writer before the next call goes to the
-//! hub, and the writer is flushed before more input is read, so that one who waits for a reply before he writes his next
-//! line gets it.
+//! hub, and the writer is flushed before more input is read, so that a program which waits for a reply before it writes
+//! its next line gets it.
 #![tactic(auto)]
 
 mod answer_line;

@@ -3,7 +3,7 @@ use taf_messages::{LegIndex, LegMinutes, MessageNumber, MovementKind};
 use taf_moment::Moment;
 use trip_plan::{Plan, Route};
 
-/// A wagon's share of a message.
+/// What a message says of one wagon, with its sender, its number and its moment.
 #[derive(Debug, Drop)]
 pub struct Event {
     pub by: Railway,

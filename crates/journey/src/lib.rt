@@ -1,4 +1,4 @@
-//! The journey of one wagon: what was said of it since its last plan, and what that comes to.
+//! The journey of one wagon: its events since its last plan, and what they come to.
 //!
 //! A message may name many wagons. What it says of one of them is an [`Event`]: its sender, its number, its moment
 //! where it has one, and an [`EventBody`]. A journey is the list of a wagon's events, oldest first; the first is its

@@ -10,7 +10,7 @@
 //! In contracts [`Outboxes`] is the list of its boxes. Of each, `outbox_state_of` gives what is kept for the railway, the
 //! acknowledged number and the bodies of the items after it, and `room_for` how many items more have room
 //! (`specs/OutboxStates.antt`). [`boxes_keep_the_lists`] says that what is kept is all that one needs of the whole list of what a
-//! railway was ever told (`specs/Keeping.antt`).
+//! railway ever got (`specs/Keeping.antt`).
 //!
 //! What must not fail is done in two steps: [`Outboxes::make_room`] first, which may be refused memory, and
 //! [`Outboxes::put`], which may not.

@@ -37,7 +37,7 @@ impl Outboxes {
         }
     }
 
-    /// The number of a railway's last item, 0 if it was told nothing.
+    /// The number of a railway's last item, 0 if it has had none.
     pub fn last(&self, railway: Railway) -> u64
         ensures value { result ≡ last_of (outbox_state_of self.now railway) }
         ensures few { result ≤ 2 ^ 63 }

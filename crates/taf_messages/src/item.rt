@@ -14,7 +14,7 @@ pub struct Item {
     pub body: ItemBody,
 }
 
-/// What a railway is told.
+/// What an item says.
 #[derive(Clone, Debug, PartialEq, Eq, Drop)]
 pub enum ItemBody {
     Notice(Shared<Message>),
