@@ -78,7 +78,7 @@ is_apart s m n =
 abbrev pub ApartIsExact : Type 0
 ApartIsExact = (s : HubState) (m n : Message) → IsTrue (is_apart s m n) ↔ AreApart s m n
 
--- the same is looked up, but for the order of a railway's items
+-- the same is looked up, but for the order of a railway's items and of the fleet
 pub record AreAlike (s t : HubState) : Type 0 where
   pub journey : (w : ℕ) → s.journey w ≡ t.journey w
   pub plan_of : (c : ConsignmentId) → s.plan_of c ≡ t.plan_of c
