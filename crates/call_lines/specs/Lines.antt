@@ -26,8 +26,8 @@ parsed_as (Ok call) = Called call
 parsed_as (Err fault) = Fault fault
 
 -- what a line says
-unfoldable pub parsed : List ℕ → ParsedLine
-parsed line = if nat_lt 65536 (length line) then TooLong else if is_blank line then Blank else parsed_as (call_in line)
+unfoldable pub parsed_line : List ℕ → ParsedLine
+parsed_line line = if nat_lt 65536 (length line) then TooLong else if is_blank line then Blank else parsed_as (call_in line)
 
 -- want of memory is no fault of a line
 abbrev pub IsNotMemory : ParsedLine → Type 0
@@ -43,10 +43,10 @@ abbrev pub reply_text : Reply → List ℕ
 reply_text reply = compact_text (reply_data reply)
 
 -- no newline among the bytes
-abbrev pub unbroken : List ℕ → Bool
-unbroken = list_all (λ b. not (b == 10))
+abbrev pub has_no_newline : List ℕ → Bool
+has_no_newline = list_all (λ b. not (b == 10))
 
 -- a newline stands at the end, and none from the place up to it
 abbrev pub IsNextNewline : List ℕ → ℕ → ℕ → Type 0
 IsNextNewline bytes from end =
-    (from ≤ end) × (end < length bytes) × (slice_index bytes end ≡ 10) × (unbroken (slice_range bytes from end) ≡ true)
+    (from ≤ end) × (end < length bytes) × (slice_index bytes end ≡ 10) × (has_no_newline (slice_range bytes from end) ≡ true)

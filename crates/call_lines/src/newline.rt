@@ -1,6 +1,6 @@
 //! Where a line ends.
 ghost use Rattle.std.specs.Prelude.{◌≡◌, ◌≤◌, true, length, drop, MatchOption};
-ghost use Rattle.call_lines.specs.Lines.{unbroken, IsNextNewline};
+ghost use Rattle.call_lines.specs.Lines.{has_no_newline, IsNextNewline};
 
 use memchr::memchr;
 
@@ -8,7 +8,7 @@ use memchr::memchr;
 pub fn next_newline(bytes: &[u8], from: usize) -> Option<usize>
     requires { from ≤ length bytes.now }
     ensures { MatchOption result
-        (unbroken (drop from bytes.now) ≡ true)
+        (has_no_newline (drop from bytes.now) ≡ true)
         (λ end. IsNextNewline bytes.now from end) }
 {
     match memchr(b'\n', &bytes[from..]) {

@@ -1,7 +1,7 @@
 //! What a line says.
 ghost use Rattle.std.specs.Prelude.{◌≡◌, ◌≤◌, false, length, IfOk, OnErr};
 ghost use Rattle.call_reader.specs.Reading.{Gives};
-ghost use Rattle.call_lines.specs.Lines.{call_in, parsed, is_blank, IsNotMemory};
+ghost use Rattle.call_lines.specs.Lines.{call_in, parsed_line, is_blank, IsNotMemory};
 
 use call_reader::CallReader;
 use taf_codes::Memory;
@@ -24,10 +24,10 @@ pub enum ParsedLine {
 
 /// What the line says, which is given without its newline. The answer is [`Memory`] only where reading a call was
 /// refused some, so never for a line that is too long or blank.
-#[tactic(auto, unfolding(crate::specs::Lines::parsed))]
+#[tactic(auto, unfolding(crate::specs::Lines::parsed_line))]
 pub fn parse_line(reader: &mut CallReader, line: &[u8]) -> Result<ParsedLine, Memory>
-    ensures value { IfOk result (λ p. p ≡ parsed line.now) }
-    ensures told { IfOk result IsNotMemory }
+    ensures value { IfOk result (λ p. p ≡ parsed_line line.now) }
+    ensures reportable { IfOk result IsNotMemory }
     ensures refused { OnErr result ((length line.now ≤ 65536) × (is_blank line.now ≡ false)) }
 {
     if line.len() > LONGEST {

@@ -1,4 +1,4 @@
-use hub_commands::{Fault, perform, tell};
+use hub_commands::{Fault, perform, report_fault};
 use std::alloc::Global;
 use std::io;
 use std::io::ErrorKind;
@@ -7,13 +7,13 @@ use std::sync::Wait;
 use std::test::Fail;
 use std::thread::Threads;
 
-// The words of a command line, which stand with `|` between them.
-fn words(alloc: Global, line: &str) -> Result<Vec<String>, Fail> {
-    let mut words = Vec::new(alloc);
-    for word in line.split('|') {
-        words.push(word.to_string(alloc)?)?;
+// The arguments of a command line, which stand with `|` between them.
+fn arguments(alloc: Global, line: &str) -> Result<Vec<String>, Fail> {
+    let mut arguments = Vec::new(alloc);
+    for argument in line.split('|') {
+        arguments.push(argument.to_string(alloc)?)?;
     }
-    Ok(words)
+    Ok(arguments)
 }
 
 // What a command wrote, and the status that it ended with.
@@ -24,16 +24,16 @@ pub(crate) struct Ended {
     pub errors: Vec<u8>,
 }
 
-// Does what the line of words names.
+// Does what the line of arguments names.
 pub(crate) fn end_of<H>(rt: &H, line: &str, input: &str) -> Result<Ended, Fail>
 where
     H: Net + Threads + Wait + Sync + AllocGlobal,
     H::Stream: Send,
 {
-    let words = words(rt.alloc(), line)?;
+    let arguments = arguments(rt.alloc(), line)?;
     let mut output = Vec::new(rt.alloc());
     let mut errors = Vec::new(rt.alloc());
-    let status = perform(rt, &words, input.as_bytes(), &mut output, &mut errors);
+    let status = perform(rt, &arguments, input.as_bytes(), &mut output, &mut errors);
     Ok(Ended {
         status,
         output,
@@ -47,7 +47,7 @@ const BAD_CHECK_DIGIT: &str = "fault 2: bad check digit\n";
 
 const NOT_TWELVE_DIGITS: &str = "fault 1: not twelve digits\n";
 
-// The words, the input, the status, the output, and the errors.
+// The arguments, the input, the status, the output, and the errors.
 static COMMANDS: [(&str, &str, u8, &str, &str); 11] = [
     ("taf_hub|--version", "", 0, "taf_hub 0.1.0\n", ""),
     ("taf_hub|number|218124712173", "", 0, MARKED, ""),
@@ -80,7 +80,7 @@ static COMMANDS: [(&str, &str, u8, &str, &str); 11] = [
     ),
 ];
 
-// Whether the words end so.
+// Whether the arguments end so.
 fn ends_as(ended: &Ended, status: u8, output: &str, errors: &str) -> bool {
     ended.status == status
         && ended.output.as_slice() == output.as_bytes()
@@ -98,7 +98,7 @@ fn commands_end_with_their_status(rt: HostRuntime) -> Result<(), Fail> {
     Ok(())
 }
 
-// Words that are explained, on the output for the status 0 and else among the errors.
+// Arguments that are explained, on the output for the status 0 and else among the errors.
 static EXPLAINED: [(&str, u8); 17] = [
     ("taf_hub|--help", 0),
     ("taf_hub|number|--help", 0),
@@ -120,7 +120,7 @@ static EXPLAINED: [(&str, u8); 17] = [
 ];
 
 #[test]
-fn other_words_are_explained(rt: HostRuntime) -> Result<(), Fail> {
+fn other_arguments_are_explained(rt: HostRuntime) -> Result<(), Fail> {
     for (line, status) in &EXPLAINED {
         let ended = end_of(&rt, line, "")?;
         let is_output = !ended.output.is_empty();
@@ -132,7 +132,7 @@ fn other_words_are_explained(rt: HostRuntime) -> Result<(), Fail> {
     Ok(())
 }
 
-// The words that ask for help, and the last lines of what is printed.
+// The arguments that ask for help, and the last lines of what is printed.
 static ENDS: [(&str, &str); 4] = [
     (
         "taf_hub|--help",
@@ -163,15 +163,15 @@ fn help_ends_with_an_example_and_the_statuses(rt: HostRuntime) -> Result<(), Fai
     Ok(())
 }
 
-// Whether a fault of the words of this kind is told by this status and line.
+// Whether a fault of the arguments of this kind is told by this status and line.
 fn is_told(alloc: Global, kind: ErrorKind, status: u8, line: &str) -> bool {
     let mut errors = Vec::new(alloc);
-    let fault = Fault::of_words(io::Error::from(kind));
-    tell(fault, &mut errors) == status && errors.as_slice() == line.as_bytes()
+    let fault = Fault::of_arguments(io::Error::from(kind));
+    report_fault(fault, &mut errors) == status && errors.as_slice() == line.as_bytes()
 }
 
 #[test]
-fn words_that_are_not_read_are_a_fault(rt: HostRuntime) {
+fn arguments_that_are_not_read_are_a_fault(rt: HostRuntime) {
     assert!(rt; is_told(rt.alloc(), ErrorKind::OutOfMemory, 4, "fault: memory\n"));
     assert!(rt; is_told(rt.alloc(), ErrorKind::InvalidData, 2, "fault: words\n"));
 }

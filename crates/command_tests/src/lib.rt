@@ -1,10 +1,10 @@
-//! Tests of what the programs do with their words. There is nothing else here.
+//! Tests of what the programs do with their arguments. There is nothing else here.
 //!
 //! | part | tests |
 //! |---|---|
 //! | `commands` | the commands of `taf_hub`: their texts, their faults and their statuses |
 //! | `serving` | a shift of two railways over loopback, and a port that is taken |
-//! | `measurements` | the words of `bench`, and how many lines each benchmark prints |
+//! | `measurements` | the arguments of `bench`, and how many lines each benchmark prints |
 //!
 //! The tests stand apart from the crates that they test, since a crate with tests is proved twice.
 #![tactic(auto)]

@@ -164,10 +164,10 @@ where
         return Err(Fail::new("no size"));
     };
     let client = TcpStream::connect(rt, listener.local_addr()?)?;
-    memory_limit.leave(left)?;
+    memory_limit.limit_to(left)?;
     let (output, mut errors) = (Vec::new(rt.alloc()), Vec::new(rt.alloc()));
     let status = serve_on(rt, listener, size, output, &mut errors);
-    memory_limit.ease();
+    memory_limit.release();
     drop(client);
     Ok(status)
 }

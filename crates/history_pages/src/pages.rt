@@ -26,7 +26,10 @@ impl<T> Model for Pages<T> {
 
     ghost use Rattle.history_pages.specs.Layout.{entries_in, AreInPlace};
 
-    ghost view = { λ p. record { entries = entries_in p; spare = vec_capacity p.current - vec_len p.current } };
+    ghost view = { λ p. record {
+      entries = entries_in p;
+      spare = vec_capacity p.current - vec_len p.current;
+    } };
 
     ghost invariant = { AreInPlace };
 }

@@ -11,12 +11,23 @@ use taf_codes::{Memory, Railway, UnitCode};
 use taf_messages::{Reply, Shared, Why};
 use wagon_number::WagonNumber;
 
+// How a question is refused: why, where there is no such wagon, and the wagon that each refusal names.
+#[derive(Clone, Copy)]
+struct Refusals {
+    unknown: Why,
+    wagon: Option<WagonNumber>,
+}
+
 /// The reply to a railway that asks for a wagon: its record, or why it gets none. A refusal names
 /// the wagon. The only error is that memory was refused.
 pub fn ask(alloc: Global, tables: &Tables, by: Railway, wagon: WagonNumber) -> Result<Reply, Memory>
     ensures { IfOk result (λ r. r ≡ of.ask_reply (table_state tables.now) by wagon) }
 {
-    record_reply(alloc, tables, by, wagon, Why::UnknownWagon, Some(wagon))
+    let refusals = Refusals {
+        unknown: Why::UnknownWagon,
+        wagon: Some(wagon),
+    };
+    record_reply(alloc, tables, by, wagon, refusals)
 }
 
 /// The reply to a railway that asks for an intermodal unit: the record of its wagon, or why it gets
@@ -31,34 +42,40 @@ pub fn ask_unit(
         IfOk result (λ r. r ≡ of.unit_reply s by (unit_wagon s unit)) }
 {
     match tables.unit_wagon(unit) {
-        Some(wagon) => record_reply(alloc, tables, by, wagon, Why::UnknownUnit, None),
+        Some(wagon) => {
+            let refusals = Refusals {
+                unknown: Why::UnknownUnit,
+                wagon: None,
+            };
+            record_reply(alloc, tables, by, wagon, refusals)
+        }
         None => Ok(refusal_reply(Why::UnknownUnit, None)),
     }
 }
 
-// The record of the wagon for a railway that may see it. It is refused by `unknown` where there is
-// no such wagon, and else as not the railway's own. A refusal names the wagon that is `told`.
+// The record of the wagon for a railway that may see it. It is refused where there is no such wagon, and else as not the
+// railway's own.
 fn record_reply(
     alloc: Global,
     tables: &Tables,
     by: Railway,
     wagon: WagonNumber,
-    unknown: Why,
-    told: Option<WagonNumber>,
+    refusals: Refusals,
 ) -> Result<Reply, Memory>
     ensures { let events = (table_state tables.now).journey wagon in
-        let unseen = of.refusal_reply Why.NotYours told in
-        IfOk result (λ r. r ≡ of.record_reply by events (record_of wagon events) (of.refusal_reply unknown told) unseen) }
+        let unseen = of.refusal_reply Why.NotYours refusals.wagon in
+        let unknown = of.refusal_reply refusals.unknown refusals.wagon in
+        IfOk result (λ r. r ≡ of.record_reply by events (record_of wagon events) unknown unseen) }
 {
     let Some(found) = tables.wagon(wagon) else {
-        return Ok(refusal_reply(unknown, told));
+        return Ok(refusal_reply(refusals.unknown, refusals.wagon));
     };
     if wimo::may_see(found.track(), by) {
         let shown = wimo::record_with(alloc, found.track(), &found.estimates())?;
         Ok(Reply::One(Shared::new(alloc, shown)?))
     } else {
         has_record(found);
-        Ok(refusal_reply(Why::NotYours, told))
+        Ok(refusal_reply(Why::NotYours, refusals.wagon))
     }
 }
 

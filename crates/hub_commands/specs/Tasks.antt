@@ -1,4 +1,4 @@
--- What the words of the command line name.
+-- What the arguments of the command line name.
 use Rattle.std.specs.Prelude.{◌≤◌}
 use Rattle.hub_server.specs.Sizes.{IsSize}
 use Rattle.hub_commands.specs.declared.task.Task.{Task}

@@ -12,8 +12,8 @@ use std::net::{Net, OpenListener, OpenStream};
 use std::sync::Wait;
 use std::thread::Threads;
 
-/// Does what the words name, the program's name first, and gives the status.
-pub fn perform<H, R, W, E>(rt: &H, words: &[String], input: R, output: W, errors: &mut E) -> u8
+/// Does what the arguments name, the program's name first, and gives the status.
+pub fn perform<H, R, W, E>(rt: &H, arguments: &[String], input: R, output: W, errors: &mut E) -> u8
 where
     H: Net + Threads + Wait + Sync + AllocGlobal,
     H::Stream: Send,
@@ -21,7 +21,7 @@ where
     W: Write + Drop,
     E: Write,
 {
-    let done = match task_of(rt.alloc(), words) {
+    let done = match task_of(rt.alloc(), arguments) {
         Ok(Task::Replay) => replay::perform(rt, rt.alloc(), input, output),
         Ok(Task::Number(text)) => number::perform(output, text),
         Ok(Task::Serve { port, size }) => serve::perform(rt, port, size, output, errors),
@@ -29,7 +29,7 @@ where
     };
     match done {
         Ok(status) => status,
-        Err(fault) => tell(fault, errors),
+        Err(fault) => report_fault(fault, errors),
     }
 }
 
@@ -44,12 +44,12 @@ where
 {
     match serve::serve(rt, rt.alloc(), listener, size, output) {
         Ok(status) => status,
-        Err(fault) => tell(fault, errors),
+        Err(fault) => report_fault(fault, errors),
     }
 }
 
 /// Prints the line of a fault, and gives its status.
-pub fn tell<E: Write>(fault: Fault, errors: &mut E) -> u8
+pub fn report_fault<E: Write>(fault: Fault, errors: &mut E) -> u8
     ensures { result ≡ status_of fault }
 {
     // Where standard error fails too, the status alone tells of the fault.
@@ -57,7 +57,7 @@ pub fn tell<E: Write>(fault: Fault, errors: &mut E) -> u8
     fault.status()
 }
 
-// Prints clap's text, and gives the status: 0 for help that was asked for, 2 for words that are no command.
+// Prints clap's text, and gives the status: 0 for help that was asked for, 2 for arguments that are no command.
 fn explain<W: Write + Drop, E: Write>(
     error: &Error,
     mut output: W,

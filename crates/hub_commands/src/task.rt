@@ -80,19 +80,19 @@ fn command<'a>(alloc: Global) -> Result<Command<'a>, AllocError> {
         .subcommand(serve(alloc)?)
 }
 
-/// The task that the words name, the program's name first. Numbers out of their limits are an error of clap's.
-pub fn task_of<'a>(alloc: Global, words: &'a [String]) -> Result<Task<'a>, Error>
+/// The task that the arguments name, the program's name first. Numbers out of their limits are an error of clap's.
+pub fn task_of<'a>(alloc: Global, arguments: &'a [String]) -> Result<Task<'a>, Error>
     ensures limits { IfOk result IsWithinLimits }
 {
     let mut command = command(alloc)?;
-    named_by(&mut command, words)
+    named_by(&mut command, arguments)
 }
 
-// The task that the words name to the command.
-fn named_by<'a>(command: &mut Command<'a>, words: &'a [String]) -> Result<Task<'a>, Error>
+// The task that the arguments name to the command.
+fn named_by<'a>(command: &mut Command<'a>, arguments: &'a [String]) -> Result<Task<'a>, Error>
     ensures limits { IfOk result IsWithinLimits }
 {
-    let matches = command.try_get_matches_from_mut(words)?;
+    let matches = command.try_get_matches_from_mut(arguments)?;
     match task_in(&matches) {
         Some(task) => Ok(task),
         None => Err(no_task(command)),

@@ -23,12 +23,12 @@ use Rattle.hub_core.specs.declared.state.State.{State}
 
 -- the entry of a send
 abbrev pub entry_of : FirstSend → Entry
-entry_of reply_copy = record { call = Send reply_copy.message; reply = reply_copy.reply }
+entry_of first = record { call = Send first.message; reply = first.reply }
 
 -- the position, if there is one, is that of the first send, if there is one
 abbrev pub LeadsTo : List Entry → Option ℕ → Option FirstSend → Type 0
 LeadsTo history None None = Unit {0}
-LeadsTo history (Some position) (Some reply_copy) = slice_get history position ≡ Some (entry_of reply_copy)
+LeadsTo history (Some position) (Some first) = slice_get history position ≡ Some (entry_of first)
 LeadsTo history _ _ = ⊥
 
 -- no offer has a name that was not sent

@@ -18,7 +18,7 @@ use taf_codes::Memory;
 use taf_messages::{Call, Reply};
 
 /// The most calls that a hub takes.
-pub(crate) const MOST_CALLS: usize = 1_000_000;
+pub(crate) const MAX_CALLS: usize = 1_000_000;
 
 /// The hub, seen as its history: the entries in the order in which it took their calls.
 #[derive(Drop)]
@@ -81,7 +81,7 @@ impl Hub {
         ensures within { AreWithinLimits self.now }
     {
         histories_are_runs();
-        let _books = &self.state;
+        let _state = &self.state;
     }
 
     /// Takes a call, and gives its position in the history and its reply.
@@ -96,7 +96,7 @@ impl Hub {
         ensures unchanged { OnErr result (self.new ≡ self.old) }
     {
         let position = self.state.history.len();
-        if position >= MOST_CALLS {
+        if position >= MAX_CALLS {
             return Err(HubFault::Full(call));
         }
         match apply_call(self.alloc, &mut self.state, call) {

@@ -9,12 +9,12 @@ use Rattle.hub_replay.specs.declared.fault.RunFault.TheVariants as of_run
 use Rattle.hub_server.specs.declared.fault.ServerFault.{ServerFault}
 use Rattle.hub_server.specs.declared.fault.ServerFault.TheVariants as of_server
 use Rattle.hub_faults.specs.declared.fault.Fault.{Fault}
-use Rattle.hub_faults.specs.declared.fault.Fault.TheVariants.{Words, NotTwelveDigits, BadCheckDigit, Read, Write, NoEnd, Memory, Socket, Thread, NotSettled}
+use Rattle.hub_faults.specs.declared.fault.Fault.TheVariants.{Arguments, NotTwelveDigits, BadCheckDigit, Read, Write, NoEnd, Memory, Socket, Thread, NotSettled}
 
--- 1: the text is refused; 2: no words; 3: a stream failed or has no end; 4: memory was refused; 5: no socket or no thread; 6: a
+-- 1: the text is refused; 2: no arguments; 3: a stream failed or has no end; 4: memory was refused; 5: no socket or no thread; 6: a
 -- shift did not settle
 abbrev pub status_of : Fault → ℕ
-status_of Words = 2
+status_of Arguments = 2
 status_of NotTwelveDigits = 1
 status_of BadCheckDigit = 1
 status_of Read = 3
@@ -25,10 +25,10 @@ status_of Socket = 5
 status_of Thread = 5
 status_of NotSettled = 6
 
--- why the words of the command line were not read
-abbrev pub fault_of_words : ErrorKind → Fault
-fault_of_words OutOfMemory = Memory
-fault_of_words _ = Words
+-- why the arguments of the command line were not read
+abbrev pub fault_of_arguments : ErrorKind → Fault
+fault_of_arguments OutOfMemory = Memory
+fault_of_arguments _ = Arguments
 
 abbrev pub fault_of_number : NumberFault → Fault
 fault_of_number of_number.NotTwelveDigits = NotTwelveDigits

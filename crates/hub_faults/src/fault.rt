@@ -1,6 +1,6 @@
 ghost use Rattle.std.specs.Prelude.{◌≡◌};
 ghost use Rattle.std.specs.IoError.{error_kind};
-ghost use Rattle.hub_faults.specs.Statuses.{status_of, fault_of_words, fault_of_number, fault_of_run, fault_of_server};
+ghost use Rattle.hub_faults.specs.Statuses.{status_of, fault_of_arguments, fault_of_number, fault_of_run, fault_of_server};
 ghost use Rattle.hub_faults.specs.declared.fault.Fault.TheVariants as faults;
 
 use hub_replay::RunFault;
@@ -16,7 +16,7 @@ use wagon_number::NumberFault;
 #[derive(Clone, Copy, Debug, PartialEq, Eq, Error)]
 pub enum Fault {
     #[error("fault: words")]
-    Words,
+    Arguments,
     #[error("fault 1: not twelve digits")]
     NotTwelveDigits,
     #[error("fault 2: bad check digit")]
@@ -38,17 +38,17 @@ pub enum Fault {
 }
 
 impl Fault {
-    /// Why the words of the command line were not read.
-    pub fn of_words(error: io::Error) -> Fault
-        ensures { result ≡ fault_of_words (error_kind error) }
+    /// Why the arguments of the command line were not read.
+    pub fn of_arguments(error: io::Error) -> Fault
+        ensures { result ≡ fault_of_arguments (error_kind error) }
     {
         match error.kind() {
             ErrorKind::OutOfMemory => Fault::Memory,
-            _ => Fault::Words,
+            _ => Fault::Arguments,
         }
     }
 
-    /// The status that the program ends with: 1 for a text that is no number, 2 where the words could not be read, 3 where
+    /// The status that the program ends with: 1 for a text that is no number, 2 where the arguments could not be read, 3 where
     /// reading or writing failed, 4 where memory was refused, 5 where a socket or a thread could not be had, 6 where a shift
     /// did not settle.
     pub fn status(self) -> u8
@@ -56,7 +56,7 @@ impl Fault {
     {
         match self {
             Fault::NotTwelveDigits | Fault::BadCheckDigit => 1,
-            Fault::Words => 2,
+            Fault::Arguments => 2,
             Fault::Read | Fault::Write | Fault::NoEnd => 3,
             Fault::Memory => 4,
             Fault::Socket | Fault::Thread => 5,

@@ -5,13 +5,13 @@
 //! | status | fault |
 //! |---|---|
 //! | 1 | a text that is no vehicle number |
-//! | 2 | words of the command line that cannot be read |
+//! | 2 | arguments of the command line that cannot be read |
 //! | 3 | reading or writing failed, or no end came |
 //! | 4 | memory was refused |
 //! | 5 | a socket or a thread could not be had |
 //! | 6 | a shift did not settle |
 //!
-//! What goes wrong in the crates below becomes a fault by [`Fault::of_words`] and by `From`. The commands stand on this
+//! What goes wrong in the crates below becomes a fault by [`Fault::of_arguments`] and by `From`. The commands stand on this
 //! crate, so that what is promised of faults is proved without the reader of the command line.
 #![tactic(auto)]
 

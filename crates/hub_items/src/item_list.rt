@@ -30,9 +30,9 @@ pub fn items(
     requires { IsAcceptable (table_state tables.now) message.now }
     ensures { IfOk result (λ v. v.items ≡ of.items_of (table_state tables.now) message.now) }
 {
-    let said = message.get();
-    let mut items = all_items(alloc, tables, said, message)?;
-    keep_others(&mut items, said.by());
+    let sent = message.get();
+    let mut items = all_items(alloc, tables, sent, message)?;
+    keep_others(&mut items, sent.by());
     Ok(items)
 }
 
@@ -94,7 +94,8 @@ fn notice_alone(
     receiver: Option<Railway>,
 ) -> Result<Vec<AddressedItem>, Memory>
     ensures { IfOk result (λ v. v.items
-        ≡ map (λ r. record { to = r; body = ItemBody.Notice notice.now }) (option_to_list receiver)) }
+        ≡ map (λ r. record { to = r; body = ItemBody.Notice notice.now })
+        (option_to_list receiver)) }
 {
     let mut items = Vec::new(alloc);
     put_notice(&mut items, notice, receiver)?;
@@ -151,14 +152,8 @@ fn items_of_many(
     let wagons = tables.named_wagons(alloc, message)?;
     let mut items = notices(alloc, tables, message, notice)?;
     let mut alerts = Vec::new(alloc);
-    put_of_wagons(
-        alloc,
-        &mut items,
-        &mut alerts,
-        tables,
-        message,
-        wagons.as_slice(),
-    )?;
+    let from = Acceptable { tables, message };
+    put_of_wagons(alloc, &mut items, &mut alerts, from, wagons.as_slice())?;
     items.append(&mut alerts)?;
     Ok(items)
 }
@@ -170,26 +165,35 @@ fn keep_others(items: &mut Vec<AddressedItem>, sender: Railway)
     items.retain(|item| item.to != sender);
 }
 
+// A message that may be accepted, with the tables that say so.
+#[derive(Clone, Copy)]
+struct Acceptable<'a> {
+    tables: &'a Tables,
+    message: &'a Message,
+}
+
 // Adds the estimates that are news and the alerts, of the wagons that the message names.
 fn put_of_wagons(
     alloc: Global,
     items: &mut Vec<AddressedItem>,
     alerts: &mut Vec<AddressedItem>,
-    tables: &Tables,
-    message: &Message,
+    from: Acceptable<'_>,
     wagons: &[WagonNumber],
 ) -> Result<(), Memory>
-    requires acceptable { IsAcceptable (table_state tables.now) message.now }
-    requires are_named { wagons.now ≡ named_wagons (table_state tables.now).offer message.now }
-    ensures estimates { OnOk result (items.new.items ≡ items.old.items
-        ++ flat_map (λ w. of.estimate_items ((table_state tables.now).journey w)
-        (journey_after (table_state tables.now) message.now w) w) wagons.now) }
-    ensures alerts { OnOk result (alerts.new.items ≡ alerts.old.items
-        ++ flat_map (λ w. of.alert_items ((table_state tables.now).journey w)
-        (journey_after (table_state tables.now) message.now w) w) wagons.now) }
+    requires acceptable { IsAcceptable (table_state from.tables.now) from.message.now }
+    requires are_named { wagons.now
+        ≡ named_wagons (table_state from.tables.now).offer from.message.now }
+    ensures estimates { let before = table_state from.entry.tables.now in
+        let next = journey_after before from.entry.message.now in
+        OnOk result (items.new.items ≡ items.old.items
+        ++ flat_map (λ w. of.estimate_items (before.journey w) (next w) w) wagons.now) }
+    ensures alerts { let before = table_state from.entry.tables.now in
+        let next = journey_after before from.entry.message.now in
+        OnOk result (alerts.new.items ≡ alerts.old.items
+        ++ flat_map (λ w. of.alert_items (before.journey w) (next w) w) wagons.now) }
 {
     for wagon in wagons {
-        put_of_wagon(alloc, items, alerts, tables, message, *wagon)?;
+        put_of_wagon(alloc, items, alerts, from, *wagon)?;
     }
     Ok(())
 }
@@ -199,23 +203,25 @@ fn put_of_wagon(
     alloc: Global,
     items: &mut Vec<AddressedItem>,
     alerts: &mut Vec<AddressedItem>,
-    tables: &Tables,
-    message: &Message,
+    from: Acceptable<'_>,
     wagon: WagonNumber,
 ) -> Result<(), Memory>
-    requires acceptable { IsAcceptable (table_state tables.now) message.now }
-    requires is_named { has (named_wagons (table_state tables.now).offer message.now) wagon ≡ true }
-    ensures estimates { OnOk result (items.new.items ≡ items.old.items
-        ++ of.estimate_items ((table_state tables.now).journey wagon)
-        (journey_after (table_state tables.now) message.now wagon) wagon) }
-    ensures alerts { OnOk result (alerts.new.items ≡ alerts.old.items
-        ++ of.alert_items ((table_state tables.now).journey wagon)
-        (journey_after (table_state tables.now) message.now wagon) wagon) }
+    requires acceptable { IsAcceptable (table_state from.tables.now) from.message.now }
+    requires is_named { has (named_wagons (table_state from.tables.now).offer from.message.now)
+        wagon ≡ true }
+    ensures estimates { let before = table_state from.entry.tables.now in
+        let next = journey_after before from.entry.message.now in
+        OnOk result (items.new.items ≡ items.old.items
+        ++ of.estimate_items (before.journey wagon) (next wagon) wagon) }
+    ensures alerts { let before = table_state from.entry.tables.now in
+        let next = journey_after before from.entry.message.now in
+        OnOk result (alerts.new.items ≡ alerts.old.items
+        ++ of.alert_items (before.journey wagon) (next wagon) wagon) }
 {
-    match message.body() {
-        Body::Plan(plan) => put_alert_end(alerts, tables, plan.lead(), wagon),
+    match from.message.body() {
+        Body::Plan(plan) => put_alert_end(alerts, from.tables, plan.lead(), wagon),
         _ => {
-            let next = WagonEvent::of(tables, message, wagon)?;
+            let next = WagonEvent::of(from.tables, from.message, wagon)?;
             if next.keeps_estimates() {
                 return Ok(());
             }

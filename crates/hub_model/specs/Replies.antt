@@ -13,7 +13,7 @@ use Rattle.taf_messages.specs.declared.record.Record.{Record}
 use Rattle.taf_messages.specs.Content.{same_message}
 use Rattle.journey.specs.declared.event.Event.{Event}
 use Rattle.eti_chain.specs.Estimates.{is_late}
-use Rattle.outbox.specs.Numbering.{fetched, is_ahead}
+use Rattle.outbox.specs.Numbering.{items_to_fetch, is_ahead}
 use Rattle.wimo.specs.Records.{record_of, may_see}
 use Rattle.hub_model.specs.HubState.{HubState, FirstSend}
 use Rattle.hub_model.specs.Units.{is_on_plan, unit_wagon}
@@ -72,7 +72,7 @@ reply_to s (Send m) = send_reply s m (s.first_send m.by m.no)
 reply_to s (Ask by w) = ask_reply s by w
 reply_to s (AskUnit by u) = unit_reply s by (unit_wagon s u)
 reply_to s (Deviation by c) = deviation_reply s by (s.plan_of c)
-reply_to s (Fetch by limit) = Items (fetched (s.outbox by) (s.acknowledged by) limit)
+reply_to s (Fetch by limit) = Items (items_to_fetch (s.outbox by) (s.acknowledged by) limit)
 reply_to s (Ack by n) = ack_reply s by n
 
 -- the records of all wagons that were planned, in the order of their first plans

@@ -9,7 +9,7 @@ use Rattle.call_lines.specs.declared.parsed.ParsedLine.{ParsedLine}
 use Rattle.call_lines.specs.declared.parsed.ParsedLine.TheVariants.{Blank, TooLong, Fault, Called}
 use Rattle.call_lines.specs.Lines.{fault_text}
 use Rattle.hub_replay.specs.Lines.{parsed_lines}
-use Rattle.hub_replay.specs.Outcomes.{Outcome, outcome, faulted, replied, entry_of, is_answered, Answers, start_of}
+use Rattle.hub_replay.specs.Outcomes.{Outcome, outcome, with_fault_line, with_reply_line, entry_of, is_answered, Answers, start_of}
 
 -- lines that lead from one outcome to another
 record IsCounted (o p : Outcome) (hs : List ParsedLine) : Type 0 where
@@ -20,16 +20,16 @@ record IsCounted (o p : Outcome) (hs : List ParsedLine) : Type 0 where
 answered_more : (h : ParsedLine) (hs : List ParsedLine) → is_answered h ≡ true → count_by is_answered (h ∷ hs) ≡ 1 + count_by is_answered hs
 answered_more h hs e = sum_by-cons (λ x. cond (is_answered x) 1 0) h hs ∙ ap (λ t. cond t 1 0 + count_by is_answered hs) e
 
-fault_more : (o p : Outcome) (text : List ℕ) (h : ParsedLine) (hs : List ParsedLine) → is_answered h ≡ true → IsCounted (faulted o text) p hs → IsCounted o p (h ∷ hs)
-unfolding faulted
+fault_more : (o p : Outcome) (text : List ℕ) (h : ParsedLine) (hs : List ParsedLine) → is_answered h ≡ true → IsCounted (with_fault_line o text) p hs → IsCounted o p (h ∷ hs)
+unfolding with_fault_line
 fault_more o p text h hs e c = record {
   lines = omega (arith, c.lines, answered_more h hs e);
   calls = c.calls;
   sum = omega (arith, c.sum);
 }
 
-call_more : (o p : Outcome) (call : Call) (hs : List ParsedLine) → IsCounted (replied o call) p hs → IsCounted o p (Called call ∷ hs)
-unfolding replied
+call_more : (o p : Outcome) (call : Call) (hs : List ParsedLine) → IsCounted (with_reply_line o call) p hs → IsCounted o p (Called call ∷ hs)
+unfolding with_reply_line
 call_more o p call hs c =
     let grown : length (o.entries ++ entry_of o.entries call ∷ []) ≡ length o.entries + 1 = length-append o.entries (entry_of o.entries call ∷ []) in
     record {
@@ -41,12 +41,12 @@ call_more o p call hs c =
 counted : (o : Outcome) (hs : List ParsedLine) → IsCounted o (outcome o hs) hs
 counted o [] = record { lines = omega arith; calls = refl; sum = refl }
 counted o (Blank ∷ hs) = let c = counted o hs in record { lines = c.lines; calls = c.calls; sum = c.sum }
-counted o (TooLong ∷ hs) = fault_more o _ _ TooLong hs refl (counted (faulted o (codes "{\"fault\":\"line_too_long\"}")) hs)
-counted o (Fault fault ∷ hs) = fault_more o _ _ (Fault fault) hs refl (counted (faulted o (fault_text fault)) hs)
+counted o (TooLong ∷ hs) = fault_more o _ _ TooLong hs refl (counted (with_fault_line o (codes "{\"fault\":\"line_too_long\"}")) hs)
+counted o (Fault fault ∷ hs) = fault_more o _ _ (Fault fault) hs refl (counted (with_fault_line o (fault_text fault)) hs)
 counted o (Called call ∷ hs) =
-    elim (nat_lt (length o.entries) 1000000) as (λ t. IsCounted o (outcome (cond t (replied o call) (faulted o (codes "{\"fault\":\"hub_full\"}"))) hs) (Called call ∷ hs)) [
-      | true ↦ call_more o _ call hs (counted (replied o call) hs)
-      | false ↦ fault_more o _ _ (Called call) hs refl (counted (faulted o (codes "{\"fault\":\"hub_full\"}")) hs)
+    elim (nat_lt (length o.entries) 1000000) as (λ t. IsCounted o (outcome (cond t (with_reply_line o call) (with_fault_line o (codes "{\"fault\":\"hub_full\"}"))) hs) (Called call ∷ hs)) [
+      | true ↦ call_more o _ call hs (counted (with_reply_line o call) hs)
+      | false ↦ fault_more o _ _ (Called call) hs refl (counted (with_fault_line o (codes "{\"fault\":\"hub_full\"}")) hs)
     ]
 
 whole : (old : List Entry) (read : List ℕ) (new : List Entry) (written : List ℕ) (counts : Counts) → Answers old read new written counts → IsCounted (start_of old) (record { entries = new; output = written; counts = counts }) (parsed_lines read)

@@ -7,7 +7,7 @@ use Rattle.std.proofs.lemmas.List.Folds.{drop_split}
 use Rattle.std.proofs.lemmas.Grind.{common_steps}
 use Rattle.call_lines.specs.declared.parsed.ParsedLine.{ParsedLine}
 use Rattle.call_lines.specs.declared.parsed.ParsedLine.TheVariants.{TooLong}
-use Rattle.call_lines.specs.Lines.{unbroken, parsed}
+use Rattle.call_lines.specs.Lines.{has_no_newline, parsed_line}
 use Rattle.call_lines.proofs.LineLemmas.{not_newline, rest_unbroken, line_split, too_long}
 use Rattle.hub_replay.specs.Lines.{onto_first, lines_of, after_newline, after_skipping, parsed_lines, IsTaken, IsCut}
 
@@ -23,51 +23,51 @@ onto_lines b (m ∷ more) =
     [ true ↦ refl | false ↦ ap (onto_first b) (onto_lines m more) ]
 
 -- a beginning of a line, whatever follows it
-pub first_line : (x : ℕ) (line more : List ℕ) → unbroken (x ∷ line) ≡ true → lines_of ((x ∷ line) ++ more) ≡ ((x ∷ line) ++ upto more) ∷ lines_of (after_newline more)
+pub first_line : (x : ℕ) (line more : List ℕ) → has_no_newline (x ∷ line) ≡ true → lines_of ((x ∷ line) ++ more) ≡ ((x ∷ line) ++ upto more) ∷ lines_of (after_newline more)
 first_line x [] more h = rw (not_newline x [] h) (onto_lines x more)
 first_line x (y ∷ line) more h =
     rw (not_newline x (y ∷ line) h) (ap (onto_first x) (first_line y line more (rest_unbroken x (y ∷ line) h)))
 
 -- a whole line with its newline
-pub whole_line : (line more : List ℕ) → unbroken line ≡ true → lines_of (line ++ (10 ∷ more)) ≡ line ∷ lines_of more
+pub whole_line : (line more : List ℕ) → has_no_newline line ≡ true → lines_of (line ++ (10 ∷ more)) ≡ line ∷ lines_of more
 whole_line [] more h = refl
 whole_line (x ∷ line) more h =
     rw (not_newline x line h) (ap (onto_first x) (whole_line line more (rest_unbroken x line h)))
 
-pub past_unbroken : (line more : List ℕ) → unbroken line ≡ true → after_newline (line ++ more) ≡ after_newline more
+pub past_unbroken : (line more : List ℕ) → has_no_newline line ≡ true → after_newline (line ++ more) ≡ after_newline more
 past_unbroken [] more h = refl
 past_unbroken (x ∷ line) more h = rw (not_newline x line h) (past_unbroken line more (rest_unbroken x line h))
 
-pub past_newline : (line more : List ℕ) → unbroken line ≡ true → after_newline (line ++ (10 ∷ more)) ≡ more
+pub past_newline : (line more : List ℕ) → has_no_newline line ≡ true → after_newline (line ++ (10 ∷ more)) ≡ more
 past_newline line more h = past_unbroken line (10 ∷ more) h
 
-pub unbroken_join : (xs ys : List ℕ) → unbroken xs ≡ true → unbroken ys ≡ true → unbroken (xs ++ ys) ≡ true
+pub unbroken_join : (xs ys : List ℕ) → has_no_newline xs ≡ true → has_no_newline ys ≡ true → has_no_newline (xs ++ ys) ≡ true
 unbroken_join [] ys h k = k
 unbroken_join (x ∷ xs) ys h k = rw (not_newline x xs h) (unbroken_join xs ys (rest_unbroken x xs h) k)
 
-pub parsed_line : (line : List ℕ) → unbroken line ≡ true → 0 < length line → parsed_lines line ≡ parsed line ∷ []
-parsed_line [] h lt = absurd (omega arith)
-parsed_line (x ∷ line) h lt =
+pub one_line : (line : List ℕ) → has_no_newline line ≡ true → 0 < length line → parsed_lines line ≡ parsed_line line ∷ []
+one_line [] h lt = absurd (omega arith)
+one_line (x ∷ line) h lt =
     let e : lines_of ((x ∷ line) ++ []) ≡ ((x ∷ line) ++ []) ∷ [] = first_line x line [] h in
     let same : (x ∷ line) ++ [] ≡ x ∷ line = append-nil (x ∷ line) in
-    ap (map parsed) (sym (ap lines_of same) ∙ e ∙ ap (λ l. l ∷ []) same)
+    ap (map parsed_line) (sym (ap lines_of same) ∙ e ∙ ap (λ l. l ∷ []) same)
 
-parsed_long : (line more : List ℕ) → unbroken line ≡ true → 65536 < length line → parsed_lines (line ++ more) ≡ TooLong ∷ parsed_lines (after_newline more)
+parsed_long : (line more : List ℕ) → has_no_newline line ≡ true → 65536 < length line → parsed_lines (line ++ more) ≡ TooLong ∷ parsed_lines (after_newline more)
 parsed_long [] more h lt = absurd (omega arith)
 parsed_long (x ∷ line) more h lt =
     let long : 65536 < length ((x ∷ line) ++ upto more) = omega (arith, lt, length-append (x ∷ line) (upto more)) in
-    ap (map parsed) (first_line x line more h) ∙ ap (λ t. t ∷ parsed_lines (after_newline more)) (too_long ((x ∷ line) ++ upto more) long)
+    ap (map parsed_line) (first_line x line more h) ∙ ap (λ t. t ∷ parsed_lines (after_newline more)) (too_long ((x ∷ line) ++ upto more) long)
 
 pub IsTaken-none : (bytes : List ℕ) → IsTaken bytes [] bytes
 IsTaken-none bytes = record { says = λ more. refl }
 
 -- one more line of a piece
-pub IsTaken-line : (bytes w : List ℕ) (hs : List ParsedLine) (from end : ℕ) (h : ParsedLine) → IsTaken bytes hs (drop from w) → from ≤ end → end < length w → get_or w end 0 ≡ 10 → unbroken (slice_range w from end) ≡ true → h ≡ parsed (slice_range w from end) → IsTaken bytes (hs ++ h ∷ []) (drop (end + 1) w)
+pub IsTaken-line : (bytes w : List ℕ) (hs : List ParsedLine) (from end : ℕ) (h : ParsedLine) → IsTaken bytes hs (drop from w) → from ≤ end → end < length w → get_or w end 0 ≡ 10 → has_no_newline (slice_range w from end) ≡ true → h ≡ parsed_line (slice_range w from end) → IsTaken bytes (hs ++ h ∷ []) (drop (end + 1) w)
 IsTaken-line bytes w hs from end h t le lt is whole e = record {
   says = λ more.
       let line : List ℕ = slice_range w from end in
       let split : drop from w ++ more ≡ line ++ (10 ∷ (drop (end + 1) w ++ more)) = ap (λ l. l ++ more) (line_split w from end le lt is) ∙ append_assoc line (10 ∷ drop (end + 1) w) more in
-      let one : parsed_lines (drop from w ++ more) ≡ h ∷ parsed_lines (drop (end + 1) w ++ more) = ap parsed_lines split ∙ ap (map parsed) (whole_line line (drop (end + 1) w ++ more) whole) ∙ ap (λ x. x ∷ parsed_lines (drop (end + 1) w ++ more)) (sym e) in
+      let one : parsed_lines (drop from w ++ more) ≡ h ∷ parsed_lines (drop (end + 1) w ++ more) = ap parsed_lines split ∙ ap (map parsed_line) (whole_line line (drop (end + 1) w ++ more) whole) ∙ ap (λ x. x ∷ parsed_lines (drop (end + 1) w ++ more)) (sym e) in
       t.says more ∙ ap (λ l. hs ++ l) one ∙ sym (append_assoc hs (h ∷ []) (parsed_lines (drop (end + 1) w ++ more)));
 }
 
@@ -84,13 +84,13 @@ pub false_true : false ≡ true → ⊥
 false_true e = cc
 
 -- a piece that is skipped as a whole
-pub IsCut-skipped : (chunk : List ℕ) → unbroken chunk ≡ true → IsCut chunk true [] true (drop (length chunk) chunk)
+pub IsCut-skipped : (chunk : List ℕ) → has_no_newline chunk ≡ true → IsCut chunk true [] true (drop (length chunk) chunk)
 IsCut-skipped chunk h =
     let none : drop (length chunk) chunk ≡ [] = drop_all (length chunk) chunk (omega arith) in
     rw none (record { whole = refl; bare = λ e. refl; says = λ more. ap parsed_lines (past_unbroken chunk more h) })
 
 -- a piece of which the rest is too long for a line
-pub IsCut-long : (chunk : List ℕ) (skipping : Bool) (hs : List ParsedLine) (start end : ℕ) → ((more : List ℕ) → after_skipping skipping (chunk ++ more) ≡ drop start chunk ++ more) → IsTaken (drop start chunk) hs (drop end chunk) → unbroken (drop end chunk) ≡ true → 65536 < length (drop end chunk) → IsCut chunk skipping (hs ++ TooLong ∷ []) true (drop (length chunk) chunk)
+pub IsCut-long : (chunk : List ℕ) (skipping : Bool) (hs : List ParsedLine) (start end : ℕ) → ((more : List ℕ) → after_skipping skipping (chunk ++ more) ≡ drop start chunk ++ more) → IsTaken (drop start chunk) hs (drop end chunk) → has_no_newline (drop end chunk) ≡ true → 65536 < length (drop end chunk) → IsCut chunk skipping (hs ++ TooLong ∷ []) true (drop (length chunk) chunk)
 IsCut-long chunk skipping hs start end begins t h lt =
     let none : drop (length chunk) chunk ≡ [] = drop_all (length chunk) chunk (omega arith) in
     rw none (record {
@@ -131,7 +131,7 @@ pub nonempty : (line : List ℕ) → (length line == 0) ≡ false → 0 < length
 nonempty [] h = absurd (grind (arith, common_steps))
 nonempty (x ∷ line) h = omega arith
 
-pub unbroken_nothing : (w : List ℕ) (j : ℕ) → unbroken (slice_range w j j) ≡ true
+pub unbroken_nothing : (w : List ℕ) (j : ℕ) → has_no_newline (slice_range w j j) ≡ true
 unbroken_nothing w j = let z : j - j ≡ 0 = omega arith in rw z refl
 
 slice_join : (w : List ℕ) (from place end : ℕ) → from ≤ place → place ≤ end → slice_range w from end ≡ slice_range w from place ++ slice_range w place end
@@ -140,14 +140,14 @@ slice_join w from place end le more =
     let at : from + (place - from) ≡ place = omega arith in
     ap (λ n. take n (drop from w)) size ∙ take-add (place - from) (end - place) (drop from w) ∙ ap (λ l. take (place - from) (drop from w) ++ take (end - place) l) (drop-drop (place - from) from w ∙ ap (λ n. drop n w) at)
 
-pub unbroken_slices : (w : List ℕ) (from place end : ℕ) → from ≤ place → place ≤ end → unbroken (slice_range w from place) ≡ true → unbroken (slice_range w place end) ≡ true → unbroken (slice_range w from end) ≡ true
-unbroken_slices w from place end le more h k = ap unbroken (slice_join w from place end le more) ∙ unbroken_join (slice_range w from place) (slice_range w place end) h k
+pub unbroken_slices : (w : List ℕ) (from place end : ℕ) → from ≤ place → place ≤ end → has_no_newline (slice_range w from place) ≡ true → has_no_newline (slice_range w place end) ≡ true → has_no_newline (slice_range w from end) ≡ true
+unbroken_slices w from place end le more h k = ap has_no_newline (slice_join w from place end le more) ∙ unbroken_join (slice_range w from place) (slice_range w place end) h k
 
-pub unbroken_rest : (w : List ℕ) (from place : ℕ) → from ≤ place → unbroken (slice_range w from place) ≡ true → unbroken (drop place w) ≡ true → unbroken (drop from w) ≡ true
-unbroken_rest w from place le h k = ap unbroken (drop_split w from place le) ∙ unbroken_join (slice_range w from place) (drop place w) h k
+pub unbroken_rest : (w : List ℕ) (from place : ℕ) → from ≤ place → has_no_newline (slice_range w from place) ≡ true → has_no_newline (drop place w) ≡ true → has_no_newline (drop from w) ≡ true
+unbroken_rest w from place le h k = ap has_no_newline (drop_split w from place le) ∙ unbroken_join (slice_range w from place) (drop place w) h k
 
 -- where the lines of a piece begin that comes while the rest of a line is skipped
-pub begins_after_newline : (chunk : List ℕ) (end : ℕ) → end < length chunk → get_or chunk end 0 ≡ 10 → unbroken (slice_range chunk 0 end) ≡ true → (more : List ℕ) → after_newline (chunk ++ more) ≡ drop (end + 1) chunk ++ more
+pub begins_after_newline : (chunk : List ℕ) (end : ℕ) → end < length chunk → get_or chunk end 0 ≡ 10 → has_no_newline (slice_range chunk 0 end) ≡ true → (more : List ℕ) → after_newline (chunk ++ more) ≡ drop (end + 1) chunk ++ more
 begins_after_newline chunk end lt is h more =
     let split : chunk ≡ slice_range chunk 0 end ++ (10 ∷ drop (end + 1) chunk) = line_split chunk 0 end (omega arith) lt is in
     ap (λ l. after_newline (l ++ more)) split ∙ ap after_newline (append_assoc (slice_range chunk 0 end) (10 ∷ drop (end + 1) chunk) more) ∙ past_newline (slice_range chunk 0 end) (drop (end + 1) chunk ++ more) h
@@ -155,7 +155,7 @@ begins_after_newline chunk end lt is h more =
 pub parsed_from : (chunk : List ℕ) (skipping : Bool) (start : ℕ) → ((more : List ℕ) → after_skipping skipping (chunk ++ more) ≡ drop start chunk ++ more) → parsed_lines (after_skipping skipping chunk) ≡ parsed_lines (drop start chunk)
 parsed_from chunk skipping start begins = ap parsed_lines (sym (ap (after_skipping skipping) (append-nil chunk)) ∙ begins [] ∙ append-nil (drop start chunk))
 
-pub parsed_rest : (line : List ℕ) → unbroken line ≡ true → 65536 < length line → parsed_lines line ≡ TooLong ∷ []
+pub parsed_rest : (line : List ℕ) → has_no_newline line ≡ true → 65536 < length line → parsed_lines line ≡ TooLong ∷ []
 parsed_rest line h lt = sym (ap parsed_lines (append-nil line)) ∙ parsed_long line [] h lt
 
 pub chunk_split : (buffer : List ℕ) (kept_len n : ℕ) → take (kept_len + n) buffer ≡ take kept_len buffer ++ slice_range buffer kept_len (kept_len + n)

@@ -14,7 +14,7 @@ use Rattle.hub_replay.specs.declared.fault.RunFault.{RunFault}
 use Rattle.hub_replay.specs.declared.fault.RunFault.TheVariants.{Read, Write, NoEnd, Memory}
 use Rattle.call_lines.specs.Lines.{reply_text}
 use Rattle.hub_replay.specs.Lines.{parsed_lines}
-use Rattle.hub_replay.specs.Outcomes.{Outcome, outcome, after, faulted, replied, entry_of, one_fault_more, one_call_more, IsStopped, start_of, Answers}
+use Rattle.hub_replay.specs.Outcomes.{Outcome, outcome, after, with_fault_line, with_reply_line, entry_of, one_fault_more, one_call_more, IsStopped, start_of, Answers}
 use Rattle.hub_replay.specs.Running.{IsUnderway, Advances, StopsWithin, IsLateFault, ExplainsFault}
 use Rattle.hub_replay.proofs.StreamLemmas.{Appends-none, Appends-kept, Appends-append}
 
@@ -23,12 +23,12 @@ outcome-append o xs ys = fold-append after o xs ys
 
 -- what is written only grows
 pub grows_after : (o : Outcome) (h : ParsedLine) → (more : List ℕ) × ((after o h).output ≡ o.output ++ more)
-unfolding faulted replied
+unfolding with_fault_line with_reply_line
 grows_after o Blank = ([], sym (append-nil o.output))
 grows_after o TooLong = (_, refl)
 grows_after o (Fault f) = (_, refl)
 grows_after o (Called call) =
-    elim (nat_lt (length o.entries) 1000000) as (λ t. (more : List ℕ) × ((cond t (replied o call) (faulted o (codes "{\"fault\":\"hub_full\"}"))).output ≡ o.output ++ more))
+    elim (nat_lt (length o.entries) 1000000) as (λ t. (more : List ℕ) × ((cond t (with_reply_line o call) (with_fault_line o (codes "{\"fault\":\"hub_full\"}"))).output ≡ o.output ++ more))
     [ true ↦ (_, refl) | false ↦ (_, refl) ]
 
 pub grows : (o : Outcome) (hs : List ParsedLine) → (more : List ℕ) × ((outcome o hs).output ≡ o.output ++ more)
@@ -122,9 +122,9 @@ StopsWithin-more {c₀} {c₁} {e₀} {e₁} {d₀} {xs} ys a = record {
 }
 
 -- a call whose reply's line is written too
-pub IsUnderway-replied : (start : Outcome) (hs : List ParsedLine) (call : Call) (written : List ℕ) (entries entries' : List Entry) (pending pending' : List ℕ) (counts counts' : Counts) → IsUnderway start hs written entries pending counts → length entries < 1000000 → entries' ≡ entries ++ entry_of entries call ∷ [] → pending' ≡ pending ++ (reply_text (entry_of entries call).reply ++ 10 ∷ []) → counts' ≡ one_call_more counts → outcome start (hs ++ Called call ∷ []) ≡ record { entries = entries'; output = written ++ pending'; counts = counts' }
-unfolding replied
-IsUnderway-replied start hs call written entries entries' pending pending' counts counts' u buffer e p k =
+pub IsUnderway-with_reply_line : (start : Outcome) (hs : List ParsedLine) (call : Call) (written : List ℕ) (entries entries' : List Entry) (pending pending' : List ℕ) (counts counts' : Counts) → IsUnderway start hs written entries pending counts → length entries < 1000000 → entries' ≡ entries ++ entry_of entries call ∷ [] → pending' ≡ pending ++ (reply_text (entry_of entries call).reply ++ 10 ∷ []) → counts' ≡ one_call_more counts → outcome start (hs ++ Called call ∷ []) ≡ record { entries = entries'; output = written ++ pending'; counts = counts' }
+unfolding with_reply_line
+IsUnderway-with_reply_line start hs call written entries entries' pending pending' counts counts' u buffer e p k =
     let fits : nat_lt (length entries) 1000000 ≡ true = lt-ltb (length entries) 1000000 buffer in
     outcome-append start hs (Called call ∷ []) ∙ ap (λ o. after o (Called call)) u.sum ∙ rw (fits, e, p, k) (ap (λ l. record { entries = entries ++ entry_of entries call ∷ []; output = l; counts = one_call_more counts }) (append_assoc written pending (reply_text (entry_of entries call).reply ++ 10 ∷ [])))
 
@@ -140,8 +140,8 @@ IsUnderway-complete start hs written entries counts e = record {
 }
 
 -- a call that is in the history, and of whose reply and what was pending any front is written
-pub IsStopped-replied : (start : Outcome) (hs : List ParsedLine) (call : Call) (written : List ℕ) (entries entries' : List Entry) (pending front back : List ℕ) (counts counts' : Counts) → IsUnderway start hs written entries pending counts → outcome start (hs ++ Called call ∷ []) ≡ record { entries = entries'; output = written ++ (front ++ back); counts = counts' } → length entries' ≤ length entries + 1 → IsStopped start (hs ++ Called call ∷ []) (written ++ front) entries'
-IsStopped-replied start hs call written entries entries' pending front back counts counts' u e few =
+pub IsStopped-with_reply_line : (start : Outcome) (hs : List ParsedLine) (call : Call) (written : List ℕ) (entries entries' : List Entry) (pending front back : List ℕ) (counts counts' : Counts) → IsUnderway start hs written entries pending counts → outcome start (hs ++ Called call ∷ []) ≡ record { entries = entries'; output = written ++ (front ++ back); counts = counts' } → length entries' ≤ length entries + 1 → IsStopped start (hs ++ Called call ∷ []) (written ++ front) entries'
+IsStopped-with_reply_line start hs call written entries entries' pending front back counts counts' u e few =
     let split : hs ++ Called call ∷ [] ≡ u.complete ++ (u.rest ++ Called call ∷ []) = ap (λ l. l ++ Called call ∷ []) u.split ∙ append_assoc u.complete u.rest (Called call ∷ []) in
     record {
       complete = u.complete;
@@ -156,20 +156,20 @@ IsStopped-replied start hs call written entries entries' pending front back coun
       one = rw (u.answered) few;
     }
 
-said_as : (entries : List Entry) (written pending pending' text : List ℕ) (counts counts' : Counts) → pending' ≡ pending ++ (text ++ 10 ∷ []) → counts' ≡ one_fault_more counts → faulted (record { entries = entries; output = written ++ pending; counts = counts }) text ≡ record { entries = entries; output = written ++ pending'; counts = counts' }
-unfolding faulted
+said_as : (entries : List Entry) (written pending pending' text : List ℕ) (counts counts' : Counts) → pending' ≡ pending ++ (text ++ 10 ∷ []) → counts' ≡ one_fault_more counts → with_fault_line (record { entries = entries; output = written ++ pending; counts = counts }) text ≡ record { entries = entries; output = written ++ pending'; counts = counts' }
+unfolding with_fault_line
 said_as entries written pending pending' text counts counts' p k =
     rw (p, k) (ap (λ l. record { entries = entries; output = l; counts = one_fault_more counts }) (append_assoc written pending (text ++ 10 ∷ [])))
 
 -- a line that is answered by a fault
-pub Advances-said : (c : Option (List ℕ)) (e : List Entry) (d₀ d₁ : Output) (h : ParsedLine) (text : List ℕ) → ((o : Outcome) → o.entries ≡ e → after o h ≡ faulted o text) → d₁.pending.items ≡ d₀.pending.items ++ (text ++ 10 ∷ []) → d₁.counts ≡ one_fault_more d₀.counts → Advances c c e d₀ e d₁ (h ∷ [])
+pub Advances-said : (c : Option (List ℕ)) (e : List Entry) (d₀ d₁ : Output) (h : ParsedLine) (text : List ℕ) → ((o : Outcome) → o.entries ≡ e → after o h ≡ with_fault_line o text) → d₁.pending.items ≡ d₀.pending.items ++ (text ++ 10 ∷ []) → d₁.counts ≡ one_fault_more d₀.counts → Advances c c e d₀ e d₁ (h ∷ [])
 Advances-said c e d₀ d₁ h text same p k = record {
   advances = λ start before written u.
       let o : Outcome = record { entries = e; output = written ++ d₀.pending.items; counts = d₀.counts } in
       ([], Appends-none c, rw (append-nil written) (IsUnderway-said start before h written e d₀.pending.items d₁.pending.items d₀.counts d₁.counts u (same o refl ∙ said_as e written d₀.pending.items d₁.pending.items text d₀.counts d₁.counts p k)));
 }
 
-pub full_fault : (call : Call) (o : Outcome) (e : List Entry) → length e ≡ 1000000 → o.entries ≡ e → after o (Called call) ≡ faulted o (codes "{\"fault\":\"hub_full\"}")
+pub full_fault : (call : Call) (o : Outcome) (e : List Entry) → length e ≡ 1000000 → o.entries ≡ e → after o (Called call) ≡ with_fault_line o (codes "{\"fault\":\"hub_full\"}")
 full_fault call o e full q = let t : nat_lt (length o.entries) 1000000 ≡ false = ap (λ n. nat_lt n 1000000) (ap length q ∙ full) in rw t refl
 
 pub Advances-blank : (c : Option (List ℕ)) (e : List Entry) (d : Output) → Advances c c e d e d (Blank ∷ [])
@@ -195,18 +195,18 @@ StopsWithin-flush c₀ c₁ e d bytes front rest same cut app = record {
 }
 
 -- a call whose reply is said and written with what was pending
-pub Advances-replied : (c₀ c₁ : Option (List ℕ)) (e e' : List Entry) (d₀ d₁ : Output) (call : Call) (bytes : List ℕ) → length e < 1000000 → e' ≡ e ++ entry_of e call ∷ [] → bytes ≡ d₀.pending.items ++ (reply_text (entry_of e call).reply ++ 10 ∷ []) → d₁.counts ≡ one_call_more d₀.counts → d₁.pending.items ≡ [] → Appends c₀ c₁ bytes → Advances c₀ c₁ e d₀ e' d₁ (Called call ∷ [])
-Advances-replied c₀ c₁ e e' d₀ d₁ call bytes buffer grown p k pending app = record {
+pub Advances-with_reply_line : (c₀ c₁ : Option (List ℕ)) (e e' : List Entry) (d₀ d₁ : Output) (call : Call) (bytes : List ℕ) → length e < 1000000 → e' ≡ e ++ entry_of e call ∷ [] → bytes ≡ d₀.pending.items ++ (reply_text (entry_of e call).reply ++ 10 ∷ []) → d₁.counts ≡ one_call_more d₀.counts → d₁.pending.items ≡ [] → Appends c₀ c₁ bytes → Advances c₀ c₁ e d₀ e' d₁ (Called call ∷ [])
+Advances-with_reply_line c₀ c₁ e e' d₀ d₁ call bytes buffer grown p k pending app = record {
   advances = λ start before written u.
-      (bytes, app, rw pending (IsUnderway-complete start (before ++ Called call ∷ []) (written ++ bytes) e' d₁.counts (IsUnderway-replied start before call written e e' d₀.pending.items bytes d₀.counts d₁.counts u buffer grown p k)));
+      (bytes, app, rw pending (IsUnderway-complete start (before ++ Called call ∷ []) (written ++ bytes) e' d₁.counts (IsUnderway-with_reply_line start before call written e e' d₀.pending.items bytes d₀.counts d₁.counts u buffer grown p k)));
 }
 
 -- the same, where only a front of that is written
-pub StopsWithin-replied : (c₀ c₁ : Option (List ℕ)) (e e' : List Entry) (d₀ : Output) (call : Call) (front back : List ℕ) → length e < 1000000 → e' ≡ e ++ entry_of e call ∷ [] → front ++ back ≡ d₀.pending.items ++ (reply_text (entry_of e call).reply ++ 10 ∷ []) → Appends c₀ c₁ front → StopsWithin c₀ c₁ e d₀ e' (Called call ∷ [])
-StopsWithin-replied c₀ c₁ e e' d₀ call front back buffer grown p app = record {
+pub StopsWithin-with_reply_line : (c₀ c₁ : Option (List ℕ)) (e e' : List Entry) (d₀ : Output) (call : Call) (front back : List ℕ) → length e < 1000000 → e' ≡ e ++ entry_of e call ∷ [] → front ++ back ≡ d₀.pending.items ++ (reply_text (entry_of e call).reply ++ 10 ∷ []) → Appends c₀ c₁ front → StopsWithin c₀ c₁ e d₀ e' (Called call ∷ [])
+StopsWithin-with_reply_line c₀ c₁ e e' d₀ call front back buffer grown p app = record {
   stops = λ start before written u.
       let one : length e' ≤ length e + 1 = omega (arith, ap length grown ∙ length-append e (entry_of e call ∷ [])) in
-      (front, app, IsStopped-replied start before call written e e' d₀.pending.items front back d₀.counts (one_call_more d₀.counts) u (IsUnderway-replied start before call written e e' d₀.pending.items (front ++ back) d₀.counts _ u buffer grown p refl) one);
+      (front, app, IsStopped-with_reply_line start before call written e e' d₀.pending.items front back d₀.counts (one_call_more d₀.counts) u (IsUnderway-with_reply_line start before call written e e' d₀.pending.items (front ++ back) d₀.counts _ u buffer grown p refl) one);
 }
 
 pub on_ok : {A E : Type 0} (r : Result A E) {P Q R : Type 0} → OnOk r P → OnOk r Q → (P → Q → R) → OnOk r R

@@ -1,7 +1,7 @@
 -- Lines in a row.
 use Rattle.std.specs.Prelude.{◌≡◌, ℕ, ◌≤◌, true, List, length, drop, All}
 use Rattle.hub_replay.specs.declared.batch.Batch.{Batch}
-use Rattle.call_lines.specs.Lines.{IsNotMemory, unbroken}
+use Rattle.call_lines.specs.Lines.{IsNotMemory, has_no_newline}
 use Rattle.hub_replay.specs.Lines.{IsTaken}
 
 -- The first lines of the bytes, up to the end of one of them, say these things. Only where the bytes have no whole
@@ -11,4 +11,4 @@ pub record IsBatch (bytes : List ℕ) (batch : Batch) : Type 0 where
   pub says : IsTaken bytes batch.lines.items (drop batch.end bytes)
   pub reportable : All IsNotMemory batch.lines.items
   pub few : length batch.lines.items ≤ batch.end
-  pub none : batch.end ≡ 0 → unbroken bytes ≡ true
+  pub none : batch.end ≡ 0 → has_no_newline bytes ≡ true

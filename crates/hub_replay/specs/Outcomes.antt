@@ -23,8 +23,8 @@ abbrev pub one_call_more : Counts → Counts
 one_call_more c = record { lines = c.lines + 1; calls = c.calls + 1; faults = c.faults }
 
 -- a line that tells a fault
-unfoldable pub faulted : Outcome → List ℕ → Outcome
-faulted o text = record {
+unfoldable pub with_fault_line : Outcome → List ℕ → Outcome
+with_fault_line o text = record {
   entries = o.entries;
   output = o.output ++ (text ++ 10 ∷ []);
   counts = one_fault_more o.counts;
@@ -35,8 +35,8 @@ unfoldable pub entry_of : List Entry → Call → Entry
 entry_of entries call = record { call = call; reply = answer entries call }
 
 -- a call's entry, and the line of its reply
-unfoldable pub replied : Outcome → Call → Outcome
-replied o call = record {
+unfoldable pub with_reply_line : Outcome → Call → Outcome
+with_reply_line o call = record {
   entries = o.entries ++ entry_of o.entries call ∷ [];
   output = o.output ++ (reply_text (entry_of o.entries call).reply ++ 10 ∷ []);
   counts = one_call_more o.counts;
@@ -45,9 +45,9 @@ replied o call = record {
 -- what one more line leads to: a full history takes no call
 abbrev pub after : Outcome → ParsedLine → Outcome
 after o Blank = o
-after o TooLong = faulted o (codes "{\"fault\":\"line_too_long\"}")
-after o (Fault fault) = faulted o (fault_text fault)
-after o (Called call) = if nat_lt (length o.entries) 1000000 then replied o call else faulted o (codes "{\"fault\":\"hub_full\"}")
+after o TooLong = with_fault_line o (codes "{\"fault\":\"line_too_long\"}")
+after o (Fault fault) = with_fault_line o (fault_text fault)
+after o (Called call) = if nat_lt (length o.entries) 1000000 then with_reply_line o call else with_fault_line o (codes "{\"fault\":\"hub_full\"}")
 
 -- a line that is answered: all but the blank ones
 abbrev pub is_answered : ParsedLine → Bool
@@ -56,7 +56,7 @@ is_answered _ = true
 
 -- what lines lead to
 abbrev pub outcome : Outcome → List ParsedLine → Outcome
-outcome o hs = fold after o hs
+outcome o lines = fold after o lines
 
 abbrev pub start_of : List Entry → Outcome
 start_of entries = record { entries = entries; output = []; counts = record { lines = 0; calls = 0; faults = 0 } }
@@ -68,11 +68,11 @@ Answers old read new written counts = outcome (start_of old) (parsed_lines read)
 -- The lines were answered up to some place. What was written begins with the whole answers to the lines `complete`, and
 -- is a front of those to `complete` and `last`. The entries are those that the calls among both lead to, and `last`
 -- brought at most one.
-pub record IsStopped (start : Outcome) (hs : List ParsedLine) (written : List ℕ) (entries : List Entry) : Type 0 where
+pub record IsStopped (start : Outcome) (lines : List ParsedLine) (written : List ℕ) (entries : List Entry) : Type 0 where
   pub complete : List ParsedLine
   pub last : List ParsedLine
   pub rest : List ParsedLine
-  pub split : hs ≡ complete ++ (last ++ rest)
+  pub split : lines ≡ complete ++ (last ++ rest)
   pub cut : List ℕ
   pub begins : written ≡ (outcome start complete).output ++ cut
   pub lacks : List ℕ

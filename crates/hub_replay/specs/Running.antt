@@ -10,11 +10,11 @@ use Rattle.hub_replay.specs.declared.fault.RunFault.TheVariants.{Read, Write, No
 use Rattle.hub_replay.specs.Outcomes.{Outcome, outcome, IsStopped}
 
 -- All the lines are answered; what isn't written yet is pending, and has no call's reply.
-pub record IsUnderway (start : Outcome) (hs : List ParsedLine) (written : List ℕ) (entries : List Entry) (pending : List ℕ) (counts : Counts) : Type 0 where
-  pub sum : outcome start hs ≡ record { entries = entries; output = written ++ pending; counts = counts }
+pub record IsUnderway (start : Outcome) (lines : List ParsedLine) (written : List ℕ) (entries : List Entry) (pending : List ℕ) (counts : Counts) : Type 0 where
+  pub sum : outcome start lines ≡ record { entries = entries; output = written ++ pending; counts = counts }
   pub complete : List ParsedLine
   pub rest : List ParsedLine
-  pub split : hs ≡ complete ++ rest
+  pub split : lines ≡ complete ++ rest
   pub flushed : (outcome start complete).output ≡ written
   pub answered : (outcome start complete).entries ≡ entries
 
@@ -38,9 +38,9 @@ ExplainsFault NoEnd r₀ r₁ w₀ w₁ n = (r₁ ≡ r₀) × (w₁ ≡ w₀) �
 ExplainsFault Memory r₀ r₁ w₀ w₁ n = (r₁ ≡ r₀) × (w₁ ≡ w₀) × (n ≤ 2 ^ 40)
 
 -- From one state to another, by these lines.
-pub record Advances (c₀ c₁ : Option (List ℕ)) (e₀ : List Entry) (d₀ : Output) (e₁ : List Entry) (d₁ : Output) (hs : List ParsedLine) : Type 0 where
-  pub advances : (start : Outcome) (before : List ParsedLine) (written : List ℕ) → IsUnderway start before written e₀ d₀.pending.items d₀.counts → (w : List ℕ) × Appends c₀ c₁ w × IsUnderway start (before ++ hs) (written ++ w) e₁ d₁.pending.items d₁.counts
+pub record Advances (c₀ c₁ : Option (List ℕ)) (e₀ : List Entry) (o₀ : Output) (e₁ : List Entry) (o₁ : Output) (lines : List ParsedLine) : Type 0 where
+  pub advances : (start : Outcome) (before : List ParsedLine) (written : List ℕ) → IsUnderway start before written e₀ o₀.pending.items o₀.counts → (w : List ℕ) × Appends c₀ c₁ w × IsUnderway start (before ++ lines) (written ++ w) e₁ o₁.pending.items o₁.counts
 
 -- From a state to a stop among these lines.
-pub record StopsWithin (c₀ c₁ : Option (List ℕ)) (e₀ : List Entry) (d₀ : Output) (e₁ : List Entry) (hs : List ParsedLine) : Type 0 where
-  pub stops : (start : Outcome) (before : List ParsedLine) (written : List ℕ) → IsUnderway start before written e₀ d₀.pending.items d₀.counts → (w : List ℕ) × Appends c₀ c₁ w × IsStopped start (before ++ hs) (written ++ w) e₁
+pub record StopsWithin (c₀ c₁ : Option (List ℕ)) (e₀ : List Entry) (o₀ : Output) (e₁ : List Entry) (lines : List ParsedLine) : Type 0 where
+  pub stops : (start : Outcome) (before : List ParsedLine) (written : List ℕ) → IsUnderway start before written e₀ o₀.pending.items o₀.counts → (w : List ℕ) × Appends c₀ c₁ w × IsStopped start (before ++ lines) (written ++ w) e₁

@@ -1,6 +1,6 @@
 //! What lines in a row say.
 ghost use Rattle.std.specs.Prelude.{◌≡◌, ◌<◌, ◌≤◌, true, length, take, IfOk};
-ghost use Rattle.call_lines.specs.Lines.{unbroken};
+ghost use Rattle.call_lines.specs.Lines.{has_no_newline};
 ghost use Rattle.hub_replay.specs.Batches.{IsBatch};
 
 use call_lines::{ParsedLine, next_newline, parse_line};
@@ -29,7 +29,7 @@ pub(crate) fn parse_batch(
 ) -> Result<Batch, Memory>
     requires order { scanned ≤ length bytes.now }
     requires some { 0 < most }
-    requires scanned { unbroken (take scanned bytes.now) ≡ true }
+    requires scanned { has_no_newline (take scanned bytes.now) ≡ true }
     ensures { IfOk result (λ batch. IsBatch bytes.now batch) }
 {
     let mut reader = CallReader::new(alloc);

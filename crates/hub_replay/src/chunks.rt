@@ -1,7 +1,7 @@
 //! The lines of a chunk of the input.
 ghost use Rattle.std.specs.Prelude.{◌≡◌, ◌+◌, ◌*◌, ◌-◌, ◌<◌, ◌≤◌, ◌^◌, ◌++◌, ◌∷◌, [], ℕ, List, true, false, length, drop, take, slice_range, OnOk, OnErr, IfOk, IfErr, MatchOption};
 ghost use Rattle.call_lines.specs.declared.parsed.ParsedLine.{ParsedLine};
-ghost use Rattle.call_lines.specs.Lines.{unbroken};
+ghost use Rattle.call_lines.specs.Lines.{has_no_newline};
 ghost use Rattle.hub_replay.specs.Lines.{IsCut, IsTaken, parsed_lines, after_skipping, after_newline};
 ghost use Rattle.hub_replay.specs.Running.{Advances, StopsWithin, line_total, IsLateFault};
 
@@ -24,6 +24,22 @@ const FIRST_BATCH: usize = 16_384;
 // How many bytes of lines are parsed at once at most.
 const MAX_BATCH: usize = 1_048_576;
 
+/// A chunk of the input, and whether the rest of its first line is skipped. No newline comes before `scanned`.
+#[derive(Clone, Copy)]
+pub(crate) struct Chunk<'a> {
+    pub(crate) chunk: &'a [u8],
+    pub(crate) scanned: usize,
+    pub(crate) skipping: bool,
+}
+
+/// The lines of a chunk from a place on. From there to `scanned` no newline comes.
+#[derive(Clone, Copy)]
+pub(crate) struct ChunkPart<'a> {
+    pub(crate) chunk: &'a [u8],
+    pub(crate) start: usize,
+    pub(crate) scanned: usize,
+}
+
 /// What is left of a chunk: where it begins, and whether the rest of its line is skipped.
 #[derive(Clone, Copy)]
 pub(crate) struct Rest {
@@ -34,8 +50,10 @@ pub(crate) struct Rest {
 /// Where the first line of a chunk begins. None where the chunk is skipped as a whole.
 pub(crate) fn first_start(chunk: &[u8], skipping: bool) -> Option<usize>
     ensures { MatchOption result
-        ((skipping ≡ true) × (unbroken chunk.now ≡ true))
-        (λ start. (start ≤ length chunk.now) × (skipping ≡ false → start ≡ 0) × ((more : List ℕ) → after_skipping skipping (chunk.now ++ more) ≡ drop start chunk.now ++ more)) }
+        ((skipping ≡ true) × (has_no_newline chunk.now ≡ true))
+        (λ start. (start ≤ length chunk.now) × (skipping ≡ false → start ≡ 0)
+        × ((more : List ℕ) → after_skipping skipping (chunk.now ++ more)
+        ≡ drop start chunk.now ++ more)) }
 {
     if !skipping {
         return Some(0);
@@ -46,33 +64,37 @@ pub(crate) fn first_start(chunk: &[u8], skipping: bool) -> Option<usize>
     }
 }
 
-/// Answers the whole lines of a chunk from a place on, and gives the place after them. No newline comes before `scanned`.
+/// Answers the whole lines of a chunk from a place on, and gives the place after them.
 pub(crate) fn answer_lines<W: Sink>(
     line_parser: &mut LineParser<'_, impl Threads>,
     writer: &mut W,
     hub: &mut Hub,
     output: &mut Output,
-    chunk: &[u8],
-    start: usize,
-    scanned: usize,
+    part: ChunkPart<'_>,
 ) -> Result<usize, RunFault>
-    requires order { (start ≤ scanned) × (scanned ≤ length chunk.now) }
-    requires scanned { unbroken (slice_range chunk.now start scanned) ≡ true }
-    requires few { line_total output.old.counts + 2 * length chunk.now < 2 ^ 62 }
-    ensures bounds { IfOk result (λ end. (start ≤ end) × (end ≤ length chunk.now)) }
-    ensures whole { IfOk result (λ end. unbroken (drop end chunk.now) ≡ true) }
-    ensures ok { IfOk result (λ end. (hs : List ParsedLine)
-        × IsTaken (drop start chunk.now) hs (drop end chunk.now)
+    requires order { (part.start ≤ part.scanned) × (part.scanned ≤ length part.chunk.now) }
+    requires scanned { has_no_newline (slice_range part.chunk.now part.start part.scanned) ≡ true }
+    requires few { line_total output.old.counts + 2 * length part.chunk.now < 2 ^ 62 }
+    ensures bounds { IfOk result (λ end. (part.entry.start ≤ end)
+        × (end ≤ length part.entry.chunk.now)) }
+    ensures whole { IfOk result (λ end. has_no_newline (drop end part.entry.chunk.now) ≡ true) }
+    ensures ok { IfOk result (λ end. (lines : List ParsedLine)
+        × IsTaken (drop part.entry.start part.entry.chunk.now) lines (drop end part.entry.chunk.now)
         × Advances (W.contents writer.old) (W.contents writer.new) hub.old output.old hub.new
-        output.new hs) }
+        output.new lines) }
     ensures err { OnErr result (StopsWithin (W.contents writer.old) (W.contents writer.new) hub.old
-        output.old hub.new (parsed_lines (drop start chunk.now))) }
+        output.old hub.new (parsed_lines (drop part.entry.start part.entry.chunk.now))) }
     ensures fault { IfErr result (λ f. IsLateFault f (W.failures writer.old)
         (W.failures writer.new)) }
     ensures kept { OnOk result (W.failures writer.new ≡ W.failures writer.old) }
-    ensures counted { IfOk result (λ end. line_total output.new.counts + 2 * start
+    ensures counted { IfOk result (λ end. line_total output.new.counts + 2 * part.entry.start
         ≤ line_total output.old.counts + 2 * end) }
 {
+    let ChunkPart {
+        chunk,
+        start,
+        scanned,
+    } = part;
     let mut size = FIRST_BATCH;
     let mut batch = line_parser.parse(&chunk[start..], scanned - start, size)?;
     let mut from = start;
@@ -110,36 +132,46 @@ pub(crate) fn answer_chunk<W: Sink>(
     writer: &mut W,
     hub: &mut Hub,
     output: &mut Output,
-    chunk: &[u8],
-    scanned: usize,
-    skipping: bool,
+    input: Chunk<'_>,
 ) -> Result<Rest, RunFault>
-    requires order { scanned ≤ length chunk.now }
-    requires scanned { unbroken (take scanned chunk.now) ≡ true }
-    requires bare { skipping ≡ true → scanned ≡ 0 }
-    requires few { line_total output.old.counts + 2 * length chunk.now < 2 ^ 62 }
-    ensures bounds { IfOk result (λ rest. (rest.start ≤ length chunk.now)
-        × (length chunk.now ≤ rest.start + 65536)) }
-    ensures ok { IfOk result (λ rest. (hs : List ParsedLine)
-        × IsCut chunk.now skipping hs rest.skipping (drop rest.start chunk.now)
+    requires order { input.scanned ≤ length input.chunk.now }
+    requires scanned { has_no_newline (take input.scanned input.chunk.now) ≡ true }
+    requires bare { input.skipping ≡ true → input.scanned ≡ 0 }
+    requires few { line_total output.old.counts + 2 * length input.chunk.now < 2 ^ 62 }
+    ensures bounds { IfOk result (λ rest. (rest.start ≤ length input.entry.chunk.now)
+        × (length input.entry.chunk.now ≤ rest.start + 65536)) }
+    ensures ok { IfOk result (λ rest. (lines : List ParsedLine)
+        × IsCut input.entry.chunk.now input.entry.skipping lines rest.skipping
+        (drop rest.start input.entry.chunk.now)
         × Advances (W.contents writer.old) (W.contents writer.new) hub.old output.old hub.new
-        output.new hs) }
+        output.new lines) }
     ensures err { OnErr result (StopsWithin (W.contents writer.old) (W.contents writer.new) hub.old
-        output.old hub.new (parsed_lines (after_skipping skipping chunk.now))) }
+        output.old hub.new
+        (parsed_lines (after_skipping input.entry.skipping input.entry.chunk.now))) }
     ensures fault { IfErr result (λ f. IsLateFault f (W.failures writer.old)
         (W.failures writer.new)) }
     ensures kept { OnOk result (W.failures writer.new ≡ W.failures writer.old) }
     ensures counted { IfOk result (λ rest. line_total output.new.counts
         ≤ line_total output.old.counts + 2 * rest.start) }
 {
+    let Chunk {
+        chunk,
+        scanned,
+        skipping,
+    } = input;
     let Some(start) = first_start(chunk, skipping) else {
         return Ok(Rest {
             start: chunk.len(),
             skipping: true,
         });
     };
-    let place = if skipping { start } else { scanned };
-    let end = answer_lines(line_parser, writer, hub, output, chunk, start, place)?;
+    let scanned = if skipping { start } else { scanned };
+    let part = ChunkPart {
+        chunk,
+        start,
+        scanned,
+    };
+    let end = answer_lines(line_parser, writer, hub, output, part)?;
     if chunk.len() - end <= LONGEST {
         return Ok(Rest {
             start: end,
@@ -160,7 +192,7 @@ pub(crate) fn finish<W: Sink>(
     output: &mut Output,
     line: &[u8],
 ) -> Result<Counts, RunFault>
-    requires whole { unbroken line.now ≡ true }
+    requires whole { has_no_newline line.now ≡ true }
     requires few { line_total output.old.counts < 2 ^ 62 }
     ensures ok { OnOk result (Advances (W.contents writer.old) (W.contents writer.new) hub.old
         output.old hub.new output.new (parsed_lines line.now)) }
@@ -183,7 +215,7 @@ fn last_line<W: Sink>(
     output: &mut Output,
     line: &[u8],
 ) -> Result<(), RunFault>
-    requires whole { unbroken line.now ≡ true }
+    requires whole { has_no_newline line.now ≡ true }
     requires few { line_total output.old.counts < 2 ^ 62 }
     ensures ok { OnOk result (Advances (W.contents writer.old) (W.contents writer.new) hub.old
         output.old hub.new output.new (parsed_lines line.now)) }
@@ -196,6 +228,6 @@ fn last_line<W: Sink>(
     if line.is_empty() {
         return Ok(());
     }
-    let parsed = parse_line(&mut CallReader::new(output.alloc), line)?;
-    answer_line(writer, hub, output, parsed)
+    let parsed_line = parse_line(&mut CallReader::new(output.alloc), line)?;
+    answer_line(writer, hub, output, parsed_line)
 }

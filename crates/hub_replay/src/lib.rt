@@ -27,4 +27,4 @@ mod replay;
 
 pub use counts::Counts;
 pub use fault::RunFault;
-pub use replay::{MOST_BYTES, run};
+pub use replay::{MAX_BYTES, run};

@@ -1,6 +1,6 @@
 //! Lines parsed, with the memory of earlier lists.
 ghost use Rattle.std.specs.Prelude.{◌≡◌, ◌<◌, ◌≤◌, true, length, take, IfOk};
-ghost use Rattle.call_lines.specs.Lines.{unbroken};
+ghost use Rattle.call_lines.specs.Lines.{has_no_newline};
 ghost use Rattle.hub_replay.specs.Batches.{IsBatch};
 
 use crate::batch::{Batch, parse_batch};
@@ -51,7 +51,7 @@ impl<'a, T> LineParser<'a, T> {
     ) -> Result<Batch, Memory>
         requires order { scanned ≤ length bytes.now }
         requires some { 0 < most }
-        requires scanned { unbroken (take scanned bytes.now) ≡ true }
+        requires scanned { has_no_newline (take scanned bytes.now) ≡ true }
         ensures { IfOk result (λ batch. IsBatch bytes.now batch) }
     {
         let mut list = self.take();

@@ -7,7 +7,7 @@ ghost use Rattle.hub_replay.specs.Outcomes.{Answers, IsStopped, is_answered, sta
 ghost use Rattle.hub_replay.specs.Running.{ExplainsFault};
 
 use crate::answer_line::flush;
-use crate::chunks::{answer_chunk, finish};
+use crate::chunks::{Chunk, answer_chunk, finish};
 use crate::counts::Counts;
 use crate::fault::RunFault;
 use crate::line_parser::LineParser;
@@ -24,7 +24,7 @@ const CHUNK: usize = 4_194_304;
 const BUFFER: usize = 4_259_840;
 
 /// How many bytes of a reader are read at most.
-pub const MOST_BYTES: u64 = 1 << 40;
+pub const MAX_BYTES: u64 = 1 << 40;
 
 /// Gives the calls of the reader's lines to the hub, and writes a line for each line that is not blank.
 ///
@@ -46,11 +46,13 @@ pub fn run<R: Source, W: Sink>(
 ) -> Result<Counts, RunFault>
     // All bytes were read, and just the answers to their lines were written.
     ensures ok { IfOk result (λ counts. (read written : List ℕ)
-        × Consumes (R.remaining reader.old) (R.remaining reader.new) read × IsAtEnd (R.remaining reader.new)
+        × Consumes (R.remaining reader.old) (R.remaining reader.new) read
+        × IsAtEnd (R.remaining reader.new)
         × Appends (W.contents writer.old) (W.contents writer.new) written
         × Answers hub.old read hub.new written counts) }
     // Lines that aren't blank were counted, each as a call that is in the history now or as a fault.
-    ensures lines { IfOk result (λ counts. (read : List ℕ) × Consumes (R.remaining reader.old) (R.remaining reader.new) read
+    ensures lines { IfOk result (λ counts. (read : List ℕ)
+        × Consumes (R.remaining reader.old) (R.remaining reader.new) read
         × (counts.lines ≡ count_by is_answered (parsed_lines read))) }
     ensures calls { IfOk result (λ counts. length hub.new ≡ length hub.old + counts.calls) }
     ensures faults { IfOk result (λ counts. counts.lines ≡ counts.calls + counts.faults) }
@@ -64,7 +66,8 @@ pub fn run<R: Source, W: Sink>(
         × Consumes (R.remaining reader.old) (R.remaining reader.new) read
         × Appends (W.contents writer.old) (W.contents writer.new) written
         × IsStopped (start_of hub.old) (parsed_lines read) written hub.new
-        × ExplainsFault fault (R.failures reader.old) (R.failures reader.new) (W.failures writer.old) (W.failures writer.new) (length read)) }
+        × ExplainsFault fault (R.failures reader.old) (R.failures reader.new)
+        (W.failures writer.old) (W.failures writer.new) (length read)) }
 {
     let mut output = Output::new(alloc);
     let mut line_parser = LineParser::new(rt, alloc);
@@ -75,11 +78,11 @@ pub fn run<R: Source, W: Sink>(
     let mut kept_len: usize = 0;
     let mut skipping = false;
     let mut total: u64 = 0;
-    'chunks: while total < MOST_BYTES {
+    'chunks: while total < MAX_BYTES {
         if let Err(fault) = flush(writer, &mut output) {
             return Err(fault);
         }
-        let count = match read_chunk(reader, buffer, kept_len, MOST_BYTES - total) {
+        let count = match read_chunk(reader, buffer, kept_len, MAX_BYTES - total) {
             Ok(count) => count,
             Err(fault) => return Err(fault),
         };
@@ -92,15 +95,12 @@ pub fn run<R: Source, W: Sink>(
         }
         total += count as u64;
         let end = kept_len + count;
-        let rest = match answer_chunk(
-            &mut line_parser,
-            writer,
-            hub,
-            &mut output,
-            &buffer[..end],
-            kept_len,
+        let chunk = Chunk {
+            chunk: &buffer[..end],
+            scanned: kept_len,
             skipping,
-        ) {
+        };
+        let rest = match answer_chunk(&mut line_parser, writer, hub, &mut output, chunk) {
             Ok(rest) => rest,
             Err(fault) => return Err(fault),
         };

@@ -10,7 +10,7 @@ use Rattle.hub_model.specs.declared.entry.Entry.{Entry}
 use Rattle.hub_shared.specs.declared.tally.Told.{Told}
 use Rattle.hub_shared.specs.Tallies.{TallyState}
 use Rattle.hub_shared.specs.Settling.{entry_of, StandsIn, times_told, IsRising, IsTold}
-use Rattle.hub_shared.specs.Orders.{labelled, Interleaves, entries_of}
+use Rattle.hub_shared.specs.Orders.{items_of_label, Interleaves, entries_of}
 
 -- the first session that was told of a position
 abbrev teller : ℕ → List TallyState → ℕ
@@ -110,18 +110,18 @@ none_below at n (t ∷ ts) r low =
     let rest = none_below at (t.position + 1) ts r.1 (omega (arith, high, low)) in
     omega (arith, one, not_here, rest)
 
-labelled_hit : {T : Type 0} (k w : ℕ) (who : List ℕ) (x : T) (q : List T) → w ≡ k → labelled k (w ∷ who) (x ∷ q) ≡ x ∷ labelled k who q
-labelled_hit k w who x q e = ap (λ b. cond b (x ∷ labelled k who q) (labelled k who q)) (eq-eqb w k e)
+labelled_hit : {T : Type 0} (k w : ℕ) (who : List ℕ) (x : T) (q : List T) → w ≡ k → items_of_label k (w ∷ who) (x ∷ q) ≡ x ∷ items_of_label k who q
+labelled_hit k w who x q e = ap (λ b. cond b (x ∷ items_of_label k who q) (items_of_label k who q)) (eq-eqb w k e)
 
-labelled_miss : {T : Type 0} (k w : ℕ) (who : List ℕ) (x : T) (q : List T) → w ≢ k → labelled k (w ∷ who) (x ∷ q) ≡ labelled k who q
-labelled_miss k w who x q ne = ap (λ b. cond b (x ∷ labelled k who q) (labelled k who q)) (ne_eqb w k ne)
+labelled_miss : {T : Type 0} (k w : ℕ) (who : List ℕ) (x : T) (q : List T) → w ≢ k → items_of_label k (w ∷ who) (x ∷ q) ≡ items_of_label k who q
+labelled_miss k w who x q ne = ap (λ b. cond b (x ∷ items_of_label k who q) (items_of_label k who q)) (ne_eqb w k ne)
 
 -- what session k was told from position n on is what is labelled with it from there on
 lines_up : (history : List Entry) (ps : List TallyState) (k n : ℕ) (es : List Entry) (ts : List Told)
     → ((j : ℕ) → slice_get history (n + j) ≡ slice_get es j)
     → RisesFrom n ts → All (StandsIn history) ts
     → ((at : ℕ) → n ≤ at → at < n + length es → times_told at ts ≡ one_if (teller at ps) k)
-    → map entry_of ts ≡ labelled k (labels ps n es) es
+    → map entry_of ts ≡ items_of_label k (labels ps n es) es
 lines_up history ps k n [] [] here rises stands counts = refl
 lines_up history ps k n [] (t ∷ ts) here rises stands counts =
     let low = rises.0 in

@@ -26,7 +26,8 @@ impl<L: Ledger> Model for Seat<L> {
 
     ghost view = { λ s. record { parts = s.share.parts; count = s.count; refused = s.refused } };
 
-    ghost invariant = { λ s. (s.share.amount ≡ s.count) × (0 < s.share.parts) × (s.refused ≤ 2 ^ 60) };
+    ghost invariant = { λ s. (s.share.amount ≡ s.count) × (0 < s.share.parts)
+        × (s.refused ≤ 2 ^ 60) };
 }
 
 impl<L: Ledger> Seat<L> {

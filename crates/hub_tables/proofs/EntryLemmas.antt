@@ -47,13 +47,13 @@ module _ (before after : List (ℕ × Journey)) (w : ℕ) (j k : Journey) (e : E
       pub put_written : (q : ℕ) → events_in after q ≡ with_event_on (events_in before) (w, e) q
       put_written q = ap of_journey (written q) ∙ put_by q (nat_eq w q) refl
 
-    module _ (filed : AreJourneyEntries before) (written : (q : ℕ) → lookup (nat_eq q) after ≡ cond (nat_eq w q) (Some k) (lookup (nat_eq q) before)) where
+    module _ (journeys : AreJourneyEntries before) (written : (q : ℕ) → lookup (nat_eq q) after ≡ cond (nat_eq w q) (Some k) (lookup (nat_eq q) before)) where
       still_begun : (events : List Event) → is_unknown (events ++ e ∷ []) ≡ false
       still_begun [] = refl
       still_begun (first ∷ events) = refl
 
       here : IsJourneyEntry w j
-      here = subst (λ (o : Option Journey). IfSome o (IsJourneyEntry w)) found (filed w)
+      here = subst (λ (o : Option Journey). IfSome o (IsJourneyEntry w)) found (journeys w)
 
       there : IsJourneyEntry w k
       there = record {
@@ -61,12 +61,12 @@ module _ (before after : List (ℕ × Journey)) (w : ℕ) (j k : Journey) (e : E
         begun = ap (λ (t : Journey). is_unknown t.events) put ∙ still_begun j.events;
       }
 
-      filed_by : (q : ℕ) (b : Bool) → nat_eq w q ≡ b → IfSome (cond b (Some k) (lookup (nat_eq q) before)) (IsJourneyEntry q)
-      filed_by q true same = subst (λ (v : ℕ). IsJourneyEntry v k) (eqb-true w q same) there
-      filed_by q false same = filed q
+      entry_by : (q : ℕ) (b : Bool) → nat_eq w q ≡ b → IfSome (cond b (Some k) (lookup (nat_eq q) before)) (IsJourneyEntry q)
+      entry_by q true same = subst (λ (v : ℕ). IsJourneyEntry v k) (eqb-true w q same) there
+      entry_by q false same = journeys q
 
-      pub put_filed : AreJourneyEntries after
-      put_filed q = subst (λ (o : Option Journey). IfSome o (IsJourneyEntry q)) (sym (written q)) (filed_by q (nat_eq w q) refl)
+      pub entries_put : AreJourneyEntries after
+      entries_put q = subst (λ (o : Option Journey). IfSome o (IsJourneyEntry q)) (sym (written q)) (entry_by q (nat_eq w q) refl)
 
 -- a wagon that is none of the keys is not found
 absent : (w : ℕ) (es : List (ℕ × Journey)) → AllByRecursion (λ k. nat_eq w k ≡ false) (keys_of es) → lookup (nat_eq w) es ≡ None

@@ -63,12 +63,12 @@ module _ (old : TableEntries) (m : Message) (p : Trip) (is : m.body ≡ body.Pla
       ap of_journey (wagon_entered wagons h q) ∙ events_by q (has p.wagons q) ∙
       ap (λ (says : Body). if has (wagons_in (table_state old).offer m.by says) q then with_event ((table_state old).journey q) (event_for (table_state old).offer m q) else (table_state old).journey q) (sym is)
 
-  filed_by : AreJourneyEntries old.wagons → (q : ℕ) (b : Bool) → IfSome (cond b (Some (begun q)) (lookup (nat_eq q) old.wagons)) (IsJourneyEntry q)
-  filed_by filed q true = record { wagon = refl; begun = refl }
-  filed_by filed q false = filed q
+  entry_by : AreJourneyEntries old.wagons → (q : ℕ) (b : Bool) → IfSome (cond b (Some (begun q)) (lookup (nat_eq q) old.wagons)) (IsJourneyEntry q)
+  entry_by journeys q true = record { wagon = refl; begun = refl }
+  entry_by journeys q false = journeys q
 
-  pub filed_entered : (wagons : List (ℕ × Journey)) → IsEntered wagons → AreJourneyEntries old.wagons → AreJourneyEntries wagons
-  filed_entered wagons h filed q = subst (λ (o : Option Journey). IfSome o (IsJourneyEntry q)) (sym (wagon_entered wagons h q)) (filed_by filed q (has p.wagons q))
+  pub entries_entered : (wagons : List (ℕ × Journey)) → IsEntered wagons → AreJourneyEntries old.wagons → AreJourneyEntries wagons
+  entries_entered wagons h journeys q = subst (λ (o : Option Journey). IfSome o (IsJourneyEntry q)) (sym (wagon_entered wagons h q)) (entry_by journeys q (has p.wagons q))
 
   pub keys_entered : (wagons : List (ℕ × Journey)) → wagons ≡ insert_all nat_eq old.wagons (map (λ w. (w, begun w)) p.wagons) → keys_of wagons ≡ fleet_after (keys_of old.wagons) (planned_in m.body)
   keys_entered wagons h = ap keys_of h ∙ fleet_entered begun p.wagons old.wagons ∙ ap (λ (says : Body). fleet_after (keys_of old.wagons) (planned_in says)) (sym is)

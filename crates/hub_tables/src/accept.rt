@@ -35,11 +35,11 @@ impl Tables {
             Body::Offer(offer) => self.accept_offer(alloc, message, offer.get()),
             Body::Answer(answer) => {
                 let TrainAnswer { offerer, offer, .. } = answer.get();
-                self.settle(alloc, message, *offerer, *offer)
+                self.accept_closing(alloc, message, *offerer, *offer)
             }
             Body::Withdraw { offer, .. } => {
                 self.offered_differ(message.by(), *offer);
-                self.settle(alloc, message, message.by(), *offer)
+                self.accept_closing(alloc, message, message.by(), *offer)
             }
             _ => self.accept_events(alloc, message),
         }
@@ -85,7 +85,7 @@ impl Tables {
     }
 
     // An answer or a withdrawal: its wagons' journeys go on, and the offer is closed.
-    fn settle(
+    fn accept_closing(
         &mut self,
         alloc: Global,
         message: &Message,

@@ -29,12 +29,12 @@ pub(crate) fn put_all(
     wagons: &mut IndexMap<WagonNumber, Wagon>,
     events: Vec<(WagonNumber, PreparedEvent)>,
 )
-    requires filed { AreJourneyEntries wagons.old.entries }
+    requires journeys { AreJourneyEntries wagons.old.entries }
     requires admitted { AreAdmitted (events_in wagons.old.entries) events.items }
     ensures events { (w : ℕ) → events_in wagons.new.entries w
         ≡ fold with_event_on (events_in wagons.old.entries) events.items w }
     ensures keys { keys_of wagons.new.entries ≡ keys_of wagons.old.entries }
-    ensures filed { AreJourneyEntries wagons.new.entries }
+    ensures journeys { AreJourneyEntries wagons.new.entries }
 {
     for (wagon, event) in events {
         put(wagons, wagon, event);
@@ -47,12 +47,12 @@ pub(crate) fn put(
     wagon: WagonNumber,
     event: PreparedEvent,
 )
-    requires filed { AreJourneyEntries wagons.old.entries }
+    requires journeys { AreJourneyEntries wagons.old.entries }
     requires admitted { IsAdmitted (events_in wagons.old.entries wagon) event }
     ensures events { (w : ℕ) → events_in wagons.new.entries w
         ≡ with_event_on (events_in wagons.old.entries) (wagon, event) w }
     ensures keys { keys_of wagons.new.entries ≡ keys_of wagons.old.entries }
-    ensures filed { AreJourneyEntries wagons.new.entries }
+    ensures journeys { AreJourneyEntries wagons.new.entries }
 {
     match wagons.get_mut(&wagon) {
         Some(found) => found.put(event),
@@ -66,13 +66,13 @@ pub(crate) fn add(
     wagon: WagonNumber,
     event: Event,
 ) -> Result<(), Memory>
-    requires filed { AreJourneyEntries wagons.old.entries }
+    requires journeys { AreJourneyEntries wagons.old.entries }
     requires next { MayComeNext (events_in wagons.old.entries wagon) event }
     ensures ok { OnOk result ((w : ℕ) → events_in wagons.new.entries w
         ≡ with_event_on (events_in wagons.old.entries) (wagon, event) w) }
     ensures err { OnErr result (wagons.new.entries ≡ wagons.old.entries) }
     ensures keys { keys_of wagons.new.entries ≡ keys_of wagons.old.entries }
-    ensures filed { AreJourneyEntries wagons.new.entries }
+    ensures journeys { AreJourneyEntries wagons.new.entries }
 {
     match wagons.get_mut(&wagon) {
         Some(found) => {

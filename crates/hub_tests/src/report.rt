@@ -204,10 +204,10 @@ impl Scarcity {
         alloc: Global,
         left: usize,
     ) -> Result<bool, Fail> {
-        self.memory_limit.leave(left)?;
+        self.memory_limit.limit_to(left)?;
         let plain = plain_lines(alloc, &self.view);
         let parallel = lines(rt, alloc, &self.view);
-        self.memory_limit.ease();
+        self.memory_limit.release();
         let is_plain = self.is_made(plain)?;
         let is_parallel = self.is_made(parallel)?;
         Ok(is_plain && is_parallel)

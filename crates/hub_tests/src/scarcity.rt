@@ -40,9 +40,9 @@ impl Scarcity {
     }
 
     fn apply(&mut self, hub: &mut Hub, call: Call) -> Result<Option<Reply>, Fail> {
-        self.memory_limit.leave(self.left)?;
+        self.memory_limit.limit_to(self.left)?;
         let reply = reply_of(hub, call);
-        self.memory_limit.ease();
+        self.memory_limit.release();
         Ok(reply)
     }
 
@@ -106,9 +106,9 @@ impl Scarcity {
 
     // The view of the hub, which is asked for again where memory is refused.
     fn view(&mut self, hub: &Hub) -> Result<View, Fail> {
-        self.memory_limit.leave(self.left)?;
+        self.memory_limit.limit_to(self.left)?;
         let view = hub.view();
-        self.memory_limit.ease();
+        self.memory_limit.release();
         if let Ok(view) = view {
             return Ok(view);
         }

@@ -374,10 +374,10 @@ fn ran_within(
     let mut hub = new_hub(rt.alloc())?;
     let held: Vec<u8> = Vec::with_capacity(rt.alloc(), HELD)?;
     let page = Vec::with_capacity(rt.alloc(), script.wanted.len())?;
-    memory_limit.leave(left)?;
+    memory_limit.limit_to(left)?;
     drop(held);
     let ran = run_through(rt, &mut hub, &script.input, page, FAR);
-    memory_limit.ease();
+    memory_limit.release();
     Ok(ran)
 }
 

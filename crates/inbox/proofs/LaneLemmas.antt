@@ -6,39 +6,39 @@ use native.Mathlib.Decide.{ℕ_discrete}
 use Rattle.std.specs.List.{All}
 use Rattle.std.proofs.lemmas.List.Elements.{All-head, All-tail}
 use Rattle.inbox.specs.declared.rule.Job.{Job}
-use Rattle.inbox.specs.Interleavings.{labelled, IsKept}
+use Rattle.inbox.specs.Interleavings.{items_of_label, IsKept}
 use Rattle.inbox.specs.Sessions.{of_session, LaneInOrder}
 
 module _ {T : Type 0} where
-  hit : (w : ℕ) (labels : List ℕ) (x : T) (q : List T) → labelled w (w ∷ labels) (x ∷ q) ≡ x ∷ labelled w labels q
-  hit w labels x q = ap (λ b. cond b (x ∷ labelled w labels q) (labelled w labels q)) (eq-eqb w w refl)
+  hit : (w : ℕ) (labels : List ℕ) (x : T) (q : List T) → items_of_label w (w ∷ labels) (x ∷ q) ≡ x ∷ items_of_label w labels q
+  hit w labels x q = ap (λ b. cond b (x ∷ items_of_label w labels q) (items_of_label w labels q)) (eq-eqb w w refl)
 
-  miss : (v w : ℕ) (labels : List ℕ) (x : T) (q : List T) → v ≢ w → labelled w (v ∷ labels) (x ∷ q) ≡ labelled w labels q
-  miss v w labels x q ne = ap (λ b. cond b (x ∷ labelled w labels q) (labelled w labels q)) (ne_eqb v w ne)
+  miss : (v w : ℕ) (labels : List ℕ) (x : T) (q : List T) → v ≢ w → items_of_label w (v ∷ labels) (x ∷ q) ≡ items_of_label w labels q
+  miss v w labels x q ne = ap (λ b. cond b (x ∷ items_of_label w labels q) (items_of_label w labels q)) (ne_eqb v w ne)
 
   -- where all other labels have nothing, one has all
-  sole : (w : ℕ) (labels : List ℕ) (q : List T) → length labels ≡ length q → ((j : ℕ) → j ≢ w → labelled j labels q ≡ []) → labelled w labels q ≡ q
+  sole : (w : ℕ) (labels : List ℕ) (q : List T) → length labels ≡ length q → ((j : ℕ) → j ≢ w → items_of_label j labels q ≡ []) → items_of_label w labels q ≡ q
   sole w [] [] fit none = refl
   sole w [] (x ∷ q) fit none = absurd (omega arith)
   sole w (v ∷ labels) [] fit none = absurd (omega arith)
   sole w (v ∷ labels) (x ∷ q) fit none = dite (ℕ_discrete v w)
-      (λ e. subst (λ u. labelled w (u ∷ labels) (x ∷ q) ≡ x ∷ q) (sym e)
+      (λ e. subst (λ u. items_of_label w (u ∷ labels) (x ∷ q) ≡ x ∷ q) (sym e)
       (hit w labels x q ∙ ap (λ l. x ∷ l) (sole w labels q (omega arith) (λ j ne. sym (miss v j labels x q (λ same. ne (sym same ∙ e))) ∙ none j ne))))
       (λ ne. let first = sym (hit v labels x q) ∙ none v ne in absurd (cc))
 
   -- where no other label has an item that passes, one has all that pass
-  passing : (p : T → Bool) (k : ℕ) (labels : List ℕ) (q : List T) → length labels ≡ length q → ((j : ℕ) → j ≢ k → filter p (labelled j labels q) ≡ []) → filter p (labelled k labels q) ≡ filter p q
+  passing : (p : T → Bool) (k : ℕ) (labels : List ℕ) (q : List T) → length labels ≡ length q → ((j : ℕ) → j ≢ k → filter p (items_of_label j labels q) ≡ []) → filter p (items_of_label k labels q) ≡ filter p q
   passing p k [] [] fit none = refl
   passing p k [] (x ∷ q) fit none = absurd (omega arith)
   passing p k (v ∷ labels) [] fit none = absurd (omega arith)
   passing p k (v ∷ labels) (x ∷ q) fit none = dite (ℕ_discrete v k)
-      (λ e. subst (λ u. filter p (labelled k (u ∷ labels) (x ∷ q)) ≡ filter p (x ∷ q)) (sym e)
+      (λ e. subst (λ u. filter p (items_of_label k (u ∷ labels) (x ∷ q)) ≡ filter p (x ∷ q)) (sym e)
       (ap (filter p) (hit k labels x q) ∙ ap (λ l. cond (p x) (x ∷ l) l) (passing p k labels q (omega arith) (λ j ne. ap (filter p) (sym (miss v j labels x q (λ same. ne (sym same ∙ e)))) ∙ none j ne))))
       (λ ne.
-      let mine : filter p (x ∷ labelled v labels q) ≡ [] = ap (filter p) (sym (hit v labels x q)) ∙ none v ne in
-      let no : p x ≡ false = out (p x) x (filter p (labelled v labels q)) mine in
-      let rest : (j : ℕ) → j ≢ k → filter p (labelled j labels q) ≡ [] = (λ j apart. dite (ℕ_discrete v j)
-      (λ same. subst (λ u. filter p (labelled u labels q) ≡ []) same (ap (λ b. cond b (x ∷ filter p (labelled v labels q)) (filter p (labelled v labels q))) (sym no) ∙ mine))
+      let mine : filter p (x ∷ items_of_label v labels q) ≡ [] = ap (filter p) (sym (hit v labels x q)) ∙ none v ne in
+      let no : p x ≡ false = out (p x) x (filter p (items_of_label v labels q)) mine in
+      let rest : (j : ℕ) → j ≢ k → filter p (items_of_label j labels q) ≡ [] = (λ j apart. dite (ℕ_discrete v j)
+      (λ same. subst (λ u. filter p (items_of_label u labels q) ≡ []) same (ap (λ b. cond b (x ∷ filter p (items_of_label v labels q)) (filter p (items_of_label v labels q))) (sym no) ∙ mine))
       (λ other. ap (filter p) (sym (miss v j labels x q other)) ∙ none j apart)) in
       ap (filter p) (miss v k labels x q ne) ∙ (passing p k labels q (omega arith) rest ∙ ap (λ b. cond b (x ∷ filter p q) (filter p q)) (sym no)))
     where

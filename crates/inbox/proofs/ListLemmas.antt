@@ -5,29 +5,29 @@ use mathlib.Core.Option.{some, some-ne-none, some-injective}
 use mathlib.Core.Logic.{dite}
 use native.Mathlib.Decide.{ℕ_discrete, dec_le}
 use lib.ListN.{get_elem?}
-use Rattle.inbox.specs.Interleavings.{labelled, Interleaves}
+use Rattle.inbox.specs.Interleavings.{items_of_label, Interleaves}
 use Rattle.inbox.specs.Rules.{times, total, AllBelow}
 
 cond_append : {T : Type 0} (b : Bool) (y : T) (l m : List T) → cond b (y ∷ (l ++ m)) (l ++ m) ≡ cond b (y ∷ l) l ++ m
 cond_append true y l m = refl
 cond_append false y l m = refl
 
-pub labelled-snoc : {T : Type 0} (k : ℕ) (labels : List ℕ) (q : List T) (w : ℕ) (x : T) → length labels ≡ length q → labelled k (labels ++ w ∷ []) (q ++ x ∷ []) ≡ labelled k labels q ++ cond (eqb w k) (x ∷ []) []
-labelled-snoc k [] [] w x fit = refl
-labelled-snoc k [] (y ∷ q) w x fit = absurd (omega arith)
-labelled-snoc k (v ∷ labels) [] w x fit = absurd (omega arith)
-labelled-snoc k (v ∷ labels) (y ∷ q) w x fit = ap (λ t. cond (eqb v k) (y ∷ t) t) (labelled-snoc k labels q w x (omega arith)) ∙ cond_append (eqb v k) y (labelled k labels q) (cond (eqb w k) (x ∷ []) [])
+pub items_of_label-snoc : {T : Type 0} (k : ℕ) (labels : List ℕ) (q : List T) (w : ℕ) (x : T) → length labels ≡ length q → items_of_label k (labels ++ w ∷ []) (q ++ x ∷ []) ≡ items_of_label k labels q ++ cond (eqb w k) (x ∷ []) []
+items_of_label-snoc k [] [] w x fit = refl
+items_of_label-snoc k [] (y ∷ q) w x fit = absurd (omega arith)
+items_of_label-snoc k (v ∷ labels) [] w x fit = absurd (omega arith)
+items_of_label-snoc k (v ∷ labels) (y ∷ q) w x fit = ap (λ t. cond (eqb v k) (y ∷ t) t) (items_of_label-snoc k labels q w x (omega arith)) ∙ cond_append (eqb v k) y (items_of_label k labels q) (cond (eqb w k) (x ∷ []) [])
 
-pub labelled-same : {T : Type 0} (k : ℕ) (labels : List ℕ) (q : List T) (x : T) → length labels ≡ length q → labelled k (labels ++ k ∷ []) (q ++ x ∷ []) ≡ labelled k labels q ++ x ∷ []
-labelled-same k labels q x fit = labelled-snoc k labels q k x fit ∙ ap (λ b. labelled k labels q ++ cond b (x ∷ []) []) (eq-eqb k k refl)
+pub items_of_label-same : {T : Type 0} (k : ℕ) (labels : List ℕ) (q : List T) (x : T) → length labels ≡ length q → items_of_label k (labels ++ k ∷ []) (q ++ x ∷ []) ≡ items_of_label k labels q ++ x ∷ []
+items_of_label-same k labels q x fit = items_of_label-snoc k labels q k x fit ∙ ap (λ b. items_of_label k labels q ++ cond b (x ∷ []) []) (eq-eqb k k refl)
 
-pub labelled-other : {T : Type 0} (k : ℕ) (labels : List ℕ) (q : List T) (w : ℕ) (x : T) → length labels ≡ length q → w ≢ k → labelled k (labels ++ w ∷ []) (q ++ x ∷ []) ≡ labelled k labels q
-labelled-other k labels q w x fit ne = labelled-snoc k labels q w x fit ∙ (ap (λ b. labelled k labels q ++ cond b (x ∷ []) []) (ne_eqb w k ne) ∙ append-nil (labelled k labels q))
+pub items_of_label-other : {T : Type 0} (k : ℕ) (labels : List ℕ) (q : List T) (w : ℕ) (x : T) → length labels ≡ length q → w ≢ k → items_of_label k (labels ++ w ∷ []) (q ++ x ∷ []) ≡ items_of_label k labels q
+items_of_label-other k labels q w x fit ne = items_of_label-snoc k labels q w x fit ∙ (ap (λ b. items_of_label k labels q ++ cond b (x ∷ []) []) (ne_eqb w k ne) ∙ append-nil (items_of_label k labels q))
 
-pub labelled-none : {T : Type 0} (n k : ℕ) (labels : List ℕ) (q : List T) → AllBelow n labels → n ≤ k → labelled k labels q ≡ []
-labelled-none n k [] q b le = refl
-labelled-none n k (w ∷ labels) [] b le = refl
-labelled-none n k (w ∷ labels) (x ∷ q) b le = let ne : w ≢ k = (λ e. let l = b.0 in omega arith) in ap (λ b. cond b (x ∷ labelled k labels q) (labelled k labels q)) (ne_eqb w k ne) ∙ labelled-none n k labels q b.1 le
+pub items_of_label-none : {T : Type 0} (n k : ℕ) (labels : List ℕ) (q : List T) → AllBelow n labels → n ≤ k → items_of_label k labels q ≡ []
+items_of_label-none n k [] q b le = refl
+items_of_label-none n k (w ∷ labels) [] b le = refl
+items_of_label-none n k (w ∷ labels) (x ∷ q) b le = let ne : w ≢ k = (λ e. let l = b.0 in omega arith) in ap (λ b. cond b (x ∷ items_of_label k labels q) (items_of_label k labels q)) (ne_eqb w k ne) ∙ items_of_label-none n k labels q b.1 le
 
 pub below-snoc : (n w : ℕ) (labels : List ℕ) → AllBelow n labels → w < n → AllBelow n (labels ++ w ∷ [])
 below-snoc n w [] b lt = (lt, tt)
@@ -169,7 +169,7 @@ tests_agree : (u v w x : ℕ) → (u ≡ v → w ≡ x) → (w ≡ x → u ≡ v
 tests_agree u v w x to from = dite (ℕ_discrete u v) (λ e. eq-eqb u v e ∙ sym (eq-eqb w x (to e))) (λ ne. ne_eqb u v ne ∙ sym (ne_eqb w x (λ e. ne (from e))))
 
 relabel_hit : {T : Type 0} (r : List ℕ) (n : ℕ) (labels : List ℕ) (q : List T) (k : ℕ) → AllBelow n labels → ((w : ℕ) → w < n → times w r ≡ 1) → ((w : ℕ) → times w r ≤ 1) → k < length r
-    → labelled (get_or r k 0) labels q ≡ labelled k (map (place r) labels) q
+    → items_of_label (get_or r k 0) labels q ≡ items_of_label k (map (place r) labels) q
 relabel_hit r n [] q k b one once lt = refl
 relabel_hit r n (w ∷ labels) [] k b one once lt = refl
 relabel_hit r n (w ∷ labels) (x ∷ q) k b one once lt =
@@ -177,25 +177,25 @@ relabel_hit r n (w ∷ labels) (x ∷ q) k b one once lt =
     let same : eqb w (get_or r k 0) ≡ eqb (place r w) k = tests_agree w (get_or r k 0) (place r w) k
     (λ e. ap (place r) e ∙ place-get r k once lt)
     (λ e. sym (place-in r w known).1 ∙ ap (λ i. get_or r i 0) e) in
-    ap (λ t. cond t (x ∷ labelled (get_or r k 0) labels q) (labelled (get_or r k 0) labels q)) same ∙ ap (λ l. cond (eqb (place r w) k) (x ∷ l) l) (relabel_hit r n labels q k b.1 one once lt)
+    ap (λ t. cond t (x ∷ items_of_label (get_or r k 0) labels q) (items_of_label (get_or r k 0) labels q)) same ∙ ap (λ l. cond (eqb (place r w) k) (x ∷ l) l) (relabel_hit r n labels q k b.1 one once lt)
 
-relabel_past : {T : Type 0} (r : List ℕ) (n : ℕ) (labels : List ℕ) (q : List T) (k : ℕ) → AllBelow n labels → ((w : ℕ) → w < n → times w r ≡ 1) → length r ≤ k → labelled k (map (place r) labels) q ≡ []
+relabel_past : {T : Type 0} (r : List ℕ) (n : ℕ) (labels : List ℕ) (q : List T) (k : ℕ) → AllBelow n labels → ((w : ℕ) → w < n → times w r ≡ 1) → length r ≤ k → items_of_label k (map (place r) labels) q ≡ []
 relabel_past r n [] q k b one le = refl
 relabel_past r n (w ∷ labels) [] k b one le = refl
 relabel_past r n (w ∷ labels) (x ∷ q) k b one le =
     let known : 0 < times w r = (let o = one w b.0 in omega (arith, o)) in
     let ne : place r w ≢ k = (λ e. let l = (place-in r w known).0 in omega (arith, l, e)) in
-    ap (λ t. cond t (x ∷ labelled k (map (place r) labels) q) (labelled k (map (place r) labels) q)) (ne_eqb (place r w) k ne) ∙ relabel_past r n labels q k b.1 one le
+    ap (λ t. cond t (x ∷ items_of_label k (map (place r) labels) q) (items_of_label k (map (place r) labels) q)) (ne_eqb (place r w) k ne) ∙ relabel_past r n labels q k b.1 one le
 
 -- the lists of a row that has each label below n once, and no other
 pub interleaves_row : {T : Type 0} (r : List ℕ) (n : ℕ) (labels : List ℕ) (q : List T) → length labels ≡ length q → AllBelow n labels → ((w : ℕ) → (w < n → times w r ≡ 1) × (n ≤ w → times w r ≡ 0))
-    → Interleaves (map (λ a. labelled a labels q) r) q
+    → Interleaves (map (λ a. items_of_label a labels q) r) q
 interleaves_row r n labels q fit b row =
     let one : (w : ℕ) → w < n → times w r ≡ 1 = (λ w lt. (row w).0 lt) in
     let once : (w : ℕ) → times w r ≤ 1 = (λ w. dite (dec_le n w) (λ le. let e = (row w).1 le in omega (arith, e)) (λ nle. let e = (row w).0 (lt_of_not-le nle) in omega (arith, e))) in (
       map (place r) labels,
       length-map labels (place r) ∙ fit,
       λ k. dite (dec_le (length r) k)
-          (λ le. get_or-past (λ a. labelled a labels q) r k [] le ∙ sym (relabel_past r n labels q k b one le))
-          (λ nle. let lt : k < length r = lt_of_not-le nle in get_or-map (λ a. labelled a labels q) r k [] lt ∙ relabel_hit r n labels q k b one once lt),
+          (λ le. get_or-past (λ a. items_of_label a labels q) r k [] le ∙ sym (relabel_past r n labels q k b one le))
+          (λ nle. let lt : k < length r = lt_of_not-le nle in get_or-map (λ a. items_of_label a labels q) r k [] lt ∙ relabel_hit r n labels q k b one once lt),
     )

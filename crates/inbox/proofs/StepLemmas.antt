@@ -10,9 +10,9 @@ use Rattle.crossbeam_queue.proofs.Lists.{at_set}
 use Rattle.inbox.specs.declared.rule.Job.{Job}
 use Rattle.inbox.specs.declared.rule.PassJobs.{PassJobs}
 use Rattle.inbox.specs.declared.rule.PassView.{PassView}
-use Rattle.inbox.specs.Interleavings.{labelled, Interleaves, IsKept}
-use Rattle.inbox.specs.Rules.{ALL_PARTS, pass_jobs, pass_view, times, total, jobs_labelled, ShowsRow, IsShared, IsClosed, KeepsRule, put_lists, taken_lists, CanHold, add_put, add_taken, own_put, own_taken, IsOnePass}
-use Rattle.inbox.proofs.ListLemmas.{labelled-same, labelled-other, labelled-none, below-snoc, below-more, times-append, times-one, times-other, total-append, total_set, total_put, total_both, total_get, total_two, total_alone, row_one, row_none, row_same, interleaves_row}
+use Rattle.inbox.specs.Interleavings.{items_of_label, Interleaves, IsKept}
+use Rattle.inbox.specs.Rules.{ALL_PARTS, pass_jobs, pass_view, times, total, jobs_of_label, ShowsRow, IsShared, IsClosed, KeepsRule, put_lists, taken_lists, CanHold, add_put, add_taken, own_put, own_taken, IsOnePass}
+use Rattle.inbox.proofs.ListLemmas.{items_of_label-same, items_of_label-other, items_of_label-none, below-snoc, below-more, times-append, times-one, times-other, total-append, total_set, total_put, total_both, total_get, total_two, total_alone, row_one, row_none, row_same, interleaves_row}
 
 abbrev parts_of : PassView → ℕ
 parts_of v = v.parts
@@ -58,11 +58,11 @@ puts n number parts put taken x some_part items views room kept at =
     let v = pass_view parts (pass_jobs put taken ∷ []) None in
     let w = pass_view parts (pass_jobs (put ++ x ∷ []) taken ∷ []) None in
     let s = shares items views number v kept at some_part refl in
-    let row = row_one (jobs_labelled s.put_labels s.put s.taken_labels s.taken) (get_or s.rows number []) (pass_jobs put taken) (s.shows number v at).2 in
+    let row = row_one (jobs_of_label s.put_labels s.put s.taken_labels s.taken) (get_or s.rows number []) (pass_jobs put taken) (s.shows number v at).2 in
     let a = row.0 in
     let put_labels = s.put_labels ++ a ∷ [] in
     let all = s.put ++ x ∷ [] in
-    let mine : pass_jobs (put ++ x ∷ []) taken ≡ jobs_labelled put_labels all s.taken_labels s.taken a = ap (λ (l : PassJobs). pass_jobs (l.put ++ x ∷ []) l.taken) row.2 ∙ ap (λ l. pass_jobs l (labelled a s.taken_labels s.taken)) (sym (labelled-same a s.put_labels s.put x s.put_fits)) in
+    let mine : pass_jobs (put ++ x ∷ []) taken ≡ jobs_of_label put_labels all s.taken_labels s.taken a = ap (λ (l : PassJobs). pass_jobs (l.put ++ x ∷ []) l.taken) row.2 ∙ ap (λ l. pass_jobs l (items_of_label a s.taken_labels s.taken)) (sym (items_of_label-same a s.put_labels s.put x s.put_fits)) in
     let sum = total_set parts_of views number v w at in (
       w,
       (
@@ -82,13 +82,13 @@ puts n number parts put taken x some_part items views room kept at =
           row_count = s.row_count ∙ sym (length-set views number w);
           once = s.once;
           shows = shows_set (Shows all s.taken put_labels s.taken_labels s.rows) views number w
-              (refl, (λ none. absurd (omega arith)), ap (λ l. l ∷ []) mine ∙ ap (map (jobs_labelled put_labels all s.taken_labels s.taken)) (sym row.1))
+              (refl, (λ none. absurd (omega arith)), ap (λ l. l ∷ []) mine ∙ ap (map (jobs_of_label put_labels all s.taken_labels s.taken)) (sym row.1))
               (λ j u ne there. let h = s.shows j u there in (
                 h.0,
                 h.1,
-                h.2 ∙ row_same (jobs_labelled s.put_labels s.put s.taken_labels s.taken) (jobs_labelled put_labels all s.taken_labels s.taken) a (get_or s.rows j [])
+                h.2 ∙ row_same (jobs_of_label s.put_labels s.put s.taken_labels s.taken) (jobs_of_label put_labels all s.taken_labels s.taken) a (get_or s.rows j [])
                     (apart s.rows s.label_count number j a s.once (λ e. ne (sym e)) row.1)
-                    (λ b differs. ap (λ l. pass_jobs l (labelled b s.taken_labels s.taken)) (sym (labelled-other b s.put_labels s.put a x s.put_fits differs))),
+                    (λ b differs. ap (λ l. pass_jobs l (items_of_label b s.taken_labels s.taken)) (sym (items_of_label-other b s.put_labels s.put a x s.put_fits differs))),
               ));
         }),
       ),
@@ -102,11 +102,11 @@ takes number parts put taken some_part x items views kept at =
     let v = pass_view parts (pass_jobs put taken ∷ []) None in
     let w = pass_view parts (pass_jobs put (taken ++ x ∷ []) ∷ []) None in
     let s = shares (x ∷ items) views number v kept at some_part refl in
-    let row = row_one (jobs_labelled s.put_labels s.put s.taken_labels s.taken) (get_or s.rows number []) (pass_jobs put taken) (s.shows number v at).2 in
+    let row = row_one (jobs_of_label s.put_labels s.put s.taken_labels s.taken) (get_or s.rows number []) (pass_jobs put taken) (s.shows number v at).2 in
     let a = row.0 in
     let taken_labels = s.taken_labels ++ a ∷ [] in
     let gone = s.taken ++ x ∷ [] in
-    let mine : pass_jobs put (taken ++ x ∷ []) ≡ jobs_labelled s.put_labels s.put taken_labels gone a = ap (λ (l : PassJobs). pass_jobs l.put (l.taken ++ x ∷ [])) row.2 ∙ ap (λ l. pass_jobs (labelled a s.put_labels s.put) l) (sym (labelled-same a s.taken_labels s.taken x s.taken_fits)) in
+    let mine : pass_jobs put (taken ++ x ∷ []) ≡ jobs_of_label s.put_labels s.put taken_labels gone a = ap (λ (l : PassJobs). pass_jobs l.put (l.taken ++ x ∷ [])) row.2 ∙ ap (λ l. pass_jobs (items_of_label a s.put_labels s.put) l) (sym (items_of_label-same a s.taken_labels s.taken x s.taken_fits)) in
     let sum = total_set parts_of views number v w at in (
       w,
       (
@@ -126,13 +126,13 @@ takes number parts put taken some_part x items views kept at =
           row_count = s.row_count ∙ sym (length-set views number w);
           once = s.once;
           shows = shows_set (Shows s.put gone s.put_labels taken_labels s.rows) views number w
-              (refl, (λ none. absurd (omega arith)), ap (λ l. l ∷ []) mine ∙ ap (map (jobs_labelled s.put_labels s.put taken_labels gone)) (sym row.1))
+              (refl, (λ none. absurd (omega arith)), ap (λ l. l ∷ []) mine ∙ ap (map (jobs_of_label s.put_labels s.put taken_labels gone)) (sym row.1))
               (λ j u ne there. let h = s.shows j u there in (
                 h.0,
                 h.1,
-                h.2 ∙ row_same (jobs_labelled s.put_labels s.put s.taken_labels s.taken) (jobs_labelled s.put_labels s.put taken_labels gone) a (get_or s.rows j [])
+                h.2 ∙ row_same (jobs_of_label s.put_labels s.put s.taken_labels s.taken) (jobs_of_label s.put_labels s.put taken_labels gone) a (get_or s.rows j [])
                     (apart s.rows s.label_count number j a s.once (λ e. ne (sym e)) row.1)
-                    (λ b differs. ap (λ l. pass_jobs (labelled b s.put_labels s.put) l) (sym (labelled-other b s.taken_labels s.taken a x s.taken_fits differs))),
+                    (λ b differs. ap (λ l. pass_jobs (items_of_label b s.put_labels s.put) l) (sym (items_of_label-other b s.taken_labels s.taken a x s.taken_fits differs))),
               ));
         }),
       ),
@@ -202,13 +202,13 @@ forks number parts passes two items views kept at =
             (λ e. let here : times a (s.label_count ∷ []) ≡ 1 = subst (λ n. times a (n ∷ []) ≡ 1) (sym e) (times-one a) in let none = (s.once a).1 (omega (arith, e)) in ((λ lt. omega (arith, grown, here, none)), λ le. absurd (omega (arith, e, le))))
             (λ ne. let here = times-other a s.label_count ne in ((λ lt. let o = (s.once a).0 (omega (arith, ne, lt)) in omega (arith, grown, here, o)), λ le. let o = (s.once a).1 (omega (arith, le)) in omega (arith, grown, here, o)));
         shows = λ j u there. ⊎_elim
-            (λ (x : (get_elem? vs j ≡ some u) × (j < length vs)). let h = old j u x.0 in let lt : j < length s.rows = (let l = x.1 in omega (arith, l, many)) in (h.0, h.1, h.2 ∙ ap (map (jobs_labelled s.put_labels s.put s.taken_labels s.taken)) (sym (get_or_append_left s.rows ((s.label_count ∷ []) ∷ []) [] j lt))))
+            (λ (x : (get_elem? vs j ≡ some u) × (j < length vs)). let h = old j u x.0 in let lt : j < length s.rows = (let l = x.1 in omega (arith, l, many)) in (h.0, h.1, h.2 ∙ ap (map (jobs_of_label s.put_labels s.put s.taken_labels s.taken)) (sym (get_or_append_left s.rows ((s.label_count ∷ []) ∷ []) [] j lt))))
             (λ (x : (new ≡ u) × (j ≡ length vs)). subst (Shows s.put s.taken s.put_labels s.taken_labels rows j) x.0 (
               refl,
               (λ none. absurd (omega arith)),
               (let row : get_or rows j [] ≡ s.label_count ∷ [] = (let e = x.1 in get_or-append_right s.rows ((s.label_count ∷ []) ∷ []) (length s.rows) j [] refl (omega (arith, e, many)) ∙ ap (λ i. get_or ((s.label_count ∷ []) ∷ []) i []) (let z : j - length s.rows ≡ 0 = omega (arith, e, many) in z)) in
-                  let p = labelled-none s.label_count s.label_count s.put_labels s.put s.put_below (omega arith) in let t = labelled-none s.label_count s.label_count s.taken_labels s.taken s.taken_below (omega arith) in
-                  ap (λ l. pass_jobs l [] ∷ []) (sym p) ∙ (ap (λ l. pass_jobs (labelled s.label_count s.put_labels s.put) l ∷ []) (sym t) ∙ ap (map (jobs_labelled s.put_labels s.put s.taken_labels s.taken)) (sym row))),
+                  let p = items_of_label-none s.label_count s.label_count s.put_labels s.put s.put_below (omega arith) in let t = items_of_label-none s.label_count s.label_count s.taken_labels s.taken s.taken_below (omega arith) in
+                  ap (λ l. pass_jobs l [] ∷ []) (sym p) ∙ (ap (λ l. pass_jobs (items_of_label s.label_count s.put_labels s.put) l ∷ []) (sym t) ∙ ap (map (jobs_of_label s.put_labels s.put s.taken_labels s.taken)) (sym row))),
             ))
             (at_end vs new u j there);
       }),
@@ -229,7 +229,7 @@ merges number other parts others passes theirs mine_part their_part items views 
     let ro = get_or s.rows other [] in
     let rows1 = set s.rows number (rp ++ ro) in
     let rows = set rows1 other [] in
-    let f = jobs_labelled s.put_labels s.put s.taken_labels s.taken in
+    let f = jobs_of_label s.put_labels s.put s.taken_labels s.taken in
     let inp : number < length s.rows = (let h = within views number v at in let r = s.row_count in omega (arith, h, r)) in
     let ino : other < length rows1 = (let h = within views other u was in let r = s.row_count in omega (arith, h, r, length-set s.rows number (rp ++ ro))) in
     let row_other : get_or rows1 other [] ≡ ro = get_or-set_other s.rows number other (rp ++ ro) [] two in
@@ -279,20 +279,20 @@ beyond [] i d le = refl
 beyond (x ∷ xs) zero d le = absurd (omega arith)
 beyond (x ∷ xs) (suc i) d le = beyond xs i d (omega arith)
 
-put_lists-row : (put taken : List Job) (put_labels taken_labels r : List ℕ) → put_lists (map (jobs_labelled put_labels put taken_labels taken) r) ≡ map (λ a. labelled a put_labels put) r
+put_lists-row : (put taken : List Job) (put_labels taken_labels r : List ℕ) → put_lists (map (jobs_of_label put_labels put taken_labels taken) r) ≡ map (λ a. items_of_label a put_labels put) r
 put_lists-row put taken put_labels taken_labels [] = refl
-put_lists-row put taken put_labels taken_labels (a ∷ r) = ap (λ l. labelled a put_labels put ∷ l) (put_lists-row put taken put_labels taken_labels r)
+put_lists-row put taken put_labels taken_labels (a ∷ r) = ap (λ l. items_of_label a put_labels put ∷ l) (put_lists-row put taken put_labels taken_labels r)
 
-taken_lists-row : (put taken : List Job) (put_labels taken_labels r : List ℕ) → taken_lists (map (jobs_labelled put_labels put taken_labels taken) r) ≡ map (λ a. labelled a taken_labels taken) r
+taken_lists-row : (put taken : List Job) (put_labels taken_labels r : List ℕ) → taken_lists (map (jobs_of_label put_labels put taken_labels taken) r) ≡ map (λ a. items_of_label a taken_labels taken) r
 taken_lists-row put taken put_labels taken_labels [] = refl
-taken_lists-row put taken put_labels taken_labels (a ∷ r) = ap (λ l. labelled a taken_labels taken ∷ l) (taken_lists-row put taken put_labels taken_labels r)
+taken_lists-row put taken put_labels taken_labels (a ∷ r) = ap (λ l. items_of_label a taken_labels taken ∷ l) (taken_lists-row put taken put_labels taken_labels r)
 
 -- what the pass with every part knows
 pub settles : (number : ℕ) (passes : List PassJobs) → Learns KeepsRule number (pass_view ALL_PARTS passes None) (λ items. IsKept (put_lists passes) (taken_lists passes) items)
 settles number passes items views kept at =
     let v = pass_view ALL_PARTS passes None in
     let s = shares items views number v kept at (omega arith) refl in
-    let f = jobs_labelled s.put_labels s.put s.taken_labels s.taken in
+    let f = jobs_of_label s.put_labels s.put s.taken_labels s.taken in
     let r = get_or s.rows number [] in
     let idle : (a j : ℕ) → j ≢ number → times a (get_or s.rows j []) ≡ 0 = (λ a j ne. dite (dec_le (length views) j)
     (λ le. ap (times a) (beyond s.rows j [] (let w = s.row_count in omega (arith, w, le))))
@@ -304,8 +304,8 @@ settles number passes items views kept at =
     let row : (a : ℕ) → (a < s.label_count → times a r ≡ 1) × (s.label_count ≤ a → times a r ≡ 0) = (λ a.
     let e = total_alone (times a) s.rows number [] refl (idle a) in
     ((λ lt. let o = (s.once a).0 lt in omega (arith, e, o)), λ le. let o = (s.once a).1 le in omega (arith, e, o))) in
-    let puts_are : put_lists passes ≡ map (λ a. labelled a s.put_labels s.put) r = ap put_lists (s.shows number v at).2 ∙ put_lists-row s.put s.taken s.put_labels s.taken_labels r in
-    let takes_are : taken_lists passes ≡ map (λ a. labelled a s.taken_labels s.taken) r = ap taken_lists (s.shows number v at).2 ∙ taken_lists-row s.put s.taken s.put_labels s.taken_labels r in (
+    let puts_are : put_lists passes ≡ map (λ a. items_of_label a s.put_labels s.put) r = ap put_lists (s.shows number v at).2 ∙ put_lists-row s.put s.taken s.put_labels s.taken_labels r in
+    let takes_are : taken_lists passes ≡ map (λ a. items_of_label a s.taken_labels s.taken) r = ap taken_lists (s.shows number v at).2 ∙ taken_lists-row s.put s.taken s.put_labels s.taken_labels r in (
       s.taken,
       subst (λ q. Interleaves (put_lists passes) q) s.order (subst (λ l. Interleaves l s.put) (sym puts_are) (interleaves_row r s.label_count s.put_labels s.put s.put_fits s.put_below row)),
       subst (λ l. Interleaves l s.taken) (sym takes_are) (interleaves_row r s.label_count s.taken_labels s.taken s.taken_fits s.taken_below row),

@@ -2,7 +2,7 @@
 use Rattle.std.specs.Prelude.{◌≡◌, ℕ, ◌+◌, ◌<◌, ◌≤◌, ◌⊎◌, ◌==◌, if◌then◌else◌, List, [], ◌∷◌, ◌++◌, map, length, slice_index_or, Option, Some, None}
 use mathlib.Core.Option.{some}
 use lib.ListN.{get_elem?}
-use Rattle.inbox.specs.Interleavings.{labelled}
+use Rattle.inbox.specs.Interleavings.{items_of_label}
 use Rattle.inbox.specs.declared.rule.Job.{Job}
 use Rattle.inbox.specs.declared.rule.PassJobs.{PassJobs}
 use Rattle.inbox.specs.declared.rule.PassView.{PassView}
@@ -41,16 +41,16 @@ AllBelow n [] = Unit {0}
 AllBelow n (l ∷ labels) = (l < n) × AllBelow n labels
 
 -- what the pass of this label put and took, where each job that was put and each that was taken has the label of its pass
-abbrev pub jobs_labelled : List ℕ → List Job → List ℕ → List Job → ℕ → PassJobs
-jobs_labelled put_labels put taken_labels taken label =
-    pass_jobs (labelled label put_labels put) (labelled label taken_labels taken)
+abbrev pub jobs_of_label : List ℕ → List Job → List ℕ → List Job → ℕ → PassJobs
+jobs_of_label put_labels put taken_labels taken label =
+    pass_jobs (items_of_label label put_labels put) (items_of_label label taken_labels taken)
 
 -- what a pass shows while passes share the queue: it does not know what the queue holds, and it has the jobs of the labels in its
 -- row; without a part it has none
 abbrev pub ShowsRow : List Job → List Job → List ℕ → List ℕ → List ℕ → PassView → Type 0
 ShowsRow put taken put_labels taken_labels row v =
     (v.content ≡ None) × (v.parts ≡ 0 → v.passes ≡ [])
-    × (v.passes ≡ map (jobs_labelled put_labels put taken_labels taken) row)
+    × (v.passes ≡ map (jobs_of_label put_labels put taken_labels taken) row)
 
 -- while passes share the queue: what was put is what was taken and then what the queue holds; each job has the label of the pass
 -- that put it, and of the one that took it; each label stands in one row, once, and there is a row for each pass

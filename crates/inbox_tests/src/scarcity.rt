@@ -16,9 +16,9 @@ fn is_enough(
     alloc: Global,
     left: usize,
 ) -> Result<bool, AllocError> {
-    memory_limit.leave(left)?;
+    memory_limit.limit_to(left)?;
     let is_made = Inbox::new(rt, alloc, 16).is_ok();
-    memory_limit.ease();
+    memory_limit.release();
     Ok(is_made)
 }
 
@@ -50,14 +50,14 @@ fn passes_a_job_on(
     let question = Question::new()?;
     let mut pass = pass;
     let mut passes = Vec::with_capacity(alloc, 2)?;
-    memory_limit.leave(0)?;
+    memory_limit.limit_to(0)?;
     let mut other = inbox.split_pass(rt, &mut pass)?;
     let is_put = inbox.put(rt, &mut pass, question.job(0, 0)).is_ok();
     let taken = inbox.take(rt, &mut other);
     passes.push_reserved(pass);
     passes.push_reserved(other);
     let is_empty = inbox.close(rt, passes).next(rt).is_none();
-    memory_limit.ease();
+    memory_limit.release();
     Ok(is_put && taken == Some(question.job(0, 0)) && is_empty)
 }
 

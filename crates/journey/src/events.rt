@@ -11,7 +11,7 @@ use std::marker::Model;
 use taf_codes::Memory;
 
 // How many events a row has room for once it has one.
-const FIRST: usize = 16;
+const FIRST_CAPACITY: usize = 16;
 
 /// The events of a journey, oldest first: most of them in a row, and behind it those that joined without memory.
 #[derive(Debug, Drop)]
@@ -103,7 +103,7 @@ fn gather(row: &mut Vec<Event>, joined: &mut LinkedList<Event>) -> Result<(), Me
     ensures all { OnOk result (joined.new ≡ []) }
 {
     if row.is_empty() {
-        row.reserve(FIRST)?;
+        row.reserve(FIRST_CAPACITY)?;
     }
     row.reserve(joined.len())?;
     while let Some(event) = joined.pop_front() {

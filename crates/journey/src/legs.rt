@@ -1,16 +1,16 @@
 ghost use Rattle.std.specs.Prelude.{◌≡◌, ℕ, ◌+◌, ◌<◌, ◌≤◌, ◌++◌, length, take, slice_get};
-ghost use Rattle.journey.specs.Legs.{timed};
+ghost use Rattle.journey.specs.Legs.{with_minutes};
 
 use std::marker::Model;
 use trip_plan::Leg;
 
 // The most legs that a wagon has.
-const MOST: usize = 8;
+const MAX_LEGS: usize = 8;
 
 // Room for the legs of a wagon, copied at once.
 #[derive(Clone, Copy, Debug)]
 struct Row {
-    items: [Leg; MOST],
+    items: [Leg; MAX_LEGS],
 }
 
 /// The legs of a wagon in their order: 1 to 8, kept in place.
@@ -73,7 +73,7 @@ impl Legs {
 
     /// Gives this leg, if there is such a leg, these minutes.
     pub(crate) fn time(&mut self, leg: usize, minutes: u32)
-        ensures { self.new ≡ timed self.old leg minutes }
+        ensures { self.new ≡ with_minutes self.old leg minutes }
     {
         if leg < self.count {
             self.row.items[leg].minutes = minutes;
@@ -98,7 +98,7 @@ fn row_of(legs: &[Leg]) -> Row
     requires few { length legs.now ≤ 8 }
     ensures { take (length legs.now) result.items ≡ legs.now }
 {
-    let mut items = [legs[0]; MOST];
+    let mut items = [legs[0]; MAX_LEGS];
     put_behind(&mut items, 0, legs);
     Row { items }
 }

@@ -37,7 +37,7 @@ impl Scarcity {
     // Memory was refused: there is enough from here on.
     fn end(&mut self) {
         self.refused = self.refused.saturating_add(1);
-        self.memory_limit.ease();
+        self.memory_limit.release();
     }
 
     fn open(&mut self, alloc: Global, plan: Event) -> Result<Track, Fail>
@@ -109,10 +109,10 @@ impl Scarcity {
     fn track(&mut self, alloc: Global, left: usize) -> Result<Track, Fail> {
         let plan = planned(alloc, Load::Loaded, &[wagon("218124712173")?], LEGS)?;
         let events = last_first(alloc)?;
-        self.memory_limit.leave(left)?;
+        self.memory_limit.limit_to(left)?;
         let mut track = self.open(alloc, plan)?;
         self.add_all(alloc, &mut track, events)?;
-        self.memory_limit.ease();
+        self.memory_limit.release();
         Ok(track)
     }
 
@@ -124,9 +124,9 @@ impl Scarcity {
         for_record: usize,
     ) -> Result<Record, Fail> {
         let track = self.track(alloc, for_track)?;
-        self.memory_limit.leave(for_record)?;
+        self.memory_limit.limit_to(for_record)?;
         let shown = self.record(alloc, &track)?;
-        self.memory_limit.ease();
+        self.memory_limit.release();
         Ok(shown)
     }
 

@@ -27,7 +27,11 @@ impl Model for Buffer {
 
     ghost coded = { filled_code };
 
-    ghost view = { λ b. record { items = take b.len b.bytes.items; spare = 0; ready = length b.bytes.items - b.len } };
+    ghost view = { λ b. record {
+      items = take b.len b.bytes.items;
+      spare = 0;
+      ready = length b.bytes.items - b.len;
+    } };
 
     ghost invariant = { λ b. b.len ≤ length b.bytes.items };
 }

@@ -52,7 +52,8 @@ impl<'r, 'a> JsonValue<'r, 'a> {
 
     /// The whole number that it is, from 0 on.
     pub fn as_u64(self) -> Option<u64>
-        ensures { result ≡ option_and_then find.as_u64 (find.as_number (json_value_data self.entry)) }
+        ensures { result
+            ≡ option_and_then find.as_u64 (find.as_number (json_value_data self.entry)) }
     {
         match self {
             JsonValue::Scalar(Scalar::Text(_)) => None,

@@ -21,7 +21,7 @@ impl Model for MemoryLimit {
 }
 
 // How many blocks of each kind are held at most.
-const MOST: usize = 200_000;
+const MAX_BLOCKS: usize = 200_000;
 
 // The large blocks are of 2^36 bytes, of half as many, and so on down to the greatest small block.
 const GREATEST: usize = 1 << 36;
@@ -30,7 +30,7 @@ const GREATEST: usize = 1 << 36;
 const GREATEST_SMALL: usize = 1 << 22;
 
 // What is set aside to be split, while the small blocks are taken.
-const PLUG: usize = 4096;
+const SET_ASIDE: usize = 4096;
 
 // What is set aside for the budgets, while the large blocks are taken: four of the greatest small blocks, so that it may
 // come to lie in pieces.
@@ -41,8 +41,8 @@ impl MemoryLimit {
     pub fn new(alloc: Global) -> Result<MemoryLimit, AllocError>
         ensures { IfOk result (λ memory_limit. memory_limit.small ≡ 0) }
     {
-        let mut large = Vec::with_capacity(alloc, MOST)?;
-        let small = Vec::with_capacity(alloc, MOST)?;
+        let mut large = Vec::with_capacity(alloc, MAX_BLOCKS)?;
+        let small = Vec::with_capacity(alloc, MAX_BLOCKS)?;
         let room: Vec<u8> = Vec::with_capacity(alloc, ROOM)?;
         take_halves(alloc, &mut large, GREATEST, 15);
         drop(room);
@@ -54,21 +54,21 @@ impl MemoryLimit {
     }
 
     /// Leaves about so many bytes, and no more. Up to 2^21 of them there is room for.
-    pub fn leave(&mut self, bytes: usize) -> Result<(), AllocError>
+    pub fn limit_to(&mut self, bytes: usize) -> Result<(), AllocError>
         ensures large { self.new.large ≡ self.old.large }
         ensures none_given_back { self.old.small ≤ self.new.small }
         ensures taken { OnOk result (self.old.small < self.new.small) }
     {
-        let budget: Vec<u8> = Vec::with_capacity(self.alloc, PLUG.saturating_add(bytes))?;
+        let budget: Vec<u8> = Vec::with_capacity(self.alloc, SET_ASIDE.saturating_add(bytes))?;
         take_halves(self.alloc, &mut self.small, GREATEST_SMALL, 20);
         drop(budget);
-        let plug = Vec::with_capacity(self.alloc, PLUG)?;
-        self.small.push(plug)?;
+        let block = Vec::with_capacity(self.alloc, SET_ASIDE)?;
+        self.small.push(block)?;
         Ok(())
     }
 
     /// Gives the small blocks back.
-    pub fn ease(&mut self)
+    pub fn release(&mut self)
         ensures { self.new ≡ record self.old { small = 0 } }
     {
         self.small.clear();
@@ -104,8 +104,8 @@ fn take_halves(alloc: Global, blocks: &mut Vec<Vec<u8>>, greatest: usize, sizes:
 fn take_blocks(alloc: Global, blocks: &mut Vec<Vec<u8>>, size: usize)
     ensures { vec_len blocks.old ≤ vec_len blocks.new }
 {
-    for _ in 0..MOST {
-        if blocks.len() >= MOST {
+    for _ in 0..MAX_BLOCKS {
+        if blocks.len() >= MAX_BLOCKS {
             return;
         }
         let Ok(block) = Vec::with_capacity(alloc, size) else {

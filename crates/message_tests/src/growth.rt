@@ -134,9 +134,9 @@ fn refusals(
 ) -> Result<usize, Fail> {
     for budget in 0..BUDGETS {
         let mut out = Vec::from_slice(alloc, b"before")?;
-        memory_limit.leave(budget * 16)?;
+        memory_limit.limit_to(budget * 16)?;
         let made = attempt.is_made(alloc, &mut out);
-        memory_limit.ease();
+        memory_limit.release();
         match made {
             Some(true) => return Ok(budget),
             Some(false) => return Err(Fail::new("made otherwise")),
@@ -234,9 +234,9 @@ fn making_a_plan(rt: HostRuntime) -> Result<(), Fail> {
     let mut memory_limit = MemoryLimit::new(rt.alloc())?;
     let attempt = Attempt::Plan(&plan);
     assert!(rt; refusals(rt.alloc(), &mut memory_limit, &attempt)? > 3);
-    memory_limit.leave(0)?;
+    memory_limit.limit_to(0)?;
     let copied = is_copy(plan.copy(), &plan);
-    memory_limit.ease();
+    memory_limit.release();
     assert!(rt; copied);
     Ok(())
 }
@@ -248,9 +248,9 @@ fn making_a_route(rt: HostRuntime) -> Result<(), Fail> {
     let mut memory_limit = MemoryLimit::new(rt.alloc())?;
     let attempt = Attempt::Route(&route);
     assert!(rt; refusals(rt.alloc(), &mut memory_limit, &attempt)? > 1);
-    memory_limit.leave(0)?;
+    memory_limit.limit_to(0)?;
     let copied = is_copy(route.copy(), &route);
-    memory_limit.ease();
+    memory_limit.release();
     assert!(rt; copied);
     Ok(())
 }
@@ -262,11 +262,11 @@ fn are_copied(
     call: &Call,
     item: &Item,
 ) -> Result<bool, Fail> {
-    memory_limit.leave(0)?;
+    memory_limit.limit_to(0)?;
     let copied = is_copy(copy(message), message)
         && is_copy(copy_call(call), call)
         && is_copy(copy_item(item), item);
-    memory_limit.ease();
+    memory_limit.release();
     Ok(copied)
 }
 
@@ -286,9 +286,9 @@ fn copying_messages(rt: HostRuntime) -> Result<(), Fail> {
 fn copying_replies(rt: HostRuntime) -> Result<(), Fail> {
     let mut memory_limit = MemoryLimit::new(rt.alloc())?;
     for reply in replies(rt.alloc())?.iter() {
-        memory_limit.leave(0)?;
+        memory_limit.limit_to(0)?;
         let copied = is_copy(copy_reply(reply), reply);
-        memory_limit.ease();
+        memory_limit.release();
         assert!(rt; copied);
     }
     Ok(())

@@ -2,7 +2,7 @@
 use Rattle.std.specs.Prelude.{◌≡◌, ℕ, ◌≤◌, nat_lt, List, [], ◌++◌, length, drop, max}
 use Rattle.taf_messages.specs.declared.item.ItemBody.{ItemBody}
 use Rattle.outbox.specs.OutboxStates.{OutboxState, new_box, last_of, with_items, acknowledged_up_to, first_items}
-use Rattle.outbox.specs.Numbering.{fetched, is_ahead}
+use Rattle.outbox.specs.Numbering.{items_to_fetch, is_ahead}
 
 -- of these bodies, oldest first, those after the acknowledged number are kept
 pub record Keeps (kept : OutboxState) (bodies : List ItemBody) (acknowledged : ℕ) : Type 0 where
@@ -20,7 +20,7 @@ LastCounts = (kept : OutboxState) (bodies : List ItemBody) (n : ℕ) → Keeps k
 
 -- a fetch gives the first items after the acknowledged one
 abbrev pub FetchesFirst : Type 0
-FetchesFirst = (kept : OutboxState) (bodies : List ItemBody) (n limit : ℕ) → Keeps kept bodies n → first_items kept limit ≡ fetched bodies n limit
+FetchesFirst = (kept : OutboxState) (bodies : List ItemBody) (n limit : ℕ) → Keeps kept bodies n → first_items kept limit ≡ items_to_fetch bodies n limit
 
 -- a push adds at the end
 abbrev pub PushesLast : Type 0

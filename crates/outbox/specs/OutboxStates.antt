@@ -53,9 +53,9 @@ abbrev pub acknowledged_up_to : OutboxState → ℕ → OutboxState
 acknowledged_up_to kept n = record { acknowledged = max kept.acknowledged n; bodies = drop (n - kept.acknowledged) kept.bodies }
 
 -- the items of these bodies, which are numbered on from n
-abbrev pub numbered_after : ℕ → List ItemBody → List Item
-numbered_after n bodies = map (λ b. record { number = b.0; body = b.1 }) (enumerate_from (n + 1) bodies)
+abbrev pub items_from_number : ℕ → List ItemBody → List Item
+items_from_number n bodies = map (λ b. record { number = b.0; body = b.1 }) (enumerate_from (n + 1) bodies)
 
 -- the first items after the acknowledged one
 abbrev pub first_items : OutboxState → ℕ → List Item
-first_items kept limit = numbered_after kept.acknowledged (take limit kept.bodies)
+first_items kept limit = items_from_number kept.acknowledged (take limit kept.bodies)

@@ -1,5 +1,5 @@
 ghost use Rattle.std.specs.Prelude.{◌≡◌, ◌+◌, ◌<◌, ◌≤◌, ◌^◌, [], ◌∷◌, length, take, drop, max, IfOk, OnOk};
-ghost use Rattle.outbox.specs.OutboxStates.{last_of, new_box, with_items, acknowledged_up_to, first_items, numbered_after};
+ghost use Rattle.outbox.specs.OutboxStates.{last_of, new_box, with_items, acknowledged_up_to, first_items, items_from_number};
 
 use std::alloc::Global;
 use std::collections::VecDeque;
@@ -90,7 +90,7 @@ impl Outbox {
     pub fn first(&self, alloc: Global, limit: u64) -> Result<ItemList, Memory>
         ensures { IfOk result (λ items. items ≡ first_items self.now.kept limit) }
     {
-        numbered(alloc, self.acknowledged, &self.bodies, limit)
+        numbered_items(alloc, self.acknowledged, &self.bodies, limit)
     }
 }
 
@@ -104,14 +104,14 @@ fn copy_of(body: &ItemBody) -> Result<ItemBody, Memory>
 
 // Copies of the first bodies, numbered on from the one before.
 #[tactic(auto, using(crate::proofs::NumberLemmas::first_numbered, crate::proofs::NumberLemmas::all_numbered))]
-fn numbered(
+fn numbered_items(
     alloc: Global,
     before: u64,
     bodies: &VecDeque<ItemBody>,
     limit: u64,
 ) -> Result<ItemList, Memory>
     requires { before + length bodies.now.items ≤ 2 ^ 63 }
-    ensures { IfOk result (λ items. items ≡ numbered_after before (take limit bodies.now.items)) }
+    ensures { IfOk result (λ items. items ≡ items_from_number before (take limit bodies.now.items)) }
 {
     let mut items = Vec::with_capacity(alloc, bodies.len().min(limit as usize))?;
     let mut rest = bodies.iter();

@@ -71,7 +71,7 @@ impl Outboxes {
     }
 
     /// Whether a railway has a box.
-    pub fn is_open(&self, railway: Railway) -> bool
+    pub fn has_box(&self, railway: Railway) -> bool
         ensures { result ≡ has_box self.now railway }
     {
         self.boxes.get(&railway).is_some()

@@ -268,14 +268,14 @@ pub(crate) fn put_field<T: Json>(out: &mut Writer, name: &str, value: &T) -> Res
 
 /// Appends a member of an object that is a plain text.
 #[inline(always)]
-pub(crate) fn put_text(out: &mut Writer, name: &str, said: &str) -> Result<(), AllocError>
+pub(crate) fn put_text(out: &mut Writer, name: &str, value: &str) -> Result<(), AllocError>
     requires name { is_plain name.now ≡ true }
-    requires text { is_plain said.now ≡ true }
-    ensures ok { OnOk result (AddsField out.old out.new name.now (text said.now)) }
+    requires text { is_plain value.now ≡ true }
+    ensures ok { OnOk result (AddsField out.old out.new name.now (text value.now)) }
     ensures before { out.new.before ≡ out.old.before }
 {
     out.key(name)?;
-    out.string(said)
+    out.string(value)
 }
 
 /// Appends a member of an object, where there is one.

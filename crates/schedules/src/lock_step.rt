@@ -13,7 +13,7 @@ const STRANGER: &[u8] = b"{\"fault\":\"stranger\"}";
 
 // A session in lock step beside the one that was played.
 #[derive(Drop)]
-struct Beside<'p> {
+struct LockStepSession<'p> {
     played: &'p Player,
     session: Box<Session>,
     /// How many bytes of what was said are compared.
@@ -24,7 +24,7 @@ struct Beside<'p> {
     refusals: usize,
 }
 
-impl<'p> Beside<'p> {
+impl<'p> LockStepSession<'p> {
     // The next line that was said.
     fn next_said(&mut self) -> Option<&'p [u8]> {
         let rest = self.played.said.get(self.compared..)?;
@@ -133,20 +133,20 @@ pub(crate) struct LockStep {
 
 /// Gives the lines that were played to a session in lock step. Fails unless it says the same.
 pub(crate) fn lock_step(alloc: Global, played: &Player) -> Result<LockStep, ScheduleFault> {
-    let mut beside = Beside {
+    let mut lock_step_session = LockStepSession {
         played,
         session: Box::new(alloc, Session::new(alloc, played.id)).map_err(Memory::from)?,
         compared: 0,
         answered: 0,
         refusals: 0,
     };
-    let is_cut = beside.is_cut()?;
-    beside.check_rest(is_cut)?;
-    let Beside {
+    let is_cut = lock_step_session.is_cut()?;
+    lock_step_session.check_rest(is_cut)?;
+    let LockStepSession {
         session,
         refusals,
         ..
-    } = beside;
+    } = lock_step_session;
     let tally = Box::into_inner(session).on_end();
     Ok(LockStep { tally, refusals })
 }

@@ -20,7 +20,7 @@ impl Scarcity<'_> {
     pub(crate) fn begin(&mut self, draws: &mut Draws) -> bool {
         match self {
             Scarcity::OnceIn(times, memory_limit) if *times > 0 && draws.once_in(*times) => {
-                let _ = memory_limit.leave(draws.below(BUDGET));
+                let _ = memory_limit.limit_to(draws.below(BUDGET));
                 true
             }
             _ => false,
@@ -30,7 +30,7 @@ impl Scarcity<'_> {
     /// Gives back what was taken up.
     pub(crate) fn end(&mut self) {
         if let Scarcity::OnceIn(_, memory_limit) = self {
-            memory_limit.ease();
+            memory_limit.release();
         }
     }
 }

@@ -55,9 +55,9 @@ fn is_enough(
 ) -> Result<bool, Fail> {
     let output = Vec::with_capacity(alloc, 4096)?;
     let mut ends = Ends::new(alloc, &script.input, output, FAR)?;
-    memory_limit.leave(left)?;
+    memory_limit.limit_to(left)?;
     let end = ends.serve(alloc);
-    memory_limit.ease();
+    memory_limit.release();
     match end {
         Err(SessionFault::Memory) => serve_again(alloc, ends, script),
         _ => has_enough(&ends.ended(end), script),

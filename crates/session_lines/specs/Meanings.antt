@@ -13,7 +13,7 @@ use Rattle.call_reader.specs.Values as value_of
 use Rattle.call_reader.specs.Reading.{field_of}
 use Rattle.call_lines.specs.declared.parsed.ParsedLine.{ParsedLine}
 use Rattle.call_lines.specs.declared.parsed.ParsedLine.TheVariants as lines
-use Rattle.call_lines.specs.Lines.{is_blank, parsed, fault_text}
+use Rattle.call_lines.specs.Lines.{is_blank, parsed_line, fault_text}
 use Rattle.session_lines.specs.declared.fault.LineFault.TheVariants.{LineTooLong, NoHello, WrongSender, NoMemory}
 use Rattle.session_lines.specs.declared.meaning.Meaning.{Meaning}
 use Rattle.session_lines.specs.declared.meaning.Meaning.TheVariants.{Blank, Hello, Wrong, Calls}
@@ -72,7 +72,7 @@ json_of_line line = if is_utf8 line then read_json line else None
 -- a line that is neither too long nor blank, before the hello or after it
 abbrev pub text_meaning : Option Railway → List ℕ → Meaning
 text_meaning None line = first_json_meaning (json_of_line line)
-text_meaning (Some own) line = meaning_after_hello own (parsed line)
+text_meaning (Some own) line = meaning_after_hello own (parsed_line line)
 
 -- a line that is too long, or blank, means that alone
 unfoldable pub meaning_by_length : List ℕ → Meaning → Meaning

@@ -4,7 +4,7 @@ ghost use Rattle.serde_json.specs.View.{view};
 ghost use Rattle.taf_messages.specs.declared.fault.RecordFault.TheVariants.{Memory as MemoryRefused};
 ghost use Rattle.call_reader.specs.Values as value_of;
 ghost use Rattle.call_reader.specs.Reading.{field_of};
-ghost use Rattle.call_lines.specs.Lines.{parsed};
+ghost use Rattle.call_lines.specs.Lines.{parsed_line};
 ghost use Rattle.session_lines.specs.Texts.{line_fault_text};
 ghost use Rattle.session_lines.specs.Meanings.{sender_of, call_meaning, is_hello, first_record_meaning, first_json_meaning, json_of_line, meaning_after_hello, text_meaning};
 
@@ -52,7 +52,7 @@ fn later_meaning(
     own: Railway,
     line: &[u8],
 ) -> Result<Meaning, Memory>
-    ensures { IfOk result (λ m. m ≡ meaning_after_hello own (parsed line.now)) }
+    ensures { IfOk result (λ m. m ≡ meaning_after_hello own (parsed_line line.now)) }
 {
     match parse_line(reader, line)? {
         ParsedLine::TooLong => Ok(wrong(LineFault::LineTooLong)),
@@ -144,7 +144,7 @@ fn names_hello(value: &Value) -> bool
 // The railway of a hello.
 fn hello_railway(value: &Value) -> Result<Railway, RecordFault>
     ensures railway { result ≡ field_of value_of.railway Field.From (view value.now) }
-    ensures told { IfErr result (λ fault. fault ≢ MemoryRefused) }
+    ensures reportable { IfErr result (λ fault. fault ≢ MemoryRefused) }
 {
     let Some(field) = value.get(Field::From.name()) else {
         return Err(RecordFault::MissingField(Field::From));

@@ -182,9 +182,9 @@ impl Session {
         };
         match meaning {
             Meaning::Blank => Step::Nothing,
-            Meaning::Hello(railway) => self.greet(railway),
+            Meaning::Hello(railway) => self.on_hello(railway),
             Meaning::Wrong(line) => self.say(line),
-            Meaning::Calls(call) => self.give(call),
+            Meaning::Calls(call) => self.on_call(call),
         }
     }
 
@@ -203,7 +203,7 @@ impl Session {
     }
 
     // Takes the railway of a hello.
-    fn greet(&mut self, railway: Railway) -> Step
+    fn on_hello(&mut self, railway: Railway) -> Step
         requires free { length self.old.slots < 16 }
         requires sound { self.old.has_failed ≡ false }
         ensures { SoundTakes self.old (Hello railway) result self.new }
@@ -216,7 +216,7 @@ impl Session {
     }
 
     // Gives a job out, once a copy of its call is kept and its place in the tally is reserved.
-    fn give(&mut self, call: Call) -> Step
+    fn on_call(&mut self, call: Call) -> Step
         requires free { length self.old.slots < 16 }
         requires few { self.old.job_count < 2 ^ 62 }
         requires sound { self.old.has_failed ≡ false }
@@ -257,7 +257,7 @@ impl Session {
         match done.answer {
             Ok((position, reply)) => {
                 let line = Line::of_reply(self.alloc, &reply);
-                enter(&mut self.tally, position, call, reply);
+                note_answer(&mut self.tally, position, call, reply);
                 line
             }
             Err(fault) => Line::of_hub_fault(&fault),
@@ -305,7 +305,7 @@ impl Session {
 }
 
 // Enters an answer into a tally that has room for it.
-fn enter(tally: &mut Tally, position: u64, call: Call, reply: Reply)
+fn note_answer(tally: &mut Tally, position: u64, call: Call, reply: Reply)
     requires { 0 < tally.old.spare }
     ensures entry { tally.new.entries ≡ with_entry tally.old.entries call (Ok (position, reply)) }
     ensures room { tally.old.spare ≤ tally.new.spare + 1 }

@@ -4,7 +4,7 @@ use Rattle.std.proofs.lemmas.List.Sums.{fold-append}
 use Rattle.std.specs.List.{slice_range}
 use Rattle.std.proofs.Math.Seq.{take-add, take-append-add}
 use Rattle.std.proofs.lemmas.List.{take_more, get_or-drop}
-use Rattle.call_lines.specs.Lines.{unbroken}
+use Rattle.call_lines.specs.Lines.{has_no_newline}
 use Rattle.call_lines.proofs.LineLemmas.{not_newline, rest_unbroken}
 use Rattle.session_serving.specs.Bytes.{Cut, max_kept, max_kept_is, add_byte, cut_after, CutsNext}
 
@@ -67,21 +67,21 @@ length-take-most (suc n) [] = omega arith
 length-take-most (suc n) (x ∷ xs) = omega (arith, length-take-most n xs)
 
 -- bytes without a newline
-pub cut-unbroken : (rest bytes : List ℕ) → unbroken bytes ≡ true → length rest ≤ max_kept → cut_after rest bytes ≡ record { whole = []; rest = take max_kept (rest ++ bytes) }
-cut-unbroken rest [] h fits = λ i. record { whole = []; rest = (sym (take_all max_kept rest fits) ∙ ap (take max_kept) (append_nil rest)) i }
-cut-unbroken rest (b ∷ bytes) h fits =
+pub cut-has_no_newline : (rest bytes : List ℕ) → has_no_newline bytes ≡ true → length rest ≤ max_kept → cut_after rest bytes ≡ record { whole = []; rest = take max_kept (rest ++ bytes) }
+cut-has_no_newline rest [] h fits = λ i. record { whole = []; rest = (sym (take_all max_kept rest fits) ∙ ap (take max_kept) (append_nil rest)) i }
+cut-has_no_newline rest (b ∷ bytes) h fits =
     let plain = not_newline b bytes h in
     let kept : List ℕ = take max_kept (rest ++ b ∷ []) in
     let short : length kept ≤ max_kept = length-take-most max_kept (rest ++ b ∷ []) in
-    let more = cut-unbroken kept bytes (rest_unbroken b bytes h) short in
+    let more = cut-has_no_newline kept bytes (rest_unbroken b bytes h) short in
     ap (λ c. fold add_byte c bytes) (cut-plain rest b plain) ∙ more
     ∙ ap (λ l. record { whole = []; rest = l }) (take_again max_kept (rest ++ b ∷ []) bytes ∙ ap (take max_kept) (append_assoc rest (b ∷ []) bytes))
 
 -- a whole line
-pub cut-line : (rest bytes : List ℕ) → unbroken bytes ≡ true → length rest ≤ max_kept → cut_after rest (bytes ++ 10 ∷ []) ≡ record { whole = take max_kept (rest ++ bytes) ∷ []; rest = [] }
+pub cut-line : (rest bytes : List ℕ) → has_no_newline bytes ≡ true → length rest ≤ max_kept → cut_after rest (bytes ++ 10 ∷ []) ≡ record { whole = take max_kept (rest ++ bytes) ∷ []; rest = [] }
 cut-line rest bytes h fits =
     cut-append rest bytes (10 ∷ [])
-    ∙ ap (λ (c : Cut). behind c.whole (cut_after c.rest (10 ∷ []))) (cut-unbroken rest bytes h fits)
+    ∙ ap (λ (c : Cut). behind c.whole (cut_after c.rest (10 ∷ []))) (cut-has_no_newline rest bytes h fits)
 
 -- a line with its newline, in a chunk
 pub chunk-part : (w : List ℕ) (from end : ℕ) → from ≤ end → end < length w → get_or w end 0 ≡ 10 → take (end + 1) w ≡ take from w ++ (slice_range w from end ++ 10 ∷ [])
@@ -113,13 +113,13 @@ chunk-last rest chunk now kept from e cuts =
     ∙ ap (λ c. behind (cut_after rest (take from chunk)).whole c) cuts
 
 -- what a search for the next newline gives
-pub found-line : (old chunk sub new : List ℕ) (from end : ℕ) → from ≤ end → end < length chunk → get_or chunk end 0 ≡ 10 → unbroken (slice_range chunk from end) ≡ true → length old ≤ max_kept → sub ≡ slice_range chunk from end → new ≡ take max_kept (old ++ sub) → CutsNext old chunk from (Some (end + 1)) new
+pub found-line : (old chunk sub new : List ℕ) (from end : ℕ) → from ≤ end → end < length chunk → get_or chunk end 0 ≡ 10 → has_no_newline (slice_range chunk from end) ≡ true → length old ≤ max_kept → sub ≡ slice_range chunk from end → new ≡ take max_kept (old ++ sub) → CutsNext old chunk from (Some (end + 1)) new
 found-line old chunk sub new from end le lt is h fits e f =
     let whole : take max_kept (old ++ slice_range chunk from end) ≡ new = ap (λ l. take max_kept (old ++ l)) (sym e) ∙ sym f in
     (omega (arith, le), omega (arith, lt), (slice_range chunk from end ++ 10 ∷ [], chunk-part chunk from end le lt is, cut-line old (slice_range chunk from end) h fits ∙ ap (λ l. record { whole = l ∷ []; rest = [] }) whole))
 
-pub found-none : (old chunk sub new : List ℕ) (from : ℕ) → from ≤ length chunk → unbroken (drop from chunk) ≡ true → length old ≤ max_kept → sub ≡ take (length chunk - from) (drop from chunk) → new ≡ take max_kept (old ++ sub) → CutsNext old chunk from None new
+pub found-none : (old chunk sub new : List ℕ) (from : ℕ) → from ≤ length chunk → has_no_newline (drop from chunk) ≡ true → length old ≤ max_kept → sub ≡ take (length chunk - from) (drop from chunk) → new ≡ take max_kept (old ++ sub) → CutsNext old chunk from None new
 found-none old chunk sub new from le h fits e f =
     let all : length (drop from chunk) ≤ length chunk - from = omega (arith, length-drop from chunk) in
     let same : sub ≡ drop from chunk = e ∙ take_all (length chunk - from) (drop from chunk) all in
-    cut-unbroken old (drop from chunk) h fits ∙ ap (λ l. record { whole = []; rest = l }) (ap (λ l. take max_kept (old ++ l)) (sym same) ∙ sym f)
+    cut-has_no_newline old (drop from chunk) h fits ∙ ap (λ l. record { whole = []; rest = l }) (ap (λ l. take max_kept (old ++ l)) (sym same) ∙ sym f)

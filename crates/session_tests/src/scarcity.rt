@@ -98,9 +98,9 @@ impl Scarce {
         if self.session.busy() || self.session.job_count() > 1000 {
             return Err(Fail::new("busy"));
         }
-        self.memory_limit.leave(left)?;
+        self.memory_limit.limit_to(left)?;
         let step = self.session.on_line(line.as_bytes());
-        self.memory_limit.ease();
+        self.memory_limit.release();
         Ok(step)
     }
 
@@ -123,9 +123,9 @@ impl Scarce {
         if !self.session.has_job_in_front() {
             return Err(Fail::new("no job"));
         }
-        self.memory_limit.leave(self.left)?;
+        self.memory_limit.limit_to(self.left)?;
         let line = self.session.on_done(done);
-        self.memory_limit.ease();
+        self.memory_limit.release();
         Ok(line)
     }
 

@@ -45,11 +45,11 @@ impl Scarcity {
     ) -> Option<(u64, Reply)>
         ensures { seat.new.parts ≡ seat.old.parts }
     {
-        if self.memory_limit.leave(self.left).is_err() {
+        if self.memory_limit.limit_to(self.left).is_err() {
             return None;
         }
         let answer = hub.submit(rt, seat, call);
-        self.memory_limit.ease();
+        self.memory_limit.release();
         answer.ok()
     }
 
@@ -86,11 +86,11 @@ impl Scarcity {
         let Ok(again) = with_reply(&told, &told.reply) else {
             return;
         };
-        if self.memory_limit.leave(self.left).is_err() {
+        if self.memory_limit.limit_to(self.left).is_err() {
             return;
         }
         let noted = tally.note(told);
-        self.memory_limit.ease();
+        self.memory_limit.release();
         if noted.is_err() {
             self.notes = self.notes.saturating_add(1);
             let _ = tally.note(again);
@@ -136,9 +136,9 @@ impl Scarcity {
 
     // Settles, again where memory is refused.
     fn settle(&mut self, alloc: Global, closed: &Closed) -> Result<Settled, Fail> {
-        self.memory_limit.leave(self.left)?;
+        self.memory_limit.limit_to(self.left)?;
         let settled = settle(alloc, &closed.hub, closed.tallies.as_slice());
-        self.memory_limit.ease();
+        self.memory_limit.release();
         if let Ok(settled) = settled {
             return Ok(settled);
         }
@@ -220,9 +220,9 @@ fn is_enough_room(
     left: usize,
 ) -> Result<bool, Fail> {
     let mut tally = Tally::new(alloc);
-    memory_limit.leave(left)?;
+    memory_limit.limit_to(left)?;
     let is_made = tally.reserve(16).is_ok();
-    memory_limit.ease();
+    memory_limit.release();
     if !tally.entries().is_empty() || tally.reserve(16).is_err() {
         return Err(Fail::new("another tally"));
     }

@@ -25,9 +25,9 @@ fn refusal<R: Threads + Wait + Sync>(
     let reader = Script::new(lines, false);
     let writer = Writer::new(rt, written, usize::MAX);
     let sessions = Vec::from_array(alloc, [(reader, writer)])?;
-    memory_limit.leave(left)?;
+    memory_limit.limit_to(left)?;
     let fault = run_shift(rt, alloc, &OpenGate, sessions, 1).err();
-    memory_limit.ease();
+    memory_limit.release();
     Ok(fault)
 }
 

@@ -12,11 +12,11 @@ fn can_be_had(alloc: Global, bytes: usize) -> bool {
 // Whether, where so many bytes are left, more is refused and half of them are given, and more is given afterwards.
 fn leaves(alloc: Global, memory_limit: &mut MemoryLimit, budget: usize) -> Result<bool, Fail> {
     let past = budget.saturating_add(8192);
-    memory_limit.leave(budget)?;
+    memory_limit.limit_to(budget)?;
     let is_held = memory_limit.small_blocks() > 0;
     let is_refused = !can_be_had(alloc, past);
     let is_given = can_be_had(alloc, budget / 2);
-    memory_limit.ease();
+    memory_limit.release();
     Ok(is_held && is_refused && is_given && can_be_had(alloc, past))
 }
 

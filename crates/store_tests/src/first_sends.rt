@@ -92,15 +92,15 @@ fn fill(
     by: Railway,
 ) -> Result<u32, Memory> {
     let mut refused: u32 = 0;
-    memory_limit.leave(budget)?;
+    memory_limit.limit_to(budget)?;
     for position in 0..100u64 {
         if note_new(seen, by, position + 1, position).is_err() {
             refused = refused.saturating_add(1);
-            memory_limit.ease();
+            memory_limit.release();
             note_new(seen, by, position + 1, position)?;
         }
     }
-    memory_limit.ease();
+    memory_limit.release();
     Ok(refused)
 }
 

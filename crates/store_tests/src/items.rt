@@ -113,9 +113,9 @@ fn put_three(outboxes: &mut Outboxes, railway: Railway) -> Result<(), Fail> {
 fn a_box_is_opened_with_its_room(rt: HostRuntime) -> Result<(), Fail> {
     let railway = Railway::read("R100")?;
     let mut outboxes = no_items(rt.alloc())?;
-    assert!(rt; !outboxes.is_open(railway));
+    assert!(rt; !outboxes.has_box(railway));
     outboxes.make_room(railway, 0)?;
-    assert!(rt; outboxes.is_open(railway) && outboxes.last(railway) == 0);
+    assert!(rt; outboxes.has_box(railway) && outboxes.last(railway) == 0);
     put_three(&mut outboxes, railway)?;
     assert!(rt; last_fetched(&outboxes, railway, 50, 0)? == 3);
     Ok(())

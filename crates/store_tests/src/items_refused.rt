@@ -55,7 +55,7 @@ fn is_refused(
     if pushed.is_ok() || outboxes.last(railway) != before {
         return Ok(false);
     }
-    memory_limit.ease();
+    memory_limit.release();
     push_notice(alloc, outboxes, railway, wagon)?;
     Ok(true)
 }
@@ -109,9 +109,9 @@ fn is_enough(
     wagon: WagonNumber,
 ) -> Result<bool, Fail> {
     let mut outboxes = no_items(alloc)?;
-    memory_limit.leave(budget)?;
+    memory_limit.limit_to(budget)?;
     let refused = fill(alloc, &mut outboxes, memory_limit, railways, wagon)?;
-    memory_limit.ease();
+    memory_limit.release();
     let is_first = is_filled(alloc, &outboxes, railways[0], wagon)?;
     if is_first && is_filled(alloc, &outboxes, railways[1], wagon)? {
         Ok(refused == 0)

@@ -144,15 +144,15 @@ fn fill(
     budget: usize,
 ) -> Result<u32, Memory> {
     let mut refused: u32 = 0;
-    memory_limit.leave(budget)?;
+    memory_limit.limit_to(budget)?;
     for number in 1..41u64 {
         if open_new(alloc, offers, number).is_err() {
             refused = refused.saturating_add(1);
-            memory_limit.ease();
+            memory_limit.release();
             open_new(alloc, offers, number)?;
         }
     }
-    memory_limit.ease();
+    memory_limit.release();
     Ok(refused)
 }
 

@@ -60,7 +60,7 @@ fn is_handed_back(pages: &mut Pages<u64>, memory_limit: &mut MemoryLimit, number
     let Err(back) = pages.push(number) else {
         return false;
     };
-    memory_limit.ease();
+    memory_limit.release();
     if pages.len() < 2049 {
         let _ = pages.push(back);
     }
@@ -74,13 +74,13 @@ fn fill(
     budget: usize,
 ) -> Result<u32, AllocError> {
     let mut refused: u32 = 0;
-    memory_limit.leave(budget)?;
+    memory_limit.limit_to(budget)?;
     for number in 0..2049u64 {
         if is_handed_back(pages, memory_limit, number) {
             refused = refused.saturating_add(1);
         }
     }
-    memory_limit.ease();
+    memory_limit.release();
     Ok(refused)
 }
 

@@ -24,18 +24,22 @@ pub(crate) struct NameText {
 impl Model for NameText {
     ghost use Rattle.std.specs.Prelude.{◌≡◌, List, ℕ, take, length, true};
     ghost use Rattle.taf_codes.specs.Codes.{is_name};
-    ghost use Rattle.taf_codes.specs.Padded.{IsPadded, padded};
+    ghost use Rattle.taf_codes.specs.Padded.{IsPadded, with_zeros};
     ghost use Rattle.std.proofs.Common.{sym, length-take-le};
 
     ghost Value = { List ℕ };
 
     ghost view = { λ name. take name.len name.bytes };
 
-    ghost invariant = { λ name. IsPadded name.bytes name.len × (is_name (take name.len name.bytes) ≡ true) };
+    ghost invariant = { λ name. IsPadded name.bytes name.len
+        × (is_name (take name.len name.bytes) ≡ true) };
 
-    ghost inverse = { λ text. record { bytes = padded text; len = length text } };
+    ghost inverse = { λ text. record { bytes = with_zeros text; len = length text } };
 
-    ghost inverse_ok = { λ name h i. record { bytes = sym h.0.filled i; len = length-take-le name.len name.bytes h.0.within i } };
+    ghost inverse_ok = { λ name h i. record {
+      bytes = sym h.0.filled i;
+      len = length-take-le name.len name.bytes h.0.within i;
+    } };
 }
 
 impl NameText {

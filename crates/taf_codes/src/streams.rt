@@ -28,7 +28,8 @@ pub trait Source {
         ensures bound { IfOk result (λ n. n ≤ length buf.new) }
         ensures bytes { ReadConsumes (remaining self.old) (remaining self.new) result buf.new }
         ensures end { IfOk result (λ n. n ≡ 0 → 0 < length buf.new → IsAtEnd (remaining self.new)) }
-        ensures counted { failures self.new ≡ (if is_ok result then failures self.old else failures self.old + 1) };
+        ensures counted { failures self.new
+            ≡ (if is_ok result then failures self.old else failures self.old + 1) };
 }
 
 /// What takes bytes.
@@ -45,12 +46,14 @@ pub trait Sink {
         ensures bound { IfOk result (λ n. n ≤ length bytes.now) }
         ensures some { IfOk result (λ n. 0 < length bytes.now → 0 < n) }
         ensures bytes { WriteAppends (contents self.old) (contents self.new) result bytes.now }
-        ensures counted { failures self.new ≡ (if is_ok result then failures self.old else failures self.old + 1) };
+        ensures counted { failures self.new
+            ≡ (if is_ok result then failures self.old else failures self.old + 1) };
 
     /// Sends on what it has taken and still holds back. Each Err is one failure more.
     fn flush(&mut self) -> Result<(), Failed>
         ensures bytes { Keeps (contents self.old) (contents self.new) }
-        ensures counted { failures self.new ≡ (if is_ok result then failures self.old else failures self.old + 1) };
+        ensures counted { failures self.new
+            ≡ (if is_ok result then failures self.old else failures self.old + 1) };
 }
 
 /// A reader or a writer of std, with a count of its failures.

@@ -11,7 +11,7 @@ use Rattle.std.proofs.lemmas.Slice.Eq.{bytes_eq-Decides}
 use Rattle.jiff_core.proofs.CalendarLemmas.{days_in_month_bounds}
 use Rattle.taf_moment.specs.declared.date.CalendarDate.{CalendarDate}
 use Rattle.taf_moment.specs.declared.fault.BadMoment.{BadMoment}
-use Rattle.taf_moment.specs.Calendar.{is_date, day_number, date_after, digit_as_zero, has_form, shown, date_shown, is_moment, minutes_shown, text_at, moment_text}
+use Rattle.taf_moment.specs.Calendar.{is_date, day_number, date_after, digit_as_zero, has_form, number_in_letters, date_shown, is_moment, minutes_shown, text_at, moment_text}
 use Rattle.taf_moment.specs.Laws.{TextIsRead, ReadingIsExact}
 use Rattle.taf_moment.proofs.DateLemmas.{IsCalendarDate, calendar_date_from_test, test_from_calendar_date, day_number-bound, date_after-day_number, date_after-is}
 use Rattle.taf_moment.proofs.LetterLemmas.{digit_from_form, mark_from_form, digits_value-two_digits, digits_value-four_digits, form-two_digits, form-four_digits, two_digits-digits_value, four_digits-digits_value}
@@ -96,8 +96,8 @@ has_digits text is =
     }
 
 -- such a text is that of the date, the hour and the minute that it shows
-pub text_at-shown : (text : List ℕ) → IsFormed text → text_at (date_shown text) (shown text 11 13) (shown text 14 16) ≡ text
-text_at-shown text is =
+pub text_at-number_in_letters : (text : List ℕ) → IsFormed text → text_at (date_shown text) (number_in_letters text 11 13) (number_in_letters text 14 16) ≡ text
+text_at-number_in_letters text is =
     let letters = letters_are text is.long in
     let t : ℕ → ℕ = λ k. get_or text k 0 in
     let year = four_digits-digits_value (t 0) (t 1) (t 2) (t 3) is.digit_0 is.digit_1 is.digit_2 is.digit_3 in
@@ -105,7 +105,7 @@ text_at-shown text is =
     let day = two_digits-digits_value (t 8) (t 9) is.digit_8 is.digit_9 in
     let hour = two_digits-digits_value (t 11) (t 12) is.digit_11 is.digit_12 in
     let minute = two_digits-digits_value (t 14) (t 15) is.digit_14 is.digit_15 in
-    ap (λ l. text_at (date_shown l) (shown l 11 13) (shown l 14 16)) letters
+    ap (λ l. text_at (date_shown l) (number_in_letters l 11 13) (number_in_letters l 14 16)) letters
     ∙ (λ i. year i ++ codes "-" ++ month i ++ codes "-" ++ day i ++ codes "T" ++ hour i ++ codes ":" ++ minute i ++ codes "Z")
     ∙ rw (is.mark_4, is.mark_7, is.mark_10, is.mark_13, is.mark_16) refl
     ∙ sym letters
@@ -132,8 +132,8 @@ text_at-is_moment : (date : CalendarDate) (hour minute : ℕ) → IsCalendarDate
     → (is_moment (text_at date hour minute) ≡ true) × (minutes_shown (text_at date hour minute) ≡ 1440 * day_number date + 60 * hour + minute)
 text_at-is_moment date hour minute is hours minutes =
     let same = date_shown-text_at date hour minute is in
-    let at_hour : shown (text_at date hour minute) 11 13 ≡ hour = digits_value-two_digits hour (omega (arith, hours)) in
-    let at_minute : shown (text_at date hour minute) 14 16 ≡ minute = digits_value-two_digits minute (omega (arith, minutes)) in (
+    let at_hour : number_in_letters (text_at date hour minute) 11 13 ≡ hour = digits_value-two_digits hour (omega (arith, hours)) in
+    let at_minute : number_in_letters (text_at date hour minute) 14 16 ≡ minute = digits_value-two_digits minute (omega (arith, minutes)) in (
       and_from _ _ (and_from _ _ (and_from _ _ (text_at-has_form date hour minute is hours minutes) (ap is_date same ∙ test_from_calendar_date date is)) (ap (λ h. nat_le h 23) at_hour ∙ le-leb hour 23 hours)) (ap (λ m. nat_le m 59) at_minute ∙ le-leb minute 59 minutes),
       λ i. 1440 * day_number (same i) + 60 * at_hour i + at_minute i,
     )
@@ -156,15 +156,15 @@ unfolding moment_text
 reading_is_exact text minutes h =
     let date : CalendarDate = date_shown text in
     let taken = ok_from_if (is_moment text) (minutes_shown text) minutes (record {}) h in
-    let third = and_parts _ (nat_le (shown text 14 16) 59) taken.0 in
-    let second = and_parts _ (nat_le (shown text 11 13) 23) third.0 in
+    let third = and_parts _ (nat_le (number_in_letters text 14 16) 59) taken.0 in
+    let second = and_parts _ (nat_le (number_in_letters text 11 13) 23) third.0 in
     let first = and_parts (has_form text) (is_date date) second.0 in
-    let at_minute = leb-true (shown text 14 16) 59 third.1 in
-    let at_hour = leb-true (shown text 11 13) 23 second.1 in
+    let at_minute = leb-true (number_in_letters text 14 16) 59 third.1 in
+    let at_hour = leb-true (number_in_letters text 11 13) 23 second.1 in
     let is = calendar_date_from_test date first.1 in
     let day : minutes / 1440 ≡ day_number date = omega (arith, taken.1, at_hour, at_minute) in
-    let hour : minutes % 1440 / 60 ≡ shown text 11 13 = omega (arith, taken.1, at_hour, at_minute) in
-    let minute : minutes % 60 ≡ shown text 14 16 = omega (arith, taken.1, at_hour, at_minute) in
+    let hour : minutes % 1440 / 60 ≡ number_in_letters text 11 13 = omega (arith, taken.1, at_hour, at_minute) in
+    let minute : minutes % 60 ≡ number_in_letters text 14 16 = omega (arith, taken.1, at_hour, at_minute) in
     let same : date_after (minutes / 1440) ≡ date = ap date_after day ∙ date_after-day_number date is in
-    let written : moment_text minutes ≡ text_at date (shown text 11 13) (shown text 14 16) = λ i. text_at (same i) (hour i) (minute i) in
-    (omega (arith, taken.1, at_hour, at_minute, day_number-bound date is), sym (written ∙ text_at-shown text (formed_from_test text first.0)))
+    let written : moment_text minutes ≡ text_at date (number_in_letters text 11 13) (number_in_letters text 14 16) = λ i. text_at (same i) (hour i) (minute i) in
+    (omega (arith, taken.1, at_hour, at_minute, day_number-bound date is), sym (written ∙ text_at-number_in_letters text (formed_from_test text first.0)))

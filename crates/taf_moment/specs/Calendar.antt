@@ -71,20 +71,20 @@ abbrev pub has_form : List ℕ → Bool
 has_form text = bytes_eq (map digit_as_zero text) (codes "0000-00-00T00:00Z")
 
 -- the number that the letters from one place up to another show
-abbrev pub shown : List ℕ → ℕ → ℕ → ℕ
-shown text from upto = digits_value 10 (slice_range text from upto)
+abbrev pub number_in_letters : List ℕ → ℕ → ℕ → ℕ
+number_in_letters text from upto = digits_value 10 (slice_range text from upto)
 
 -- the date that a text shows
 abbrev pub date_shown : List ℕ → CalendarDate
-date_shown text = record { year = shown text 0 4; month = shown text 5 7; day = shown text 8 10 }
+date_shown text = record { year = number_in_letters text 0 4; month = number_in_letters text 5 7; day = number_in_letters text 8 10 }
 
 -- a text of that form with a date of the calendar, an hour to 23 and a minute to 59
 abbrev pub is_moment : List ℕ → Bool
-is_moment text = has_form text && is_date (date_shown text) && nat_le (shown text 11 13) 23 && nat_le (shown text 14 16) 59
+is_moment text = has_form text && is_date (date_shown text) && nat_le (number_in_letters text 11 13) 23 && nat_le (number_in_letters text 14 16) 59
 
 -- the minutes from 1970-01-01T00:00Z to what a text shows
 abbrev pub minutes_shown : List ℕ → ℕ
-minutes_shown text = 1440 * day_number (date_shown text) + 60 * shown text 11 13 + shown text 14 16
+minutes_shown text = 1440 * day_number (date_shown text) + 60 * number_in_letters text 11 13 + number_in_letters text 14 16
 
 -- the moment that a text denotes
 abbrev pub moment_of : List ℕ → Result ℕ BadMoment

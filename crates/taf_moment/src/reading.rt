@@ -2,7 +2,7 @@ ghost use Rattle.std.specs.Prelude.{◌≡◌, ◌==◌, ◌<◌, ◌≤◌, ◌
 ghost use Rattle.std.specs.Char.{is_ascii_digit};
 ghost use Rattle.std.specs.List.{list_all, zip};
 ghost use Rattle.std.specs.Str.Parse.{digits_value};
-ghost use Rattle.taf_moment.specs.Calendar.{digit_as_zero, has_form, shown, date_shown};
+ghost use Rattle.taf_moment.specs.Calendar.{digit_as_zero, has_form, number_in_letters, date_shown};
 
 use crate::date::CalendarDate;
 
@@ -55,8 +55,8 @@ pub(crate) fn date_shown(letters: &[u8]) -> CalendarDate
 /// The hour and the minute that a text of the form shows.
 pub(crate) fn time_shown(letters: &[u8]) -> (u16, u16)
     requires { IsTrue (has_form letters.now) }
-    ensures hour { result.0 ≡ shown letters.now 11 13 }
-    ensures minute { result.1 ≡ shown letters.now 14 16 }
+    ensures hour { result.0 ≡ number_in_letters letters.now 11 13 }
+    ensures minute { result.1 ≡ number_in_letters letters.now 14 16 }
 {
     (
         number_shown(&letters[11..13]),

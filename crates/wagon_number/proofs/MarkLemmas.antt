@@ -7,7 +7,7 @@ use Rattle.std.specs.List.{AllByRecursion}
 use Rattle.std.proofs.lemmas.Str.Ascii.{IsAscii-from_all}
 use Rattle.std.proofs.lemmas.List.Elements.{All-from_recursion}
 use Rattle.std.proofs.lemmas.List.FromFn.{fill_by_all}
-use Rattle.wagon_number.specs.Digits.{marked, unmarked, has_marks, text_of, number_of, marked_number_of}
+use Rattle.wagon_number.specs.Digits.{with_marks, without_marks, has_marks, text_of, number_of, marked_number_of}
 use Rattle.wagon_number.specs.Laws.{MarkedTextIsRead, MarkedReadingIsExact}
 use Rattle.wagon_number.proofs.TextLemmas.{ok_from_if, text_is_read, reading_is_exact, length-text_of}
 
@@ -23,19 +23,19 @@ sixteen_are ls long = fill_by_all (λ k. get_or ls k 0) ls 16 0 long (λ k h. re
 abbrev pub spaced : List ℕ → List ℕ
 spaced ls = get_or ls 0 0 ∷ get_or ls 1 0 ∷ 32 ∷ get_or ls 2 0 ∷ get_or ls 3 0 ∷ 32 ∷ get_or ls 4 0 ∷ get_or ls 5 0 ∷ get_or ls 6 0 ∷ get_or ls 7 0 ∷ 32 ∷ get_or ls 8 0 ∷ get_or ls 9 0 ∷ get_or ls 10 0 ∷ 45 ∷ get_or ls 11 0 ∷ []
 
-pub marked_is : (ls : List ℕ) → length ls ≡ 12 → marked ls ≡ spaced ls
-marked_is ls long = ap marked (twelve_are ls long)
+pub marked_is : (ls : List ℕ) → length ls ≡ 12 → with_marks ls ≡ spaced ls
+marked_is ls long = ap with_marks (twelve_are ls long)
 
 -- twelve letters in the marked form have the marks, and come back without them
-marked-has_marks : (ls : List ℕ) → length ls ≡ 12 → has_marks (marked ls) ≡ true
-marked-has_marks ls long = ap has_marks (marked_is ls long)
+with_marks-has_marks : (ls : List ℕ) → length ls ≡ 12 → has_marks (with_marks ls) ≡ true
+with_marks-has_marks ls long = ap has_marks (marked_is ls long)
 
-unmarked-marked : (ls : List ℕ) → length ls ≡ 12 → unmarked (marked ls) ≡ ls
-unmarked-marked ls long = ap unmarked (marked_is ls long) ∙ sym (twelve_are ls long)
+without_marks-with_marks : (ls : List ℕ) → length ls ≡ 12 → without_marks (with_marks ls) ≡ ls
+without_marks-with_marks ls long = ap without_marks (marked_is ls long) ∙ sym (twelve_are ls long)
 
 -- a text with the marks has sixteen letters
-length-marked : (text : List ℕ) → has_marks text ≡ true → length text ≡ 16
-length-marked text marks =
+length-with_marks : (text : List ℕ) → has_marks text ≡ true → length text ≡ 16
+length-with_marks text marks =
     let parts = and_parts _ _ (and_parts _ _ (and_parts _ (slice_index text 10 == 32) (and_parts _ (slice_index text 14 == 45) marks).0).0).0 in
     eqb-true _ _ parts.0
 
@@ -44,11 +44,11 @@ abbrev pub unspaced : List ℕ → List ℕ
 unspaced text = get_or text 0 0 ∷ get_or text 1 0 ∷ get_or text 3 0 ∷ get_or text 4 0 ∷ get_or text 6 0 ∷ get_or text 7 0 ∷ get_or text 8 0 ∷ get_or text 9 0 ∷ get_or text 11 0 ∷ get_or text 12 0 ∷ get_or text 13 0 ∷ get_or text 15 0 ∷ []
 
 pub marked_number_of-unspaced : (text : List ℕ) → has_marks text ≡ true → marked_number_of text ≡ number_of (unspaced text)
-marked_number_of-unspaced text marks = cond-true _ _ _ marks ∙ ap (λ l. number_of (unmarked l)) (sixteen_are text (length-marked text marks))
+marked_number_of-unspaced text marks = cond-true _ _ _ marks ∙ ap (λ l. number_of (without_marks l)) (sixteen_are text (length-with_marks text marks))
 
 -- a text with the marks is the marked form of its letters
-marked-unmarked : (text : List ℕ) → has_marks text ≡ true → marked (unmarked text) ≡ text
-marked-unmarked text marks =
+with_marks-without_marks : (text : List ℕ) → has_marks text ≡ true → with_marks (without_marks text) ≡ text
+with_marks-without_marks text marks =
     let last = and_parts _ (slice_index text 14 == 45) marks in
     let third = and_parts _ (slice_index text 10 == 32) last.0 in
     let second = and_parts _ (slice_index text 5 == 32) third.0 in
@@ -58,18 +58,18 @@ marked-unmarked text marks =
     let blank_2 : get_or text 5 0 ≡ 32 = eqb-true _ _ second.1 in
     let blank_1 : get_or text 2 0 ≡ 32 = eqb-true _ _ first.1 in
     let letters = sixteen_are text (eqb-true _ _ first.0) in
-    ap (λ l. marked (unmarked l)) letters ∙ rw (blank_1, blank_2, blank_3, hyphen) refl ∙ sym letters
+    ap (λ l. with_marks (without_marks l)) letters ∙ rw (blank_1, blank_2, blank_3, hyphen) refl ∙ sym letters
 
 pub marked_text_is_read : MarkedTextIsRead
 marked_text_is_read n vehicle =
     let long = length-text_of n in
-    cond-true _ _ _ (marked-has_marks (text_of n) long) ∙ ap number_of (unmarked-marked (text_of n) long) ∙ text_is_read n vehicle
+    cond-true _ _ _ (with_marks-has_marks (text_of n) long) ∙ ap number_of (without_marks-with_marks (text_of n) long) ∙ text_is_read n vehicle
 
 pub marked_reading_is_exact : MarkedReadingIsExact
 marked_reading_is_exact text n h =
-    let marks = ok_from_if (has_marks text) (number_of (unmarked text)) _ n h in
-    let is = reading_is_exact (unmarked text) n marks.1 in
-    (is.0, sym (marked-unmarked text marks.0) ∙ ap marked is.1)
+    let marks = ok_from_if (has_marks text) (number_of (without_marks text)) _ n h in
+    let is = reading_is_exact (without_marks text) n marks.1 in
+    (is.0, sym (with_marks-without_marks text marks.0) ∙ ap with_marks is.1)
 
 -- the marked form of ASCII letters is ASCII
 ascii_cells : (bs : List ℕ) → AllByRecursion (λ b. b < 128) bs → IsAscii bs

@@ -83,14 +83,14 @@ text_of n = map digit_char (digits_of n)
 -- ---- the marked form, as `21 81 2471 217-3`
 
 -- twelve letters with a blank behind the second, the fourth and the eighth, and a hyphen before the last
-abbrev pub marked : List ℕ → List ℕ
-marked ls =
+abbrev pub with_marks : List ℕ → List ℕ
+with_marks ls =
     take 2 ls ++ codes " " ++ slice_range ls 2 4 ++ codes " " ++ slice_range ls 4 8 ++ codes " " ++ slice_range ls 8 11
     ++ codes "-" ++ drop 11 ls
 
 -- the marked form of a number
 abbrev pub marked_text : ℕ → List ℕ
-marked_text n = marked (text_of n)
+marked_text n = with_marks (text_of n)
 
 -- whether a text has sixteen letters, with the blanks (32) and the hyphen (45) at their places
 abbrev pub has_marks : List ℕ → Bool
@@ -99,9 +99,9 @@ has_marks text =
     && (slice_index text 14 == 45)
 
 -- sixteen letters without those at the marks' places
-abbrev pub unmarked : List ℕ → List ℕ
-unmarked text = take 2 text ++ slice_range text 3 5 ++ slice_range text 6 10 ++ slice_range text 11 14 ++ drop 15 text
+abbrev pub without_marks : List ℕ → List ℕ
+without_marks text = take 2 text ++ slice_range text 3 5 ++ slice_range text 6 10 ++ slice_range text 11 14 ++ drop 15 text
 
 -- what a text in the marked form is read as
 abbrev pub marked_number_of : List ℕ → Result ℕ NumberFault
-marked_number_of text = if has_marks text then number_of (unmarked text) else Err NotTwelveDigits
+marked_number_of text = if has_marks text then number_of (without_marks text) else Err NotTwelveDigits

@@ -9,7 +9,7 @@ use Rattle.hub_items.proofs.item_list.items.Goals as goal
 
 pub returns : goal.returns
 returns c =
-    let said = c.get-said in
+    let sent = c.get-sent in
     c.keep_others.ensures ∙ ap (λ (by : Railway). filter (λ (i : AddressedItem). not (bytes_eq i.to by)) c.in_ok-items.items.items) c.by.ensures ∙
-    ap (filter (λ (i : AddressedItem). not (bytes_eq i.to said.result.now.by))) c.in_ok-items.ensures ∙
-    ap (λ (m : Message). filter (λ (i : AddressedItem). not (bytes_eq i.to m.by)) (all_items (table_state c.args.tables.now) m)) said.ensures
+    ap (filter (λ (i : AddressedItem). not (bytes_eq i.to sent.result.now.by))) c.in_ok-items.ensures ∙
+    ap (λ (m : Message). filter (λ (i : AddressedItem). not (bytes_eq i.to m.by)) (all_items (table_state c.args.tables.now) m)) sent.ensures

@@ -11,7 +11,7 @@ use Rattle.hub_items.proofs.item_list.put_of_wagon.Goals as goal
 pub returns-in-Plan-clause-estimates : goal.returns-in-Plan-clause-estimates
 returns-in-Plan-clause-estimates c =
     let before = c.args.items.now.items in
-    let none = planned_estimates (table_state c.args.tables.now) c.args.message.now c.in-Plan.plan c.args.wagon (sym c.body.ensures ∙ c.in-Plan.is) c.requires.is_named in
+    let none = planned_estimates (table_state c.args.from.tables.now) c.args.from.message.now c.in-Plan.plan c.args.wagon (sym c.body.ensures ∙ c.in-Plan.is) c.requires.is_named in
     on_ok_weaker c.put_alert_end.result (λ receiver. sym (ap (λ more. before ++ more) none ∙ append-nil before)) c.put_alert_end.ensures
 
 pub returns-else-keeps_estimates : goal.returns-else-keeps_estimates

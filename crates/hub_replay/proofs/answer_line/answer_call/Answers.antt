@@ -2,7 +2,7 @@ use Rattle.std.proofs.Common.{◌≡◌, ◌++◌, ◌∷◌, [], ap, sym, ◌�
 use Rattle.taf_messages.specs.declared.reply.Reply.{Reply}
 use Rattle.call_lines.specs.Lines.{reply_text}
 use Rattle.hub_replay.proofs.StreamLemmas.{Appends-none}
-use Rattle.hub_replay.proofs.RunLemmas.{Advances-said, full_fault, StopsWithin-here, Advances-replied, StopsWithin-replied, on_ok, on_err}
+use Rattle.hub_replay.proofs.RunLemmas.{Advances-said, full_fault, StopsWithin-here, Advances-with_reply_line, StopsWithin-with_reply_line, on_ok, on_err}
 use Rattle.hub_replay.proofs.answer_line.answer_call.Goals as goal
 
 said : (pending pending' : List ℕ) (reply defined : Reply) → pending' ≡ pending ++ (reply_text reply ++ 10 ∷ []) → reply ≡ defined → pending' ≡ pending ++ (reply_text defined ++ 10 ∷ [])
@@ -14,20 +14,20 @@ returns-in_err-reply-clause-err g c = rw (c.in_err-reply.ensures.err) (on_err _ 
 pub returns-in_err-push_reply-in-Some-clause-err : goal.returns-in_err-push_reply-in-Some-clause-err
 returns-in_err-push_reply-in-Some-clause-err g c =
     let e = rw c.in-Some.is at c.in_ok-reply.ensures.ok in
-    on_err _ (StopsWithin-replied _ _ c.args.hub.now c.apply_call.new.hub c.args.output.now c.args.call [] _ e.0 e.1 refl (Appends-none _))
+    on_err _ (StopsWithin-with_reply_line _ _ c.args.hub.now c.apply_call.new.hub c.args.output.now c.args.call [] _ e.0 e.1 refl (Appends-none _))
 
 pub returns-in_default-clause-err : goal.returns-in_default-clause-err
 returns-in_default-clause-err g c =
     let e = rw c.in-Some.is at c.in_ok-reply.ensures.ok in
     let h = c.in_default.ensures.err in
-    StopsWithin-replied _ _ c.args.hub.now c.apply_call.new.hub c.args.output.now c.args.call h.0 h.1 e.0 e.1
+    StopsWithin-with_reply_line _ _ c.args.hub.now c.apply_call.new.hub c.args.output.now c.args.call h.0 h.1 e.0 e.1
     (sym h.2 ∙ c.as_slice.ensures.value ∙ said _ _ _ _ c.in_ok-push_reply-in-Some.ensures.pending e.2) h.3
 
 pub returns-in-Ok-clause-ok : goal.returns-in-Ok-clause-ok
 returns-in-Ok-clause-ok g c =
     let e = rw c.in-Some.is at c.in_ok-reply.ensures.ok in
     let pushed = c.in_ok-push_reply-in-Some.ensures in
-    Advances-replied _ _ c.args.hub.now c.apply_call.new.hub c.args.output.now _ c.args.call c.as_slice.result.now e.0 e.1
+    Advances-with_reply_line _ _ c.args.hub.now c.apply_call.new.hub c.args.output.now _ c.args.call c.as_slice.result.now e.0 e.1
     (c.as_slice.ensures.value ∙ said _ _ _ _ pushed.pending e.2)
     pushed.counts c.clear.ensures.items c.in-Ok.ensures.ok
 

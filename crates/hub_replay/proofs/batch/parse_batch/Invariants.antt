@@ -1,6 +1,6 @@
 use Rattle.std.proofs.Common.{◌≡◌, ◌≤◌, ◌-◌, length, drop, true}
 use Rattle.std.specs.List.{All, slice_range}
-use Rattle.call_lines.specs.Lines.{IsNotMemory, unbroken}
+use Rattle.call_lines.specs.Lines.{IsNotMemory, has_no_newline}
 use Rattle.hub_replay.specs.Lines.{IsTaken}
 use Rattle.hub_replay.proofs.batch.parse_batch.Given as goal
 
@@ -9,7 +9,7 @@ abbrev pub invariant-lines : goal.invariant-lines
 invariant-lines l = record {
   order : l.from ≤ l.place;
   bounds : l.place ≤ length l.bytes;
-  scanned : unbroken (slice_range l.bytes l.from l.place) ≡ true;
+  scanned : has_no_newline (slice_range l.bytes l.from l.place) ≡ true;
   says : IsTaken l.bytes l.lines.items (drop l.from l.bytes);
   reportable : All IsNotMemory l.lines.items;
   few : length l.lines.items ≤ l.from;

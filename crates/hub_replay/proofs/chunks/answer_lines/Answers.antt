@@ -18,7 +18,7 @@ batches-init g c = (
   omega arith,
   omega (arith, c.requires.order.0, c.requires.order.1),
   (omega arith, omega arith),
-  from_place c.args.chunk.now c.args.start _ c.in_ok-batch.ensures,
+  from_place c.args.part.chunk.now c.args.part.start _ c.in_ok-batch.ensures,
   omega arith,
   refl,
   ([], IsTaken-none _, Advances-none _ c.args.hub.now c.args.output.now),
@@ -44,7 +44,7 @@ returns-in_err-ahead-clause-err g c =
 pub batches-preserved : goal.batches-preserved
 batches-preserved g c =
     let i = c.batches.invariant in
-    let chunk = c.args.chunk.now in
+    let chunk = c.args.part.chunk.now in
     let next = c.batches.from + c.batches.batch.end in
     let hs = i.6.0 ++ c.batches.batch.lines.items in
     let t = IsTaken-append _ _ _ i.6.0 c.batches.batch.lines.items i.6.1 i.3.says in
@@ -59,5 +59,5 @@ batches-preserved g c =
       subst (λ s. IsBatch (drop next chunk) s) (sym c.replace.ensures.after) (from_place chunk next _ batch),
       omega (arith, i.4, i.3.few, counted),
       kept ∙ i.5,
-      (hs, subst (λ r. IsTaken (drop c.args.start chunk) hs r) (drop-drop c.batches.batch.end c.batches.from chunk) t, Advances-append i.6.2 advances),
+      (hs, subst (λ r. IsTaken (drop c.args.part.start chunk) hs r) (drop-drop c.batches.batch.end c.batches.from chunk) t, Advances-append i.6.2 advances),
     )

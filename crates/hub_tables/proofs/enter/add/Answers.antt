@@ -4,7 +4,7 @@ use Rattle.std.specs.Map.{lookup}
 use Rattle.std.specs.Option.{option_copied_mut}
 use Rattle.journey.specs.Journey.{Journey}
 use Rattle.hub_tables.specs.TableStates.{AreJourneyEntries}
-use Rattle.hub_tables.proofs.EntryLemmas.{next_there, put_filed, kept_entries}
+use Rattle.hub_tables.proofs.EntryLemmas.{next_there, entries_put, kept_entries}
 use Rattle.hub_tables.proofs.enter.add.Goals as goal
 
 pub add-requires : goal.add-requires
@@ -24,11 +24,11 @@ returns-in_default-clause-err c =
     let as_it_was = λ (q : ℕ). (written.3 (search rules)).0 q ∙ ap (λ (j : Journey). if nat_eq c.args.wagon q then Some j else lookup (nat_eq q) before) same in
     kept_entries before after c.args.wagon c.in-Some.found.now found as_it_was c.get_mut.ensures.unique written.1
 
-pub returns-in_default-clause-filed : goal.returns-in_default-clause-filed
-returns-in_default-clause-filed c = subst AreJourneyEntries (sym (returns-in_default-clause-err c)) c.requires.filed
+pub returns-in_default-clause-journeys : goal.returns-in_default-clause-journeys
+returns-in_default-clause-journeys c = subst AreJourneyEntries (sym (returns-in_default-clause-err c)) c.requires.journeys
 
-pub returns-clause-filed : goal.returns-clause-filed
-returns-clause-filed c =
+pub returns-clause-journeys : goal.returns-clause-journeys
+returns-clause-journeys c =
     let found = sym c.get_mut.ensures.value ∙ ap option_copied_mut c.in-Some.is in
     let written = c.get_mut.follows.holds c.add.new.self in
-    put_filed c.args.wagons.now.entries (c.get_mut.follows.lender c.add.new.self).entries c.args.wagon c.in-Some.found.now c.add.new.self c.args.event found c.in-Ok.ensures.ok c.requires.filed (written.3 (search rules)).0
+    entries_put c.args.wagons.now.entries (c.get_mut.follows.lender c.add.new.self).entries c.args.wagon c.in-Some.found.now c.add.new.self c.args.event found c.in-Ok.ensures.ok c.requires.journeys (written.3 (search rules)).0

@@ -1,6 +1,6 @@
 use Rattle.std.proofs.Common.{◌∙◌, sym, ap, rules}
 use Rattle.std.specs.Option.{option_copied_mut}
-use Rattle.hub_tables.proofs.EntryLemmas.{admitted_there, put_written, put_filed}
+use Rattle.hub_tables.proofs.EntryLemmas.{admitted_there, put_written, entries_put}
 use Rattle.hub_tables.proofs.enter.put.Goals as goal
 
 pub put-requires : goal.put-requires
@@ -18,8 +18,8 @@ returns-clause-events c =
 pub returns-clause-keys : goal.returns-clause-keys
 returns-clause-keys c = (c.get_mut.follows.holds c.put.new.self).1
 
-pub returns-clause-filed : goal.returns-clause-filed
-returns-clause-filed c =
+pub returns-clause-journeys : goal.returns-clause-journeys
+returns-clause-journeys c =
     let found = sym c.get_mut.ensures.value ∙ ap option_copied_mut c.in-Some.is in
     let written = c.get_mut.follows.holds c.put.new.self in
-    put_filed c.args.wagons.now.entries (c.get_mut.follows.lender c.put.new.self).entries c.args.wagon c.in-Some.found.now c.put.new.self c.args.event found c.put.ensures c.requires.filed (written.3 (search rules)).0
+    entries_put c.args.wagons.now.entries (c.get_mut.follows.lender c.put.new.self).entries c.args.wagon c.in-Some.found.now c.put.new.self c.args.event found c.put.ensures c.requires.journeys (written.3 (search rules)).0

@@ -24,7 +24,7 @@ loop-wagon-preserved c =
       admitted = subst (λ (f : ℕ → List Event). AreAdmitted f rest) (sym put) (subst (AreAdmitted (events_in at.wagons.entries)) steps at.invariant.admitted).1;
       events = λ w. ap (λ (f : ℕ → List Event). fold with_event_on f rest w) put ∙ ap (λ (xs : List (ℕ × Event)). fold with_event_on (events_in at.wagons.entries) xs w) (sym steps) ∙ at.invariant.events w;
       keys = c.put.ensures.keys ∙ at.invariant.keys;
-      filed = c.put.ensures.filed;
+      journeys = c.put.ensures.journeys;
       counted = let was = at.invariant.counted in let gone = c.in-Some.ensures.steps.1 in let short = ap length steps in omega arith;
     }
 

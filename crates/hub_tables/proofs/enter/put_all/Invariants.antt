@@ -11,6 +11,6 @@ invariant-loop-wagon l = record {
   admitted : AreAdmitted (events_in l.wagons.entries) (into_iter_items l.wagon-iterator);
   events : (w : ℕ) → fold with_event_on (events_in l.wagons.entries) (into_iter_items l.wagon-iterator) w ≡ fold with_event_on (events_in l.fn.wagons.entries) l.fn.events.items w;
   keys : keys_of l.wagons.entries ≡ keys_of l.fn.wagons.entries;
-  filed : AreJourneyEntries l.wagons.entries;
+  journeys : AreJourneyEntries l.wagons.entries;
   counted : into_iter_len l.wagon-iterator ≡ length (into_iter_items l.wagon-iterator);
 }

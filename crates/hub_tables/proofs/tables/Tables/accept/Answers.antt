@@ -3,8 +3,8 @@ use Rattle.hub_tables.specs.TableStates.{table_state}
 use Rattle.hub_tables.proofs.AcceptanceLemmas.{on_ok, answer_differs, single_taken, taken_known}
 use Rattle.hub_tables.proofs.tables.Tables.accept.Goals as goal
 
-pub settle-requires-clause-differ : goal.settle-requires-clause-differ
-settle-requires-clause-differ c =
+pub accept_closing-requires-clause-differ : goal.accept_closing-requires-clause-differ
+accept_closing-requires-clause-differ c =
     answer_differs (table_state c.args.self.now) c.args.message.now c.in-Answer.answer (sym c.body.ensures ∙ c.in-Answer.is) c.requires.sound
 
 pub returns-in_default-clause-ok : goal.returns-in_default-clause-ok

@@ -8,7 +8,7 @@ use Rattle.indexmap.specs.IndexMap.{insert_all}
 use Rattle.interchange.specs.OfferTable.{OfferTable, offer_of, is_standing}
 use Rattle.hub_model.specs.Updates.{offer_given, opening_given}
 use Rattle.hub_tables.specs.TableStates.{TableEntries, AreJourneyEntries}
-use Rattle.hub_tables.proofs.NewJourneyLemmas.{begun, events_entered, filed_entered, keys_entered, plan_entered, unit_entered}
+use Rattle.hub_tables.proofs.NewJourneyLemmas.{begun, events_entered, entries_entered, keys_entered, plan_entered, unit_entered}
 use Rattle.hub_tables.proofs.tables.Tables.accept_plan.Goals as goal
 
 pub invariant_of-self-2 : goal.invariant_of-self-2
@@ -18,7 +18,7 @@ invariant_of-self-2 c =
     let p = c.args.plan.now in
     let base : c.reserve.new.self.entries ≡ old.wagons = c.in_ok-reserve.ensures.entries ∙ ap (λ (t : TableEntries). t.wagons) c.self.view_is in
     let items = c.in_ok-begun.ensures ∙ ap (map (λ w. (w, begun old m p c.requires.plan w))) c.wagons.ensures.value in
-    filed_entered old m p c.requires.plan c.enter.new.table.entries (λ q. c.enter.ensures.values q ∙ (λ i. update_all nat_eq (λ k. lookup (nat_eq k) (base i)) (items i) q)) (subst AreJourneyEntries (ap (λ (t : TableEntries). t.wagons) c.self.view_is) c.self.invariant)
+    entries_entered old m p c.requires.plan c.enter.new.table.entries (λ q. c.enter.ensures.values q ∙ (λ i. update_all nat_eq (λ k. lookup (nat_eq k) (base i)) (items i) q)) (subst AreJourneyEntries (ap (λ (t : TableEntries). t.wagons) c.self.view_is) c.self.invariant)
 
 pub returns-clause-ok : goal.returns-clause-ok
 returns-clause-ok c =

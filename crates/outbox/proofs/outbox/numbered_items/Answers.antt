@@ -4,7 +4,7 @@ use Rattle.std.specs.VecDeque.Iter.{deque_iter_rest}
 use Rattle.taf_messages.specs.declared.item.Item.{Item}
 use Rattle.taf_messages.specs.declared.item.ItemBody.{ItemBody}
 use Rattle.outbox.proofs.NumberLemmas.{numbered_more, first_numbered}
-use Rattle.outbox.proofs.outbox.numbered.Goals as goal
+use Rattle.outbox.proofs.outbox.numbered_items.Goals as goal
 
 pub loop-i-preserved : goal.loop-i-preserved
 loop-i-preserved c =

@@ -1,7 +1,7 @@
 use Rattle.std.proofs.Common.{rules, ◌∙◌, ◌+◌, ◌≤◌, sym, ap, arith, length}
 use Rattle.session_lines.specs.States.{State, jobs_out}
 use Rattle.session_lines.proofs.SlotLemmas.{jobs_out-job, jobs_out-within}
-use Rattle.session_lines.proofs.session.Session.give.Goals as goal
+use Rattle.session_lines.proofs.session.Session.on_call.Goals as goal
 
 pub invariant_of-self-2 : goal.invariant_of-self-2
 invariant_of-self-2 c =
