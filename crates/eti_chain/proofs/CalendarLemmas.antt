@@ -42,7 +42,7 @@ abbrev pub in_calendar : Option ℕ → Bool
 in_calendar None = true
 in_calendar (Some at) = nat_le at last_minute
 
--- all of these estimates are
+-- and so are all of these
 abbrev all_in : List EstimateAt → Bool
 all_in es = list_all (λ e. nat_le e.at last_minute) es
 

@@ -22,7 +22,7 @@ use Rattle.eti_chain.specs.EstimateStates.{with_delay_of, anchor_after}
 abbrev pub KeepsLegs : EventBody → Type 0
 KeepsLegs body = (c : ℕ) (so_far : List Leg) → legs_after c so_far body ≡ so_far
 
-pub legs-kept : (events : List Event) (e : Event) → KeepsLegs e.body → legs (events ++ e ∷ []) ≡ legs events
+legs-kept : (events : List Event) (e : Event) → KeepsLegs e.body → legs (events ++ e ∷ []) ≡ legs events
 legs-kept events e k = legs-push events e ∙ k (leg_index events) (legs events)
 
 -- and one that receives nothing

@@ -1,7 +1,6 @@
 -- What is kept for the estimates goes along with the events.
 use Rattle.std.proofs.Common.{◌≡◌, ℕ, ◌≤◌, cond, List, [], ◌∷◌, ◌++◌, Option, Some, None, ap, ◌∙◌, sym}
 use Rattle.std.specs.Prelude.{option_map}
-use Rattle.std.specs.Option.{option_and_then}
 use Rattle.std.proofs.lemmas.Bool.{le-leb}
 use Rattle.taf_moment.specs.Calendar.{last_minute, moment_at}
 use Rattle.journey.specs.declared.event.Event.{Event}

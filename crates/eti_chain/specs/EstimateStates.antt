@@ -5,7 +5,7 @@ use Rattle.taf_moment.specs.Calendar.{last_minute}
 use Rattle.journey.specs.declared.event.Event.{Event}
 use Rattle.journey.specs.declared.event.EventBody.{EventBody}
 use Rattle.eti_chain.specs.declared.anchor.Anchor.{Anchor}
-use Rattle.eti_chain.specs.Estimates.{EstimateBasis, estimate_basis, anchor, anchor_in, delay_in, delayed_by, delays_in, fits_in, commitment}
+use Rattle.eti_chain.specs.Estimates.{EstimateBasis, estimate_basis, anchor, anchor_in, delay_in, delayed_by, delays_of, fits_in, commitment}
 
 -- the anchor, if there is one, with the delay of one event more
 abbrev pub with_delay_of : Option Anchor → EventBody → Option Anchor
@@ -44,10 +44,10 @@ estimate_anchor events = anchor_with_commitment (anchor events) (commitment even
 -- the wagon is on one of its legs, and its delays are small enough for a sum
 pub record IsSummable (r : EstimateBasis) : Type 0 where
   pub on_a_leg : r.leg_index < length r.legs
-  pub small : delays_in r < 2 ^ 127
+  pub small : delays_of r.anchor < 2 ^ 127
 
 -- the wagon is on one of its legs, and no estimate passes the calendar
 pub record IsWithin (r : EstimateBasis) : Type 0 where
   pub on_a_leg : r.leg_index < length r.legs
   pub fit : fits_in r ≡ true
-  pub small : delays_in r ≤ last_minute
+  pub small : delays_of r.anchor ≤ last_minute

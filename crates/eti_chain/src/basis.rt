@@ -146,7 +146,7 @@ impl<'a> EstimateBasis<'a> {
     }
 
     fn delays(&self) -> u128
-        ensures { result ≡ of.delays_in self.now }
+        ensures { result ≡ of.delays_of self.now.anchor }
     {
         match self.anchor {
             Some(anchor) => anchor.delays,
