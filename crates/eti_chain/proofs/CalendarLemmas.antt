@@ -1,93 +1,156 @@
 -- Estimates within the calendar.
-use Rattle.std.proofs.Common.{◌≡◌, ℕ, ◌+◌, ◌≤◌, Bool, true, false, cond, ltb, leb, List, [], ◌∷◌, ◌++◌, length, take, drop, Option, Some, None, refl, ap, ◌∙◌, sym, arith, zero}
+use Rattle.std.proofs.Common.{◌≡◌, ℕ, ◌+◌, ◌-◌, ◌≤◌, ◌<◌, Bool, true, false, cond, ltb, leb, zero, suc, List, [], ◌∷◌, ◌++◌, length, get_or, take, drop, Option, Some, None, refl, ap, ◌∙◌, sym, arith, zero-add}
 use Rattle.std.specs.Prelude.{◌&&◌, nat_le, sum_by, slice_range, filter_map, option_map}
 use Rattle.std.specs.Option.{option_or}
 use Rattle.std.specs.List.{list_all, range_with_len, cons_option}
-use Rattle.std.proofs.lemmas.Bool.{and_parts, and_from, leb-true, ltb-true, le-leb}
-use Rattle.std.proofs.Math.Nat.{sub_self}
+use Rattle.std.proofs.lemmas.Bool.{and_parts, and_from, leb-true, ltb-true, le-leb, lt-ltb, cond-true, cond_both}
+use Rattle.std.proofs.lemmas.List.Sums.{sum_by-cons, AllPass-from_list_all, list_all-from_AllPass}
+use Rattle.std.proofs.lemmas.List.FromFn.{get_or-range_with_len, length-range_with_len}
 use Rattle.taf_moment.specs.Calendar.{last_minute}
 use Rattle.trip_plan.specs.declared.parts.Leg.{Leg}
-use Rattle.taf_messages.specs.declared.movement.MovementKind.TheVariants.{Arrival, Delivery}
 use Rattle.taf_messages.specs.declared.record.EstimateAt.{EstimateAt}
 use Rattle.journey.specs.declared.event.Event.{Event}
-use Rattle.journey.specs.declared.event.EventBody.{EventBody}
-use Rattle.journey.specs.declared.event.EventBody.TheVariants.{Moved}
 use Rattle.journey.specs.Stages.{leg_index, is_reception}
 use Rattle.journey.specs.Legs.{legs}
-use Rattle.eti_chain.specs.Estimates.{estimate_from, estimates_from, current_minutes, base, delays, delay_in, expected_by, is_anchor, fits}
-use Rattle.eti_chain.proofs.EstimateLemmas.{IsSilent, KeepsLegs, estimates-silent, legs-kept, leg_index-kept, delays-push, base-push, same_estimates}
+use Rattle.eti_chain.specs.declared.anchor.Anchor.{Anchor}
+use Rattle.eti_chain.specs.Estimates.{anchor_in, anchor, EstimateBasis, basis_from, estimate_basis, minutes_in, delays_of, end_in, eta_in, fits_in, fits}
+use Rattle.eti_chain.specs.EstimateStates.{with_delay_of, IsWithin}
+use Rattle.eti_chain.proofs.EstimateLemmas.{KeepsLegs, IsSilent, basis-push, basis-silent}
 
--- an estimate, if there is one, is within the calendar
-abbrev pub Within : Option ℕ → Type 0
-Within None = Unit {0}
-Within (Some at) = at ≤ last_minute
+-- ---- the end of a leg
 
-abbrev in_calendar : EstimateAt → Bool
-in_calendar e = nat_le e.at last_minute
+-- when leg j ends by an anchor
+abbrev end_by : ℕ → List Leg → Anchor → ℕ → ℕ
+end_by c ls a j = a.at + cond a.runs_leg (minutes_in (basis_from c ls (Some a))) 0 + a.delays + sum_by (λ l. l.minutes) (slice_range ls (c + 1) (j + 1))
 
-one_fits : (j : ℕ) (o : Option ℕ) (rest : List EstimateAt) → Within o → list_all in_calendar rest ≡ true →
-    list_all in_calendar (cons_option (option_map (λ at. record { leg = j; at = at }) o) rest) ≡ true
-one_fits j None rest h k = k
-one_fits j (Some at) rest h k = and_from (leb at last_minute) _ (le-leb at last_minute h) k
+end_is : (c : ℕ) (ls : List Leg) (a : Anchor) (j : ℕ) → c ≤ j → j < length ls → end_in (basis_from c ls (Some a)) j ≡ Some (end_by c ls a j)
+end_is c ls a j low high = cond-true (leb c j && ltb j (length ls)) (Some (end_by c ls a j)) None (and_from (leb c j) (ltb j (length ls)) (le-leb c j low) (lt-ltb j (length ls) high))
 
-pub all_fit : (c : ℕ) (ls : List Leg) (b : Option ℕ) (d : ℕ) → ((j : ℕ) → Within (estimate_from c ls b d j)) → (js : List ℕ) →
-    list_all in_calendar (filter_map (λ j. option_map (λ at. record { leg = j; at = at }) (estimate_from c ls b d j)) js) ≡ true
-all_fit c ls b d h [] = refl
-all_fit c ls b d h (j ∷ js) = one_fits j (estimate_from c ls b d j) _ (h j) (all_fit c ls b d h js)
+-- without an anchor no leg has an end
+pub no_end : (c : ℕ) (ls : List Leg) (j : ℕ) → end_in (basis_from c ls None) j ≡ None
+no_end c ls j = cond_both (leb c j && ltb j (length ls)) None None (λ (o : Option ℕ). o ≡ None) (λ t. refl) (λ t. refl)
 
--- without an anchor there is no estimate
-no_base_within : (test : Bool) (d j c : ℕ) (ls : List Leg) → Within (cond test (option_map (λ at. at + d + sum_by (λ l. l.minutes) (slice_range ls (c + 1) (j + 1))) None) None)
-no_base_within true d j c ls = tt
-no_base_within false d j c ls = tt
+-- an end is that of one of the legs
+of_a_leg : (test : Bool) (o : Option ℕ) (at : ℕ) → cond test o None ≡ Some at → test ≡ true
+of_a_leg true o at h = refl
+of_a_leg false o at h = cc
 
-pub fits-no_base : (c : ℕ) (ls : List Leg) (d : ℕ) → list_all in_calendar (estimates_from c ls None d) ≡ true
-fits-no_base c ls d = all_fit c ls None d (λ j. no_base_within (leb c j && ltb j (length ls)) d j c ls) (range_with_len 0 (length ls))
+-- ---- the calendar
 
--- on the last leg the only estimate is the anchor's moment
-none_taken : (ls : List Leg) → sum_by (λ l. l.minutes) (take zero ls) ≡ 0
-none_taken [] = refl
-none_taken (l ∷ ls) = refl
+-- an end, if there is one, is within the calendar
+abbrev pub in_calendar : Option ℕ → Bool
+in_calendar None = true
+in_calendar (Some at) = nat_le at last_minute
 
-last_sum : (ls : List Leg) (c j : ℕ) → j ≡ c → sum_by (λ l. l.minutes) (slice_range ls (c + 1) (j + 1)) ≡ 0
-last_sum ls c j e = rw (e, sub_self) (none_taken (drop (c + 1) ls))
+-- and so are all of these
+abbrev all_in : List EstimateAt → Bool
+all_in es = list_all (λ e. nat_le e.at last_minute) es
 
-last_within : (c : ℕ) (ls : List Leg) (at j : ℕ) (test : Bool) → test ≡ (leb c j && ltb j (length ls)) → c + 1 ≡ length ls → at ≤ last_minute →
-    Within (cond test (Some (at + 0 + sum_by (λ l. l.minutes) (slice_range ls (c + 1) (j + 1)))) None)
-last_within c ls at j true t e h =
-    let parts = and_parts (leb c j) (ltb j (length ls)) (sym t) in
-    let low = leb-true c j parts.0 in
-    let high = ltb-true j (length ls) parts.1 in
-    let here : j ≡ c = omega arith in
-    let zero_sum = last_sum ls c j here in
+abbrev at_leg : ℕ → ℕ → EstimateAt
+at_leg j at = record { leg = j; at = at }
+
+fit_in : (f : ℕ → Option ℕ) (js : List ℕ) → all_in (filter_map (λ j. option_map (at_leg j) (f j)) js) ≡ list_all (λ j. in_calendar (f j)) js
+fit_in f [] = refl
+fit_in f (j ∷ js) = first (f j) (filter_map (λ j. option_map (at_leg j) (f j)) js) ∙ ap (λ b. in_calendar (f j) && b) (fit_in f js)
+  where
+    first : (o : Option ℕ) (rest : List EstimateAt) → all_in (cons_option (option_map (at_leg j) o) rest) ≡ (in_calendar o && all_in rest)
+    first None rest = refl
+    first (Some at) rest = refl
+
+fit_by_ends : (r : EstimateBasis) → ((j : ℕ) → in_calendar (end_in r j) ≡ true) → fits_in r ≡ true
+fit_by_ends r h =
+    let js = range_with_len 0 (length r.legs) in
+    fit_in (end_in r) js ∙ list_all-from_AllPass (λ j. in_calendar (end_in r j)) js (λ k d l. h (get_or js k d))
+
+ends_fit : (r : EstimateBasis) (j : ℕ) → j < length r.legs → fits_in r ≡ true → in_calendar (end_in r j) ≡ true
+ends_fit r j high h =
+    let js = range_with_len 0 (length r.legs) in
+    let here : get_or js j 0 ≡ j = get_or-range_with_len 0 (length r.legs) j 0 high ∙ zero-add j in
+    let within : j < length js = omega (arith, length-range_with_len 0 (length r.legs)) in
+    ap (λ i. in_calendar (end_in r i)) (sym here) ∙ AllPass-from_list_all (λ j. in_calendar (end_in r j)) js (sym (fit_in (end_in r) js) ∙ h) j 0 within
+
+-- no estimate of what fits passes the last minute
+pub end-fits : (r : EstimateBasis) (j at : ℕ) → fits_in r ≡ true → end_in r j ≡ Some at → at ≤ last_minute
+end-fits r j at h e =
+    let test = of_a_leg (leb r.leg_index j && ltb j (length r.legs)) _ at e in
+    let high = ltb-true j (length r.legs) ((and_parts (leb r.leg_index j) (ltb j (length r.legs)) test).1) in
+    leb-true at last_minute (ap in_calendar (sym e) ∙ ends_fit r j high h)
+
+pub fits-no_anchor : (c : ℕ) (ls : List Leg) → fits_in (basis_from c ls None) ≡ true
+fits-no_anchor c ls = fit_by_ends (basis_from c ls None) (λ j. ap in_calendar (no_end c ls j))
+
+sum_take : (ls : List Leg) (m n : ℕ) → m ≤ n → sum_by (λ l. l.minutes) (take m ls) ≤ sum_by (λ l. l.minutes) (take n ls)
+sum_take ls zero n h = omega arith
+sum_take [] (suc m) n h = omega arith
+sum_take (l ∷ ls) (suc m) zero h = absurd (omega arith)
+sum_take (l ∷ ls) (suc m) (suc n) h =
+    let k = sum_take ls m n (omega arith) in
+    let p = sum_by-cons (λ (x : Leg). x.minutes) l (take m ls) in
+    let q = sum_by-cons (λ (x : Leg). x.minutes) l (take n ls) in
     omega arith
-last_within c ls at j false t e h = tt
 
-pub fits-last : (c : ℕ) (ls : List Leg) (at : ℕ) → c + 1 ≡ length ls → at ≤ last_minute → list_all in_calendar (estimates_from c ls (Some at) 0) ≡ true
-fits-last c ls at e h = all_fit c ls (Some at) 0 (λ j. last_within c ls at j (leb c j && ltb j (length ls)) refl e h) (range_with_len 0 (length ls))
+-- where the last leg ends within the calendar, all do
+in_order : (c : ℕ) (ls : List Leg) (a : Anchor) → c < length ls → end_by c ls a (length ls - 1) ≤ last_minute → (j : ℕ) → in_calendar (end_in (basis_from c ls (Some a)) j) ≡ true
+in_order c ls a h last j =
+    cond_both (leb c j && ltb j (length ls)) (Some (end_by c ls a j)) None (λ o. in_calendar o ≡ true)
+    (λ t.
+    let high = ltb-true j (length ls) ((and_parts (leb c j) (ltb j (length ls)) t).1) in
+    let k = sum_take (drop (c + 1) ls) (j + 1 - (c + 1)) (length ls - 1 + 1 - (c + 1)) (omega arith) in
+    le-leb (end_by c ls a j) last_minute (omega arith))
+    (λ t. refl)
+
+same_test : (a b : Bool) → (a ≡ true → b ≡ true) → (b ≡ true → a ≡ true) → a ≡ b
+same_test true b f g = sym (f refl)
+same_test false true f g = g refl
+same_test false false f g = refl
+
+fits_by_last : (c : ℕ) (ls : List Leg) (a : Option Anchor) → c < length ls → fits_in (basis_from c ls a) ≡ in_calendar (eta_in (basis_from c ls a))
+fits_by_last c ls None h = fits-no_anchor c ls ∙ sym (ap in_calendar (no_end c ls (length ls - 1)))
+fits_by_last c ls (Some a) h =
+    let r = basis_from c ls (Some a) in
+    let last : in_calendar (eta_in r) ≡ nat_le (end_by c ls a (length ls - 1)) last_minute = ap in_calendar (end_is c ls a (length ls - 1) (omega arith) (omega arith)) in
+    same_test (fits_in r) (in_calendar (eta_in r))
+    (ends_fit r (length ls - 1) (omega arith))
+    (λ t. fit_by_ends r (in_order c ls a h (leb-true (end_by c ls a (length ls - 1)) last_minute (sym last ∙ t))))
+
+-- the last estimate decides
+pub fits_by_eta : (r : EstimateBasis) → r.leg_index < length r.legs → fits_in r ≡ in_calendar (eta_in r)
+fits_by_eta r h = fits_by_last r.leg_index r.legs r.anchor h
+
+-- delays of estimates that fit are small
+small-delays : (c : ℕ) (ls : List Leg) (a : Option Anchor) → c < length ls → fits_in (basis_from c ls a) ≡ true → delays_of a ≤ last_minute
+small-delays c ls None h f = omega arith
+small-delays c ls (Some a) h f = let k = end-fits (basis_from c ls (Some a)) c (end_by c ls a c) f (end_is c ls a c (omega arith) h) in omega arith
+
+pub small-of : (events : List Event) (a : Option Anchor) → a ≡ anchor events → leg_index events < length (legs events) → fits events ≡ true → delays_of a ≤ last_minute
+small-of events a is h f = rw is (small-delays (leg_index events) (legs events) (anchor events) h f)
+
+-- the estimates of a journey that fits are kept
+pub is_within_of : (r : EstimateBasis) (events : List Event) → r ≡ estimate_basis events → r.leg_index < length r.legs → fits events ≡ true → IsWithin r
+is_within_of r events e h f =
+    let fit = ap fits_in e ∙ f in
+    record { on_a_leg = h; fit = fit; small = small-delays r.leg_index r.legs r.anchor h fit }
+
+-- ---- one event more
+
+-- an anchor at the end of the current leg
+abbrev at_end : ℕ → Anchor
+at_end m = record { at = m; runs_leg = false; delays = 0 }
+
+-- on the last leg the only estimate is its moment
+fits-last : (c : ℕ) (ls : List Leg) (m : ℕ) → c + 1 ≡ length ls → m ≤ last_minute → fits_in (basis_from c ls (Some (at_end m))) ≡ true
+fits-last c ls m e h =
+    let none_left : length ls - 1 + 1 - (c + 1) ≡ 0 = omega arith in
+    let nothing = ap (λ n. sum_by (λ (l : Leg). l.minutes) (take n (drop (c + 1) ls))) none_left in
+    fit_by_ends (basis_from c ls (Some (at_end m))) (in_order c ls (at_end m) (omega arith) (omega arith))
 
 -- an event that ends the last leg at its moment
-pub record IsEnd (body : EventBody) : Type 0 where
-  pub keeps_legs : KeepsLegs body
-  pub no_reception : is_reception body ≡ false
-  pub anchors : is_anchor body ≡ true
-  pub its_moment : (minutes : ℕ) (at : Option ℕ) → expected_by minutes at body ≡ at
-
-pub fits-end : (events : List Event) (e : Event) (at : ℕ) → IsEnd e.body → e.at ≡ Some at → leg_index events + 1 ≡ length (legs events) → at ≤ last_minute → fits (events ++ e ∷ []) ≡ true
-fits-end events e at s m last h =
-    let based : base (events ++ e ∷ []) ≡ Some at =
-    base-push events e s.keeps_legs s.no_reception ∙ ap (λ o. option_or o (base events)) (s.its_moment (current_minutes events) e.at ∙ m) in
-    let no_delays : delays (events ++ e ∷ []) ≡ 0 = delays-push events e ∙ ap (λ b. cond b 0 (delays events + delay_in e.body)) s.anchors in
-    ap (list_all in_calendar)
-    (same_estimates (leg_index (events ++ e ∷ [])) (leg_index events) (legs (events ++ e ∷ [])) (legs events) (base (events ++ e ∷ [])) (Some at) (delays (events ++ e ∷ [])) 0
-    (leg_index-kept events e s.no_reception) (legs-kept events e s.keeps_legs) based no_delays) ∙
-    fits-last (leg_index events) (legs events) at last h
-
-pub end_arrival : IsEnd (Moved Arrival)
-end_arrival = record { keeps_legs = λ c so_far. refl; no_reception = refl; anchors = refl; its_moment = λ minutes at. refl }
-
-pub end_delivery : IsEnd (Moved Delivery)
-end_delivery = record { keeps_legs = λ c so_far. refl; no_reception = refl; anchors = refl; its_moment = λ minutes at. refl }
+pub fits-end : (events : List Event) (e : Event) (m : ℕ) → KeepsLegs e.body → is_reception e.body ≡ false → anchor_in e.at e.body ≡ Some (at_end m) →
+    leg_index events + 1 ≡ length (legs events) → m ≤ last_minute → fits (events ++ e ∷ []) ≡ true
+fits-end events e m k r is last h =
+    ap fits_in (basis-push events e k r) ∙ ap (λ o. fits_in (basis_from (leg_index events) (legs events) (option_or o (with_delay_of (anchor events) e.body)))) is ∙
+    fits-last (leg_index events) (legs events) m last h
 
 -- an event that changes no estimate
 pub fits-silent : (events : List Event) (e : Event) → IsSilent e.body → fits events ≡ true → fits (events ++ e ∷ []) ≡ true
-fits-silent events e s h = ap (list_all in_calendar) (estimates-silent events e s) ∙ h
+fits-silent events e s h = ap fits_in (basis-silent events e s) ∙ h

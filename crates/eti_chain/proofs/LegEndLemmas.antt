@@ -21,7 +21,7 @@ use Rattle.journey.proofs.SoundStateLemmas.{passed}
 use Rattle.journey.proofs.LegPositionLemmas.{stage-push, legs-push, timed_length}
 use Rattle.eti_chain.specs.Estimates.{fits, is_calendar_checked}
 use Rattle.eti_chain.proofs.EstimateLemmas.{leg_index-kept, silent_yard_arrival, silent_yard_departure, silent_offered, silent_withdrawn, silent_asked}
-use Rattle.eti_chain.proofs.CalendarLemmas.{fits-silent, fits-end, end_arrival, end_delivery}
+use Rattle.eti_chain.proofs.CalendarLemmas.{fits-silent, fits-end}
 
 -- the wagon has arrived
 abbrev pub has_arrived : Option Stage → Bool
@@ -67,23 +67,13 @@ on_last events by r = let p = passed (movement_checks (journey_state events) by 
 arrived_already : (events : List Event) (by : Railway) (s : Option Stage) → stage events ≡ s → refusal events by (Moved Delivery) ≡ None → has_arrived s ≡ true
 arrived_already events by (Some stage_is.Arrived) e r = refl
 arrived_already events by (Some stage_is.Delivered) e r = refl
-arrived_already events by (Some stage_is.Planned) e r = let z : Some WrongStage ≡ None = rw e at r in cc
-arrived_already events by (Some stage_is.Released) e r = let z : Some WrongStage ≡ None = rw e at r in cc
-arrived_already events by (Some stage_is.Running) e r = let z : Some WrongStage ≡ None = rw e at r in cc
-arrived_already events by (Some stage_is.InYard) e r = let z : Some WrongStage ≡ None = rw e at r in cc
-arrived_already events by (Some stage_is.Offered) e r = let z : Some WrongStage ≡ None = rw e at r in cc
-arrived_already events by None e r = let z : Some WrongStage ≡ None = rw e at r in cc
+arrived_already events by _ e r = let z : Some WrongStage ≡ None = rw e at r in cc
 
 -- a wagon that has arrived is not rerouted
 rerouted_before : (events : List Event) (by : Railway) (route : List Leg) (s : Option Stage) → stage events ≡ s → refusal events by (Rerouted route) ≡ None → has_arrived s ≡ false
 rerouted_before events by route (Some stage_is.Arrived) e r = let z : Some WrongStage ≡ None = rw e at r in cc
 rerouted_before events by route (Some stage_is.Delivered) e r = let z : Some WrongStage ≡ None = rw e at r in cc
-rerouted_before events by route (Some stage_is.Planned) e r = refl
-rerouted_before events by route (Some stage_is.Released) e r = refl
-rerouted_before events by route (Some stage_is.Running) e r = refl
-rerouted_before events by route (Some stage_is.InYard) e r = refl
-rerouted_before events by route (Some stage_is.Offered) e r = refl
-rerouted_before events by route None e r = refl
+rerouted_before events by route _ e r = refl
 
 abbrev an : Railway → ℕ → Option ℕ → EventBody → Event
 an by number at body = record { by = by; no = number; at = at; body = body }
@@ -108,11 +98,11 @@ module _ (events : List Event) (by : Railway) (number : ℕ) (fit : IsFit events
   fit_moved m Arrival d r f =
       let e = an by number (Some m) (Moved Arrival) in
       let last = on_last events by r in
-      record { fit = fits-end events e m end_arrival refl last d; ends = stays_last events e last refl (legs-push events e) }
+      record { fit = fits-end events e m (λ c so_far. refl) refl refl last d; ends = stays_last events e last refl (legs-push events e) }
   fit_moved m Delivery d r f =
       let e = an by number (Some m) (Moved Delivery) in
       let last = fit.ends (arrived_already events by (stage events) refl r) in
-      record { fit = fits-end events e m end_delivery refl last d; ends = stays_last events e last refl (legs-push events e) }
+      record { fit = fits-end events e m (λ c so_far. refl) refl refl last d; ends = stays_last events e last refl (legs-push events e) }
 
   pub fit_said : (at : Option ℕ) (body : EventBody) → IsDated at → HasMoment at body → refusal events by body ≡ None →
       (is_calendar_checked body ≡ true → fits (events ++ an by number at body ∷ []) ≡ true) → IsFit (events ++ an by number at body ∷ [])

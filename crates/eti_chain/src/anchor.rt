@@ -1,7 +1,7 @@
 //! The event from which estimates are counted.
 ghost use Rattle.std.specs.Prelude.{◌≡◌, ◌+◌, ◌<◌, ◌≤◌, ◌^◌, IfSome};
-ghost use Rattle.eti_chain.specs.EstimateStates as of;
-ghost use Rattle.eti_chain.specs.Estimates as words;
+ghost use Rattle.eti_chain.specs.Estimates as of;
+ghost use Rattle.eti_chain.specs.EstimateStates as states;
 
 use journey::{Event, EventBody};
 use taf_messages::MovementKind;
@@ -20,28 +20,23 @@ pub(crate) struct Anchor {
 /// The anchor after one event more.
 pub(crate) fn anchor_after(before: Option<Anchor>, event: &Event) -> Option<Anchor>
     requires { of.delays_of before < 2 ^ 127 }
-    ensures value { result ≡ of.anchor_after before event.now }
+    ensures value { result ≡ states.anchor_after before event.now }
     ensures bound { of.delays_of result ≤ of.delays_of before + 100000 }
 {
     anchor_in(event).or(with_delay_of(before, &event.body))
 }
 
-// The anchor with the delays after one event more.
+// The anchor with the delay of one event more.
 fn with_delay_of(before: Option<Anchor>, body: &EventBody) -> Option<Anchor>
     requires { of.delays_of before < 2 ^ 127 }
-    ensures value { result ≡ of.with_delay_of before body.now }
+    ensures value { result ≡ states.with_delay_of before body.now }
     ensures bound { of.delays_of result ≤ of.delays_of before + 100000 }
 {
     let anchor = before?;
-    let delays = if is_anchor(body) {
-        0
-    } else {
-        anchor.delays + delay_in(body)
-    };
     Some(Anchor {
         at: anchor.at,
         runs_leg: anchor.runs_leg,
-        delays,
+        delays: anchor.delays + delay_in(body),
     })
 }
 
@@ -80,24 +75,9 @@ fn anchor_at(at: Option<Moment>, runs_leg: bool) -> Option<Anchor>
     })
 }
 
-fn is_anchor(body: &EventBody) -> bool
-    ensures { result ≡ words.is_anchor body.now }
-{
-    match body {
-        EventBody::Moved(what) => !matches!(
-            what,
-            MovementKind::YardArrival { .. }
-                | MovementKind::YardDeparture { .. }
-                | MovementKind::Exception { .. }
-        ),
-        EventBody::Answered { received, .. } => *received,
-        _ => false,
-    }
-}
-
 // The minutes that an event delays the wagon by: at most 100,000.
 fn delay_in(body: &EventBody) -> u128
-    ensures value { result ≡ words.delay_in body.now }
+    ensures value { result ≡ of.delay_in body.now }
     ensures bound { result ≤ 100000 }
 {
     match body {

@@ -4,7 +4,8 @@ ghost use Rattle.std.specs.List.{sum_by};
 ghost use Rattle.taf_moment.specs.Calendar.{last_minute};
 ghost use Rattle.journey.specs.Checks.{refusal};
 ghost use Rattle.journey.specs.Journey.{after};
-ghost use Rattle.eti_chain.specs.EstimateStates as of;
+ghost use Rattle.eti_chain.specs.Estimates as of;
+ghost use Rattle.eti_chain.specs.EstimateStates as states;
 
 use crate::anchor::{Anchor, anchor_after};
 use journey::{Event, Events, Legs, Track, Transition};
@@ -25,7 +26,8 @@ pub(crate) struct EstimateBasis<'a> {
 }
 
 impl<'a> Model for EstimateBasis<'a> {
-    ghost use Rattle.eti_chain.specs.EstimateStates.{EstimateBasis, IsSummable, basis_from};
+    ghost use Rattle.eti_chain.specs.Estimates.{EstimateBasis, basis_from};
+    ghost use Rattle.eti_chain.specs.EstimateStates.{IsSummable};
 
     ghost Value = { EstimateBasis };
 
@@ -95,7 +97,7 @@ impl<'a> EstimateBasis<'a> {
     }
 
     /// Whether no estimate passes the last minute of the calendar.
-    #[tactic(auto, using(crate::proofs::EstimateStateLemmas::fits_by_eta))]
+    #[tactic(auto, using(crate::proofs::CalendarLemmas::fits_by_eta))]
     pub(crate) fn fits(&self) -> bool
         ensures { result ≡ of.fits_in self.now }
     {
@@ -107,7 +109,7 @@ impl<'a> EstimateBasis<'a> {
 
     /// When the wagon is expected at the end of a leg.
     pub(crate) fn moment(&self, leg: usize) -> Option<Moment>
-        requires { of.IsWithin self.now }
+        requires { states.IsWithin self.now }
         ensures { result ≡ of.end_in self.now leg }
     {
         let at = self.end_of(leg)?;
@@ -116,7 +118,7 @@ impl<'a> EstimateBasis<'a> {
 
     /// When the wagon is expected at the end of the last leg.
     pub(crate) fn last_moment(&self) -> Option<Moment>
-        requires { of.IsWithin self.now }
+        requires { states.IsWithin self.now }
         ensures { result ≡ of.eta_in self.now }
     {
         self.moment(self.legs.as_slice().len() - 1)
@@ -144,7 +146,7 @@ impl<'a> EstimateBasis<'a> {
     }
 
     fn delays(&self) -> u128
-        ensures { result ≡ of.delays_in self.now }
+        ensures { result ≡ of.delays_of self.now.anchor }
     {
         match self.anchor {
             Some(anchor) => anchor.delays,
@@ -155,7 +157,7 @@ impl<'a> EstimateBasis<'a> {
 
 // The newest anchor of a journey, with the delays since. At most 2^64 events delay the wagon by at
 // most 100,000 minutes each.
-#[tactic(auto, using(crate::proofs::EstimateStateLemmas::anchor_by_parts))]
+#[tactic(auto, using(crate::proofs::EstimateLemmas::anchor_by_parts))]
 fn newest_anchor(events: &Events) -> Option<Anchor>
     ensures value { result ≡ of.anchor events.now }
     ensures small { of.delays_of result < 2 ^ 127 }
@@ -165,7 +167,7 @@ fn newest_anchor(events: &Events) -> Option<Anchor>
 }
 
 // The same of the events in a row.
-#[tactic(auto, using(crate::proofs::EstimateStateLemmas::anchor_pushed))]
+#[tactic(auto, using(crate::proofs::EstimateLemmas::anchor_push))]
 fn anchor_in_row(row: &[Event]) -> Option<Anchor>
     ensures value { result ≡ of.anchor row.now }
     ensures small { of.delays_of result ≤ 100000 * length row.now }
@@ -180,7 +182,7 @@ fn anchor_in_row(row: &[Event]) -> Option<Anchor>
 // The newest anchor after more events.
 fn anchor_behind(before: Option<Anchor>, joined: &LinkedList<Event>) -> Option<Anchor>
     requires { of.delays_of before < 2 ^ 126 }
-    ensures value { result ≡ fold of.anchor_after before joined.now }
+    ensures value { result ≡ fold states.anchor_after before joined.now }
     ensures small { of.delays_of result < 2 ^ 127 }
 {
     let mut found = before;

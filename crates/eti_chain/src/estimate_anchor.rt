@@ -21,7 +21,8 @@ pub struct EstimateAnchor {
 impl Model for EstimateAnchor {
     ghost use Rattle.std.specs.Prelude.{◌≤◌, Some};
     ghost use Rattle.taf_moment.specs.Calendar.{last_minute};
-    ghost use Rattle.eti_chain.specs.EstimateStates.{EstimateAnchor, anchor_with_commitment, delays_of};
+    ghost use Rattle.eti_chain.specs.Estimates.{delays_of};
+    ghost use Rattle.eti_chain.specs.EstimateStates.{EstimateAnchor, anchor_with_commitment};
 
     ghost Value = { EstimateAnchor };
 

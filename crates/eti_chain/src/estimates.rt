@@ -24,7 +24,8 @@ pub struct Estimates<'a> {
 
 impl<'a> Model for Estimates<'a> {
     ghost use Rattle.std.specs.Prelude.{Some};
-    ghost use Rattle.eti_chain.specs.EstimateStates.{EstimatesState, IsWithin, state_with_commitment, basis_from};
+    ghost use Rattle.eti_chain.specs.Estimates.{basis_from};
+    ghost use Rattle.eti_chain.specs.EstimateStates.{EstimatesState, IsWithin, state_with_commitment};
     ghost use Rattle.eti_chain.specs.Held.{legs_in};
 
     ghost Value = { EstimatesState };

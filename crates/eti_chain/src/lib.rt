@@ -8,8 +8,9 @@
 //! with the moment to which the plan committed.
 //!
 //! [`Estimates`] are those of one track, whose legs they borrow, or copy in place once they follow an event. Contracts see them as the `estimates_state` of the track's
-//! events: the leg index, the legs, the newest anchor with the delays since, and the committed moment
-//! (`specs/EstimateStates.antt`). [`EstimateAnchor`] is what is kept for them beside a track: the anchor and the commitment alone.
+//! events: what they are counted from, which is the leg index, the legs and the newest anchor with the delays since, and the
+//! committed moment (`specs/EstimateStates.antt`). [`EstimateAnchor`] is what is kept for them beside a track: the anchor and the
+//! commitment alone.
 //!
 //! - [`Estimates::fits`] says whether no estimate of a track passes 2199-12-31T23:59Z. [`Estimates::of`] and
 //!   [`EstimateAnchor::of`] walk its events.

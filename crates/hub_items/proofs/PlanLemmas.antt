@@ -1,9 +1,7 @@
 -- A wagon that was only planned has no estimate.
-use Rattle.std.proofs.Common.{◌≡◌, ℕ, Bool, true, false, cond, List, [], ◌∷◌, length, Option, None, refl, ap, ◌∙◌}
-use Rattle.std.specs.Prelude.{◌&&◌, nat_lt, nat_le, filter, flat_map, filter_map, option_map}
-use Rattle.std.specs.List.{range_with_len, list_all}
-use Rattle.taf_moment.specs.Calendar.{last_minute}
-use Rattle.trip_plan.specs.declared.parts.Leg.{Leg}
+use Rattle.std.proofs.Common.{◌≡◌, ℕ, true, List, [], ◌∷◌, length, Option, None, refl, ap, ◌∙◌}
+use Rattle.std.specs.Prelude.{filter, flat_map, filter_map, option_map}
+use Rattle.std.specs.List.{range_with_len}
 use Rattle.trip_plan.specs.Trip.{Trip}
 use Rattle.trip_plan.specs.Rules.{has}
 use Rattle.taf_codes.specs.declared.code.Railway.{Railway}
@@ -13,17 +11,11 @@ use Rattle.journey.specs.declared.event.Event.{Event}
 use Rattle.journey.specs.declared.event.EventBody.TheVariants.{Planned}
 use Rattle.journey.specs.Stages.{leg_index}
 use Rattle.journey.specs.Legs.{legs}
-use Rattle.eti_chain.specs.Estimates.{estimate_from, estimates, delays, fits}
+use Rattle.eti_chain.specs.Estimates.{estimate, estimates, fits}
+use Rattle.eti_chain.proofs.CalendarLemmas.{no_end, fits-no_anchor}
 use Rattle.hub_model.specs.HubState.{HubState, named_wagons, journey_after}
 use Rattle.hub_model.specs.Items.{estimate_items, is_news, estimate_item}
 use Rattle.hub_model.proofs.NoFaultLemmas.{planned_anew}
-
-none_either : {A : Type 0} (test : Bool) → Path (Option A) (cond test None None) None
-none_either true = refl
-none_either false = refl
-
-no_base : (c : ℕ) (ls : List Leg) (d j : ℕ) → estimate_from c ls None d j ≡ None
-no_base c ls d j = none_either (nat_le c j && nat_lt j (length ls))
 
 none_taken : {A B : Type 0} (f : A → Option B) → ((x : A) → f x ≡ None) → (xs : List A) → filter_map f xs ≡ []
 none_taken f none [] = refl
@@ -36,8 +28,8 @@ planned by number p = record { by = by; no = number; at = None; body = Planned p
 no_estimates : (by : Railway) (number : ℕ) (p : Trip) → estimates (planned by number p ∷ []) ≡ []
 no_estimates by number p =
     let events : List Event = planned by number p ∷ [] in
-    none_taken (λ j. option_map (λ at. record { leg = j; at = at }) (estimate_from (leg_index events) (legs events) None (delays events) j))
-    (λ j. ap (option_map (λ at. record { leg = j; at = at })) (no_base (leg_index events) (legs events) (delays events) j)) (range_with_len 0 (length (legs events)))
+    none_taken (λ j. option_map (λ at. record { leg = j; at = at }) (estimate events j))
+    (λ j. ap (option_map (λ at. record { leg = j; at = at })) (no_end (leg_index events) (legs events) j)) (range_with_len 0 (length (legs events)))
 
 -- the wagon's events once the plan is accepted
 begun : (s : HubState) (m : Message) (p : Trip) (w : ℕ) → m.body ≡ body.Plan p → has (named_wagons s.offer m) w ≡ true → journey_after s m w ≡ planned m.by m.no p ∷ []
@@ -52,4 +44,4 @@ planned_estimates s m p w e h =
     ap (λ es. flat_map (estimate_item (planned m.by m.no p ∷ []) w) (filter (is_news (s.journey w) (planned m.by m.no p ∷ [])) es)) (no_estimates m.by m.no p)
 
 pub planned_fits : (by : Railway) (number : ℕ) (p : Trip) → fits (planned by number p ∷ []) ≡ true
-planned_fits by number p = ap (list_all (λ e. nat_le e.at last_minute)) (no_estimates by number p)
+planned_fits by number p = let events : List Event = planned by number p ∷ [] in fits-no_anchor (leg_index events) (legs events)

@@ -1,5 +1,5 @@
 -- An event that keeps the estimates has nothing told of them.
-use Rattle.std.proofs.Common.{◌≡◌, ℕ, ◌+◌, ◌-◌, Bool, true, false, cond, zero, suc, List, [], ◌∷◌, ◌++◌, length, Option, Some, None, refl, ap, ◌∙◌, sym, add-zero}
+use Rattle.std.proofs.Common.{◌≡◌, ℕ, ◌+◌, Bool, true, false, cond, zero, suc, List, [], ◌∷◌, ◌++◌, length, Option, Some, None, refl, ap, ◌∙◌, sym}
 use Rattle.std.specs.Prelude.{filter, filter_map, flat_map, not, ◌||◌, nat_eq, slice_get, option_map, option_to_list, is_some, map}
 use Rattle.std.specs.Option.{option_eq, option_and_then, option_or}
 use Rattle.std.specs.List.{range_with_len, cons_option}
@@ -21,36 +21,23 @@ use Rattle.journey.specs.declared.event.EventBody.TheVariants.{Planned, Moved, E
 use Rattle.journey.specs.Stages.{plan, plan_in}
 use Rattle.journey.specs.Legs.{legs, runner_of, lead_of}
 use Rattle.journey.proofs.LegPositionLemmas.{plan-push}
-use Rattle.eti_chain.specs.declared.anchor.Anchor.{Anchor}
-use Rattle.eti_chain.specs.Estimates.{estimate, eta, late_by, lateness, is_late, is_anchor, delay_in}
-use Rattle.eti_chain.specs.EstimateStates.{EstimateBasis, anchor, anchor_in, with_delay_of, with_delays, basis_from, estimate_basis, end_in}
-use Rattle.eti_chain.proofs.EstimateStateLemmas.{anchor-push, end_by_basis}
-use Rattle.eti_chain.proofs.EstimateLemmas.{IsSilent, legs-kept, leg_index-kept, silent_yard_arrival, silent_yard_departure, silent_offered, silent_withdrawn, silent_asked}
+use Rattle.eti_chain.specs.Estimates.{EstimateBasis, estimate_basis, end_in, eta_in, estimate, eta, commitment, late_by, lateness, is_late}
+use Rattle.eti_chain.proofs.EstimateLemmas.{IsSilent, basis-silent, silent_yard_arrival, silent_yard_departure, silent_offered, silent_withdrawn, silent_asked}
 use Rattle.hub_model.specs.Items.{is_news, estimate_item, estimate_items, alert_receivers, alert_items, movement_receivers}
 use Rattle.hub_items.specs.Transitions.{keeps_estimates}
 
--- an event that is silent, and neither an anchor nor a plan
+-- an event that is silent, and no plan
 pub record IsStill (body : EventBody) : Type 0 where
   pub silent : IsSilent body
-  pub no_anchor : (at : Option ℕ) → anchor_in at body ≡ None
   pub no_plan : plan_in body ≡ None
 
 pub still : (body : EventBody) → keeps_estimates body ≡ true → IsStill body
-still (Moved (YardArrival place)) h = record { silent = silent_yard_arrival place; no_anchor = λ at. refl; no_plan = refl }
-still (Moved (YardDeparture place)) h = record { silent = silent_yard_departure place; no_anchor = λ at. refl; no_plan = refl }
-still EstimateAsked h = record { silent = silent_asked; no_anchor = λ at. refl; no_plan = refl }
-still (Offered place to) h = record { silent = silent_offered place to; no_anchor = λ at. refl; no_plan = refl }
-still (Withdrawn place) h = record { silent = silent_withdrawn place; no_anchor = λ at. refl; no_plan = refl }
-still (Planned p) h = absurd (false≢true h)
-still (Moved Release) h = absurd (false≢true h)
-still (Moved Departure) h = absurd (false≢true h)
-still (Moved (Exception delay)) h = absurd (false≢true h)
-still (Moved Estimate) h = absurd (false≢true h)
-still (Moved Arrival) h = absurd (false≢true h)
-still (Moved Delivery) h = absurd (false≢true h)
-still (LegTimed leg minutes) h = absurd (false≢true h)
-still (Answered place received) h = absurd (false≢true h)
-still (Rerouted route) h = absurd (false≢true h)
+still (Moved (YardArrival place)) h = record { silent = silent_yard_arrival place; no_plan = refl }
+still (Moved (YardDeparture place)) h = record { silent = silent_yard_departure place; no_plan = refl }
+still EstimateAsked h = record { silent = silent_asked; no_plan = refl }
+still (Offered place to) h = record { silent = silent_offered place to; no_plan = refl }
+still (Withdrawn place) h = record { silent = silent_withdrawn place; no_plan = refl }
+still _ h = absurd (false≢true h)
 
 -- of a movement that keeps the estimates the lead is told
 pub lead_told : (events : List Event) (what : MovementKind) → keeps_estimates (Moved what) ≡ true → movement_receivers events what ≡ option_to_list (lead_of events)
@@ -62,12 +49,6 @@ lead_told events (Exception delay) h = refl
 lead_told events Estimate h = absurd (false≢true h)
 lead_told events Arrival h = refl
 lead_told events Delivery h = refl
-
-undelayed : (a : Option Anchor) (body : EventBody) → is_anchor body ≡ false → delay_in body ≡ 0 → with_delay_of a body ≡ a
-undelayed None body h k = refl
-undelayed (Some a) body h k =
-    ap (λ (b : Bool). Some (with_delays (cond b 0 (a.delays + delay_in body)) a)) h ∙ ap (λ n. Some (with_delays (a.delays + n) a)) k ∙
-    ap (λ n. Some (with_delays n a)) (add-zero a.delays)
 
 first_out : (p : EstimateAt → Bool) (j : ℕ) (o : Option ℕ) (rest : List EstimateAt) → ((at : ℕ) → o ≡ Some at → p (record { leg = j; at = at }) ≡ false) → filter p rest ≡ [] →
     filter p (cons_option (option_map (λ at. record { leg = j; at = at }) o) rest) ≡ []
@@ -97,27 +78,22 @@ module _ (events : List Event) (e : Event) (k : IsStill e.body) where
   abbrev more : List Event
   more = events ++ e ∷ []
 
-  anchor_left : anchor more ≡ anchor events
-  anchor_left =
-      anchor-push events e ∙ ap (λ o. option_or o (with_delay_of (anchor events) e.body)) (k.no_anchor e.at) ∙
-      undelayed (anchor events) e.body k.silent.no_anchor k.silent.no_delay
+  basis_left : estimate_basis more ≡ estimate_basis events
+  basis_left = basis-silent events e k.silent
 
   legs_left : legs more ≡ legs events
-  legs_left = legs-kept events e k.silent.keeps_legs
-
-  reckoning_left : estimate_basis more ≡ estimate_basis events
-  reckoning_left = λ i. basis_from (leg_index-kept events e k.silent.no_reception i) (legs_left i) (anchor_left i)
+  legs_left = ap (λ (r : EstimateBasis). r.legs) basis_left
 
   pub estimate_left : (j : ℕ) → estimate more j ≡ estimate events j
-  estimate_left j = sym (end_by_basis more j) ∙ ap (λ (r : EstimateBasis). end_in r j) reckoning_left ∙ end_by_basis events j
+  estimate_left j = ap (λ (r : EstimateBasis). end_in r j) basis_left
 
-  eta_left : eta more ≡ eta events
-  eta_left = ap (λ (ls : List Leg). estimate more (length ls - 1)) legs_left ∙ estimate_left (length (legs events) - 1)
+  commitment_left : commitment more ≡ commitment events
+  commitment_left = ap (option_map (λ (p : Trip). p.commit)) (plan-push events e ∙ ap (λ (o : Option Trip). option_or o (plan events)) k.no_plan)
 
   late_by_left : late_by more ≡ late_by events
   late_by_left =
-      ap (λ (o : Option Trip). option_and_then (λ p. option_and_then (lateness p.commit) (eta more)) o) (plan-push events e ∙ ap (λ (o : Option Trip). option_or o (plan events)) k.no_plan) ∙
-      ap (λ (o : Option ℕ). option_and_then (λ p. option_and_then (lateness p.commit) o) (plan events)) eta_left
+      ap (option_and_then (λ commit. option_and_then (lateness commit) (eta more))) commitment_left ∙
+      ap (λ (r : EstimateBasis). option_and_then (λ commit. option_and_then (lateness commit) (eta_in r)) (commitment events)) basis_left
 
   no_news : (j at : ℕ) → estimate more j ≡ Some at → is_news events more (record { leg = j; at = at }) ≡ false
   no_news j at h =

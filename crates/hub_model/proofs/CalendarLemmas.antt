@@ -10,10 +10,10 @@ use Rattle.taf_messages.specs.declared.message.Body.{Body}
 use Rattle.taf_messages.specs.declared.message.Body.TheVariants as body
 use Rattle.journey.specs.declared.event.Event.{Event}
 use Rattle.journey.specs.declared.event.EventBody.TheVariants.{Planned}
-use Rattle.eti_chain.specs.Estimates.{fits, is_calendar_checked, delays}
+use Rattle.eti_chain.specs.Estimates.{fits, is_calendar_checked}
 use Rattle.journey.specs.Legs.{legs}
 use Rattle.journey.specs.Stages.{leg_index}
-use Rattle.eti_chain.proofs.CalendarLemmas.{fits-no_base}
+use Rattle.eti_chain.proofs.CalendarLemmas.{fits-no_anchor}
 use Rattle.eti_chain.proofs.LegEndLemmas.{IsFit, HasMoment, IsDated, fit_said}
 use Rattle.taf_messages.specs.Bodies.{moment_in}
 use Rattle.hub_model.specs.HubState.{HubState, new_state, named_wagons, event_for, event_body_for, with_event, journey_after}
@@ -27,7 +27,7 @@ use Rattle.hub_model.proofs.JourneyLengthLemmas.{IsTrackState, kept_from}
 fit_planned : (by : Railway) (number : ℕ) (at : Option ℕ) (p : Trip) → IsFit (record { by = by; no = number; at = at; body = Planned p } ∷ [])
 fit_planned by number at p =
     let events : List Event = record { by = by; no = number; at = at; body = Planned p } ∷ [] in
-    record { fit = fits-no_base (leg_index events) (legs events) (delays events); ends = λ h. absurd (false≢true h) }
+    record { fit = fits-no_anchor (leg_index events) (legs events); ends = λ h. absurd (false≢true h) }
 
 none_passes : (b c : Bool) → cond (b && not c) (Some BeyondCalendar) None ≡ None → b ≡ true → c ≡ true
 none_passes true true h e = refl

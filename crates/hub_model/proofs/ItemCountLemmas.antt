@@ -27,7 +27,7 @@ use Rattle.journey.specs.Stages.{leg_index, responsible}
 use Rattle.journey.specs.JourneyStates.{journey_state}
 use Rattle.journey.specs.Legs.{legs, current_leg, lead_of, runner_of}
 use Rattle.journey.specs.Checks.{route_checks}
-use Rattle.eti_chain.specs.Estimates.{estimates, estimate_from, base, delays}
+use Rattle.eti_chain.specs.Estimates.{estimate, estimates}
 use Rattle.journey.proofs.SoundStateLemmas.{passed}
 use Rattle.replay_numbers.specs.Names.{same_name}
 use Rattle.hub_model.specs.declared.entry.Entry.{Entry}
@@ -81,7 +81,7 @@ few_estimates : (events : List Event) → length (estimates events) ≤ length (
 few_estimates events =
     let r = length-range_with_len 0 (length (legs events)) in
     let h : length (estimates events) ≤ length (range_with_len 0 (length (legs events))) =
-    few_filter_map (λ j. option_map (λ at. record { leg = j; at = at }) (estimate_from (leg_index events) (legs events) (base events) (delays events) j)) (range_with_len 0 (length (legs events))) in
+    few_filter_map (λ j. option_map (λ at. record { leg = j; at = at }) (estimate events j)) (range_with_len 0 (length (legs events))) in
     omega arith
 
 -- each estimate makes at most one item

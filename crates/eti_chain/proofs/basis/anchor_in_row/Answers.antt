@@ -1,8 +1,9 @@
 use Rattle.std.proofs.Common.{◌≡◌, ◌+◌, ◌<◌, ◌++◌, ◌∷◌, [], length, ap, sym, ◌∙◌, take, arith}
 use Rattle.std.proofs.lemmas.List.{take_more}
 use Rattle.journey.specs.declared.event.Event.{Event}
-use Rattle.eti_chain.specs.EstimateStates.{anchor, anchor_after}
-use Rattle.eti_chain.proofs.EstimateStateLemmas.{anchor_pushed}
+use Rattle.eti_chain.specs.Estimates.{anchor}
+use Rattle.eti_chain.specs.EstimateStates.{anchor_after}
+use Rattle.eti_chain.proofs.EstimateLemmas.{anchor_push}
 use Rattle.eti_chain.proofs.basis.anchor_in_row.Goals as goal
 
 pub loop-event-preserved : goal.loop-event-preserved
@@ -12,7 +13,7 @@ loop-event-preserved c =
     let e = c.event-item.result in
     let within : i < length row = omega arith in
     let grown : take (i + 1) row ≡ take i row ++ e ∷ [] = take_more row i e within ∙ ap (λ (d : Event). take i row ++ d ∷ []) (sym c.event-item.is) in
-    let walked = c.anchor_after-found.ensures.value ∙ ap (λ a. anchor_after a e) c.loop-event.invariant.walked ∙ sym (anchor_pushed (take i row) e) ∙ ap anchor (sym grown) in
+    let walked = c.anchor_after-found.ensures.value ∙ ap (λ a. anchor_after a e) c.loop-event.invariant.walked ∙ sym (anchor_push (take i row) e) ∙ ap anchor (sym grown) in
     let before = c.loop-event.invariant.small in
     let bound = c.anchor_after-found.ensures.bound in
     record { walked = walked; small = omega arith }

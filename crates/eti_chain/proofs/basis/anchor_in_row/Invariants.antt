@@ -1,5 +1,5 @@
 use Rattle.std.proofs.Common.{◌≡◌, ◌*◌, ◌≤◌, take}
-use Rattle.eti_chain.specs.EstimateStates as of
+use Rattle.eti_chain.specs.Estimates as of
 use Rattle.eti_chain.proofs.basis.anchor_in_row.Given as goal
 
 abbrev pub invariant-loop-event : goal.invariant-loop-event

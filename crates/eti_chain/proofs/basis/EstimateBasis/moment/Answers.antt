@@ -1,5 +1,6 @@
 use Rattle.std.proofs.Common.{sym, ◌∙◌, arith}
-use Rattle.eti_chain.proofs.EstimateStateLemmas.{end-fits, moment_is}
+use Rattle.eti_chain.proofs.CalendarLemmas.{end-fits}
+use Rattle.eti_chain.proofs.EstimateStateLemmas.{moment_is}
 use Rattle.eti_chain.proofs.basis.EstimateBasis.moment.Goals as goal
 
 pub overflow_cast-at : goal.overflow_cast-at

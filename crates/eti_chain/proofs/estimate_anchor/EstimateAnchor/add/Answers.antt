@@ -1,6 +1,7 @@
 use Rattle.std.proofs.Common.{ap, ◌∙◌, ◌∷◌, [], ◌++◌, Some}
 use Rattle.eti_chain.specs.EstimateStates.{EstimateAnchor, anchor_with_commitment}
-use Rattle.eti_chain.proofs.EstimateStateLemmas.{estimate_anchor-transition, small-of}
+use Rattle.eti_chain.proofs.CalendarLemmas.{small-of}
+use Rattle.eti_chain.proofs.EstimateStateLemmas.{estimate_anchor-transition}
 use Rattle.eti_chain.proofs.estimate_anchor.EstimateAnchor.add.Goals as goal
 
 pub returns-clause-kept : goal.returns-clause-kept

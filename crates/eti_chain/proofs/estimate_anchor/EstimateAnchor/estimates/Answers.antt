@@ -1,4 +1,4 @@
-use Rattle.eti_chain.proofs.EstimateStateLemmas.{is_within_of}
+use Rattle.eti_chain.proofs.CalendarLemmas.{is_within_of}
 use Rattle.eti_chain.proofs.estimate_anchor.EstimateAnchor.estimates.Goals as goal
 
 pub by-requires : goal.by-requires

@@ -1,6 +1,6 @@
 use Rattle.std.proofs.Common.{ap, ◌∙◌}
-use Rattle.eti_chain.specs.EstimateStates.{EstimateBasis}
-use Rattle.eti_chain.proofs.EstimateStateLemmas.{small-of}
+use Rattle.eti_chain.specs.Estimates.{EstimateBasis}
+use Rattle.eti_chain.proofs.CalendarLemmas.{small-of}
 use Rattle.eti_chain.proofs.estimate_anchor.EstimateAnchor.of.Goals as goal
 
 pub invariant_of-result : goal.invariant_of-result

@@ -1,8 +1,7 @@
 use Rattle.std.proofs.Common.{ap, ◌∙◌}
-use Rattle.eti_chain.specs.EstimateStates.{EstimatesState, EstimateBasis, end_in}
-use Rattle.eti_chain.proofs.EstimateStateLemmas.{end_by_basis}
+use Rattle.eti_chain.specs.Estimates.{EstimateBasis, end_in}
+use Rattle.eti_chain.specs.EstimateStates.{EstimatesState}
 use Rattle.eti_chain.proofs.estimates.Estimates.estimate.Goals as goal
 
 pub returns : goal.returns
-returns c events is =
-    c.moment.ensures ∙ ap (λ (r : EstimateBasis). end_in r c.args.leg) (c.basis.ensures.value ∙ ap (λ (k : EstimatesState). k.estimate_basis) is) ∙ end_by_basis events c.args.leg
+returns c events is = c.moment.ensures ∙ ap (λ (r : EstimateBasis). end_in r c.args.leg) (c.basis.ensures.value ∙ ap (λ (k : EstimatesState). k.estimate_basis) is)

@@ -1,4 +1,4 @@
-use Rattle.eti_chain.proofs.EstimateStateLemmas.{is_within_of}
+use Rattle.eti_chain.proofs.CalendarLemmas.{is_within_of}
 use Rattle.eti_chain.proofs.estimates.Estimates.of.Goals as goal
 
 pub by-requires : goal.by-requires

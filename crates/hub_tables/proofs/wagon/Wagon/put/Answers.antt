@@ -1,0 +1,11 @@
+use Rattle.std.proofs.Common.{◌++◌, ◌∷◌, [], ap, sym, ◌∙◌}
+use Rattle.journey.specs.Journey.{Journey}
+use Rattle.eti_chain.specs.Estimates.{fits}
+use Rattle.eti_chain.specs.EstimateStates.{estimate_anchor}
+use Rattle.hub_tables.proofs.wagon.Wagon.put.Goals as goal
+
+pub invariant_of-self : goal.invariant_of-self
+invariant_of-self c =
+    let now = ap (λ (j : Journey). j.events) c.put.ensures.track in
+    let before = ap (λ (j : Journey). fits (j.events ++ c.args.event ∷ [])) c.self.view_is in
+    (c.put.ensures.kept ∙ ap estimate_anchor (sym now), ap fits now ∙ before ∙ c.requires.fits)
