@@ -17,7 +17,7 @@ use Rattle.taf_messages.specs.declared.movement.MovementKind.TheVariants.{Releas
 use Rattle.taf_messages.specs.declared.record.EstimateAt.{EstimateAt}
 use Rattle.journey.specs.declared.event.Event.{Event}
 use Rattle.journey.specs.declared.event.EventBody.{EventBody}
-use Rattle.journey.specs.declared.event.EventBody.TheVariants.{Planned, Moved, EstimateAsked, LegTimed, Offered, Answered, Withdrawn, Rerouted}
+use Rattle.journey.specs.declared.event.EventBody.TheVariants.{Moved, EstimateAsked, Offered, Withdrawn}
 use Rattle.journey.specs.Stages.{plan, plan_in}
 use Rattle.journey.specs.Legs.{legs, runner_of, lead_of}
 use Rattle.journey.proofs.LegPositionLemmas.{plan-push}
