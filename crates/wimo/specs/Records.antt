@@ -38,19 +38,19 @@ status stage_is.Delivered load = by_load load status_is.Unloading status_is.Flee
 status _ load = by_load load status_is.LoadedOnJourney status_is.EmptyOnJourney
 
 -- what is shown of an event that comes on leg c
-abbrev pub shown : ℕ → EventBody → RecordEventKind
-shown c (Planned p) = shown_as.Planned
-shown c (Moved what) = shown_as.Moved what
-shown c EstimateAsked = shown_as.EstimateAsked
-shown c (LegTimed leg minutes) = shown_as.LegTimed leg minutes
-shown c (Offered place to) = shown_as.Offered place
-shown c (Answered place received) = shown_as.Answered received
-shown c (Withdrawn place) = shown_as.Withdrawn
-shown c (Rerouted route) = shown_as.Rerouted (c + 1)
+abbrev pub event_kind_on : ℕ → EventBody → RecordEventKind
+event_kind_on c (Planned p) = shown_as.Planned
+event_kind_on c (Moved what) = shown_as.Moved what
+event_kind_on c EstimateAsked = shown_as.EstimateAsked
+event_kind_on c (LegTimed leg minutes) = shown_as.LegTimed leg minutes
+event_kind_on c (Offered place to) = shown_as.Offered place
+event_kind_on c (Answered place received) = shown_as.Answered received
+event_kind_on c (Withdrawn place) = shown_as.Withdrawn
+event_kind_on c (Rerouted route) = shown_as.Rerouted (c + 1)
 
 -- an event as it is shown
 abbrev pub record_event : ℕ → Event → RecordEvent
-record_event c e = record { by = e.by; no = e.no; at = e.at; what = shown c e.body }
+record_event c e = record { by = e.by; no = e.no; at = e.at; what = event_kind_on c e.body }
 
 -- the events as they are shown, the first of which comes on leg c
 abbrev pub record_events : ℕ → List Event → List RecordEvent

@@ -204,7 +204,7 @@ fn recorded(event: &Event, what: RecordEventKind) -> RecordEvent
 
 fn shown_as(current: usize, body: &EventBody) -> RecordEventKind
     requires { HasRoom current body.now }
-    ensures { result ≡ records.shown current body.now }
+    ensures { result ≡ records.event_kind_on current body.now }
 {
     match body {
         EventBody::Planned(_) => RecordEventKind::Planned,
