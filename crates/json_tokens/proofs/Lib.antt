@@ -4,3 +4,4 @@ pub mod ReadLemmas
 pub mod NumberLemmas
 pub mod FlatLemmas
 pub mod WritingLemmas
+pub mod ScanLemmas

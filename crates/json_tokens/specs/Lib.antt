@@ -3,3 +3,4 @@ pub mod SmallNumbers
 pub mod Writing
 pub mod Flat
 pub mod JsonValues
+pub mod FlatText

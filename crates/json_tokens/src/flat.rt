@@ -1,4 +1,7 @@
 //! Records without lists, read without a tree.
+//!
+//! A record in the form in which it is written is read by a scan of its bytes (`scan.rt`). One with blanks or escapes is
+//! read token by token.
 ghost use Rattle.std.specs.Prelude.{◌≡◌, ◌∷◌, [], ◌++◌, true, Some, IfOk, IfSome, option_map};
 ghost use Rattle.std.specs.Option.{option_or};
 ghost use Rattle.json.specs.Token.{end_object};
@@ -8,12 +11,13 @@ ghost use Rattle.serde_json.specs.Data.{unsigned};
 ghost use Rattle.serde_json.specs.Find.{get};
 ghost use Rattle.json_tokens.specs.Flat.{AreSpelt, IsSpelt, flat_data, last_under, member_tokens, scalar_data, scalar_token, under};
 
+use crate::scan::{Form, scan_members};
 use fast_float::Numeral;
 use json::{Reader, Scratch, Token};
 use std::alloc::{AllocError, Global};
 
 // A record that is read so has fewer members.
-const MANY: usize = 12;
+pub(crate) const MANY: usize = 12;
 
 /// A text, or a whole number with its digits.
 #[derive(Clone, Copy, Debug)]
@@ -38,15 +42,14 @@ impl<'a> FlatRecord<'a> {
         ensures { IfOk result
             (λ r. IfSome r (λ flat. read_text text.now ≡ Some (flat_data flat.members.items))) }
     {
-        let mut reader = Reader::new(text, scratch)?;
-        let Some(Token::BeginObject) = reader.next() else {
-            return Ok(None);
-        };
         let mut members = Vec::with_capacity(alloc, MANY)?;
-        if take_members(&mut reader, &mut members)? {
-            Ok(Some(FlatRecord { members }))
-        } else {
-            Ok(None)
+        match scan_members(text, &mut members)? {
+            Form::Record => Ok(Some(FlatRecord { members })),
+            Form::Nested => Ok(None),
+            Form::Other => {
+                members.clear();
+                read_tokens(text, scratch, members)
+            }
         }
     }
 
@@ -55,6 +58,28 @@ impl<'a> FlatRecord<'a> {
         ensures { option_map scalar_data result ≡ get name.now (flat_data self.now.members.items) }
     {
         last_of(self.members.as_slice(), name)
+    }
+}
+
+// The record that the text is, read token by token.
+#[inline(never)]
+fn read_tokens<'a>(
+    text: &'a str,
+    scratch: &'a mut Scratch,
+    mut members: Vec<(&'a str, Scalar<'a>)>,
+) -> Result<Option<FlatRecord<'a>>, AllocError>
+    requires none { members.items ≡ [] }
+    ensures { IfOk result
+        (λ r. IfSome r (λ flat. read_text text.now ≡ Some (flat_data flat.members.items))) }
+{
+    let mut reader = Reader::new(text, scratch)?;
+    let Some(Token::BeginObject) = reader.next() else {
+        return Ok(None);
+    };
+    if take_members(&mut reader, &mut members)? {
+        Ok(Some(FlatRecord { members }))
+    } else {
+        Ok(None)
     }
 }
 

@@ -15,6 +15,7 @@
 mod buffer;
 mod flat;
 mod json_value;
+mod scan;
 mod writer;
 
 pub use flat::{FlatRecord, Scalar};

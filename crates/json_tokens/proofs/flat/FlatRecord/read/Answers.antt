@@ -1,11 +1,5 @@
-use Rattle.std.proofs.Common.{sym, ap, ◌∷◌, ◌∙◌}
-use Rattle.json.specs.Reads.{token_of}
-use Rattle.json.specs.Token.{begin_object}
-use Rattle.json_tokens.proofs.FlatLemmas.{flat_read}
+use Rattle.json_tokens.proofs.ScanLemmas.{read_scanned}
 use Rattle.json_tokens.proofs.flat.FlatRecord.read.Goals as goal
 
-pub returns-then-branch : goal.returns-then-branch
-returns-then-branch c =
-    let first = sym c.in_ok-reader.ensures.ok ∙ c.in-Some-BeginObject.ensures.value ∙ ap (λ t. token_of t ∷ c.next.new.self) c.in-Some-BeginObject.field-0-is in
-    let members = c.in_ok-take_members.ensures.all c.if-branch.true in
-    flat_read c.args.text.now _ (first ∙ ap (λ ts. begin_object ∷ ts) members) (c.in_ok-take_members.ensures.spelt c.if-branch.true)
+pub returns-in-Record : goal.returns-in-Record
+returns-in-Record c = read_scanned c.args.text.now _ (c.in_ok-scan_members.ensures.all c.in-Record.is) (c.in_ok-scan_members.ensures.decimal c.in-Record.is)

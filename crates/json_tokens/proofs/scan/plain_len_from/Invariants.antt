@@ -1,0 +1,5 @@
+use Rattle.json_tokens.specs.FlatText.{PlainUpTo}
+use Rattle.json_tokens.proofs.scan.plain_len_from.Given as goal
+
+abbrev pub invariant-loop-i : goal.invariant-loop-i
+invariant-loop-i l = PlainUpTo l.text l.i
