@@ -53,12 +53,14 @@ quoted_first text inside said rest end t plain lt q s r =
 
 -- ---- sixteen letters at once
 
+-- what the comparisons say of a letter
 abbrev pub hit : ℕ → ℕ → ℕ
 hit a b = cond (eqb a b) 255 0
 
 abbrev pub below : ℕ → ℕ → ℕ
 below a b = cond (ltb a b) 255 0
 
+-- all three together
 abbrev stop_lane : ℕ → ℕ
 stop_lane x = bit_or (bit_or (hit x 34) (hit x 92)) (below x 32)
 

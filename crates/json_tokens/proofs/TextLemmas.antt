@@ -4,7 +4,7 @@ use Rattle.json.specs.Token.{Token}
 use Rattle.json.specs.Written.{Written}
 use Rattle.json.specs.Tree.{json_tokens, members_tokens, items_tokens}
 use Rattle.serde_json.specs.Written.{outline, members_outline, items_outline}
-use Rattle.json_tokens.specs.Texts.{Fields, members, fields, field_tokens, item_tokens, added, Adds, AddsData, AddsFields}
+use Rattle.json_tokens.specs.Texts.{Fields, members, fields, field_tokens, item_tokens, with_field_tokens, Adds, AddsData, AddsFields}
 use Rattle.serde_json.specs.Data.{Data, array}
 use Rattle.serde_json.specs.View.{items_of}
 use Rattle.std.proofs.lemmas.List.{append-nil}
@@ -25,22 +25,22 @@ pub members_tokens-fields : (fs : Fields) → members_tokens (members_outline (m
 members_tokens-fields [] = refl
 members_tokens-fields (f ∷ fs) = ap (λ ts. Token.key f.0 ∷ ts) (ap (λ ts. json_tokens (outline f.1) ++ ts) (members_tokens-fields fs) ∙ sym (append_assoc (json_tokens (outline f.1)) (field_tokens fs) (Token.end_object ∷ [])))
 
-pub added-append : (ts : List Token) (fs gs : Fields) → added ts (fs ++ gs) ≡ added (added ts fs) gs
-added-append ts [] gs = refl
-added-append ts (f ∷ fs) gs = added-append (ts ++ Token.key f.0 ∷ json_tokens (outline f.1)) fs gs
+pub with_field_tokens-append : (ts : List Token) (fs gs : Fields) → with_field_tokens ts (fs ++ gs) ≡ with_field_tokens (with_field_tokens ts fs) gs
+with_field_tokens-append ts [] gs = refl
+with_field_tokens-append ts (f ∷ fs) gs = with_field_tokens-append (ts ++ Token.key f.0 ∷ json_tokens (outline f.1)) fs gs
 
-pub added-field_tokens : (ts : List Token) (fs : Fields) → added ts fs ≡ ts ++ field_tokens fs
-added-field_tokens ts [] = sym (append-nil ts)
-added-field_tokens ts (f ∷ fs) = added-field_tokens (ts ++ Token.key f.0 ∷ json_tokens (outline f.1)) fs ∙ simp append_assoc
+pub with_field_tokens-field_tokens : (ts : List Token) (fs : Fields) → with_field_tokens ts fs ≡ ts ++ field_tokens fs
+with_field_tokens-field_tokens ts [] = sym (append-nil ts)
+with_field_tokens-field_tokens ts (f ∷ fs) = with_field_tokens-field_tokens (ts ++ Token.key f.0 ∷ json_tokens (outline f.1)) fs ∙ simp append_assoc
 
 -- some fields, and then more
 pub adds_more : (a b c : Written) (fs gs : Fields) → AddsFields a b fs → AddsFields b c gs → AddsFields a c (fs ++ gs)
-adds_more a b c fs gs p q = q ∙ ap (λ ts. added ts gs) p ∙ sym (added-append a.tokens fs gs)
+adds_more a b c fs gs p q = q ∙ ap (λ ts. with_field_tokens ts gs) p ∙ sym (with_field_tokens-append a.tokens fs gs)
 
 -- fields between brackets
 pub adds_object : (a b c d : Written) (fs : Fields) → Adds a b (Token.begin_object ∷ []) → AddsFields b c fs → Adds c d (Token.end_object ∷ []) → AddsData a d (fields fs)
 adds_object a b c d fs p q r =
-    r ∙ ap (λ ts. ts ++ Token.end_object ∷ []) (q ∙ added-field_tokens b.tokens fs ∙ ap (λ ts. ts ++ field_tokens fs) p)
+    r ∙ ap (λ ts. ts ++ Token.end_object ∷ []) (q ∙ with_field_tokens-field_tokens b.tokens fs ∙ ap (λ ts. ts ++ field_tokens fs) p)
     ∙ rw members_tokens-fields (simp append_assoc)
 
 -- the text of a value behind what stood before

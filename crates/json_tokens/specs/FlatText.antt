@@ -13,6 +13,7 @@ abbrev pub IsDecimal : Scalar → Type 0
 IsDecimal (Text s) = ⊤
 IsDecimal (Whole digits n) = (n < 2 ^ 64) × (digits.now ≡ decimal n)
 
+-- those of each number are
 abbrev pub AreDecimal : List Member → Type 0
 AreDecimal [] = ⊤
 AreDecimal (m ∷ ms) = IsDecimal m.1 × AreDecimal ms

@@ -44,9 +44,9 @@ abbrev pub list_of : {X : Type 0} → (X → Data) → List X → Data
 list_of shape xs = array (items_of (map shape xs))
 
 -- a list, if it is not empty
-abbrev pub listed : {X : Type 0} → List X → Option (List X)
-listed [] = None
-listed (x ∷ xs) = Some (x ∷ xs)
+abbrev pub unless_empty : {X : Type 0} → List X → Option (List X)
+unless_empty [] = None
+unless_empty (x ∷ xs) = Some (x ∷ xs)
 
 -- ---- what a step of a writer adds
 
@@ -62,12 +62,12 @@ field_tokens [] = []
 field_tokens (f ∷ fs) = Token.key f.0 ∷ (json_tokens (outline f.1) ++ field_tokens fs)
 
 -- the tokens with those of one field after the other
-abbrev pub added : List Token → Fields → List Token
-added ts [] = ts
-added ts (f ∷ fs) = added (ts ++ Token.key f.0 ∷ json_tokens (outline f.1)) fs
+abbrev pub with_field_tokens : List Token → Fields → List Token
+with_field_tokens ts [] = ts
+with_field_tokens ts (f ∷ fs) = with_field_tokens (ts ++ Token.key f.0 ∷ json_tokens (outline f.1)) fs
 
 abbrev pub AddsFields : Written → Written → Fields → Type 0
-AddsFields old new fs = new.tokens ≡ added old.tokens fs
+AddsFields old new fs = new.tokens ≡ with_field_tokens old.tokens fs
 
 abbrev pub AddsField : Written → Written → List ℕ → Data → Type 0
 AddsField old new name d = AddsFields old new ((name, d) ∷ [])

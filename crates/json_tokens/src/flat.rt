@@ -1,7 +1,7 @@
 //! Records without lists, read without a tree.
 //!
-//! A record in the form in which it is written is read by a scan of its bytes (`scan.rt`). One with blanks or escapes is
-//! read token by token.
+//! A record in the form in which it is written is read by a scan of its bytes (`scan.rt`). Any other, as one with blanks
+//! or escapes, is read token by token.
 ghost use Rattle.std.specs.Prelude.{◌≡◌, ◌∷◌, [], ◌++◌, true, Some, IfOk, IfSome, option_map};
 ghost use Rattle.std.specs.Option.{option_or};
 ghost use Rattle.json.specs.Token.{end_object};
@@ -17,7 +17,7 @@ use json::{Reader, Scratch, Token};
 use std::alloc::{AllocError, Global};
 
 // A record that is read so has fewer members.
-pub(crate) const MANY: usize = 12;
+pub(crate) const MAX_MEMBERS: usize = 12;
 
 /// A text, or a whole number with its digits.
 #[derive(Clone, Copy, Debug)]
@@ -42,7 +42,7 @@ impl<'a> FlatRecord<'a> {
         ensures { IfOk result
             (λ r. IfSome r (λ flat. read_text text.now ≡ Some (flat_data flat.members.items))) }
     {
-        let mut members = Vec::with_capacity(alloc, MANY)?;
+        let mut members = Vec::with_capacity(alloc, MAX_MEMBERS)?;
         match scan_members(text, &mut members)? {
             Form::Record => Ok(Some(FlatRecord { members })),
             Form::Nested => Ok(None),
@@ -93,7 +93,7 @@ fn take_members<'a>(
     ensures all { IfOk result (λ whole. whole ≡ true → reader.old ≡ member_tokens members.new.items
         ++ end_object ∷ []) }
 {
-    for i in 0..MANY {
+    for i in 0..MAX_MEMBERS {
         match reader.next_key() {
             Ok(Some(key)) => match value_of(reader.next()) {
                 Some(value) => members.push((key, value))?,

@@ -3,8 +3,9 @@
 //! - [`Writer`] appends JSON to a buffer, a token at a time. Each text is plain (nothing in it that JSON escapes), so it
 //!   is copied as it is, and each number is a whole one of 64 bits. What is written is read by `serde_json` as the tree
 //!   that was written (`specs/SmallNumbers.antt`).
-//! - [`FlatRecord`] reads an object of texts and whole numbers token by token, without a tree. It is proved to be the data
-//!   that `serde_json` reads of the text (`specs/Flat.antt`).
+//! - [`FlatRecord`] reads an object of texts and whole numbers without a tree: by a scan where it is written without blanks
+//!   and escapes (`specs/FlatText.antt`), else token by token. It is proved to be the data that `serde_json` reads of the
+//!   text (`specs/Flat.antt`).
 //! - [`JsonValue`] is what is found in a line: a text, a number, such a record, or any tree of `serde_json`. Contracts see its
 //!   data, so that what reads fields is written once.
 //!

@@ -6,7 +6,7 @@ ghost use Rattle.json.specs.Token as token;
 ghost use Rattle.json_tokens.specs.Flat.{scalar_token};
 ghost use Rattle.json_tokens.specs.FlatText.{AreDecimal, IsDecimal, PlainUpTo, flat_tokens, is_stop};
 
-use crate::flat::{MANY, Scalar};
+use crate::flat::{MAX_MEMBERS, Scalar};
 use std::alloc::AllocError;
 use std::simd::prelude::*;
 
@@ -37,7 +37,7 @@ pub fn scan_members<'a>(
     let Some(mut rest) = after(text, b'{') else {
         return Ok(Form::Other);
     };
-    for i in 1..MANY {
+    for i in 1..MAX_MEMBERS {
         let Some((name, said)) = key(rest) else {
             return Ok(Form::Other);
         };

@@ -7,7 +7,7 @@ use Rattle.taf_messages.specs.declared.record.Record.{Record}
 use Rattle.taf_messages.specs.Names.{body_name}
 use Rattle.taf_messages.specs.Details.{stage_name, status_name, event_kind_name, event_kind_delay, event_kind_leg, event_kind_minutes, event_kind_place, event_kind_received}
 use Rattle.reply_writer.specs.Shapes.{at_text, wagon_text, load_text}
-use Rattle.json_tokens.specs.Texts.{Fields, field, field_if, fields, whole, text, or_null, list_of, listed}
+use Rattle.json_tokens.specs.Texts.{Fields, field, field_if, fields, whole, text, or_null, list_of, unless_empty}
 
 unfoldable pub event_fields : RecordEvent → Fields
 event_fields e =
@@ -39,7 +39,7 @@ middle_record_fields r =
 unfoldable pub last_record_fields : Record → Fields
 last_record_fields r =
     field text (codes "stage") (stage_name r.stage) ++ field text (codes "status") (status_name r.status) ++
-    field_if (list_of text) (codes "units") (listed r.units) ++ field wagon_text (codes "wagon") r.wagon
+    field_if (list_of text) (codes "units") (unless_empty r.units) ++ field wagon_text (codes "wagon") r.wagon
 
 abbrev pub record_fields : Record → Fields
 record_fields r = first_record_fields r ++ middle_record_fields r ++ last_record_fields r

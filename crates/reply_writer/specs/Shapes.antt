@@ -18,7 +18,7 @@ use Rattle.taf_messages.specs.declared.message.Body.TheVariants as body
 use Rattle.taf_messages.specs.declared.kind.BodyName.TheVariants as names
 use Rattle.taf_messages.specs.Names.{movement_name, body_name}
 use Rattle.taf_messages.specs.Details.{name_of, place_in, delay_in}
-use Rattle.json_tokens.specs.Texts.{Fields, field, field_if, fields, whole, text, list_of, listed}
+use Rattle.json_tokens.specs.Texts.{Fields, field, field_if, fields, whole, text, list_of, unless_empty}
 
 abbrev pub wagon_text : ℕ → Data
 wagon_text w = text (text_of w)
@@ -56,7 +56,7 @@ first_plan_fields by p =
 
 unfoldable pub last_plan_fields : ℕ → Trip → Fields
 last_plan_fields number p =
-    field load_text (codes "load") p.load ++ field whole (codes "no") number ++ field_if (list_of unit_data) (codes "units") (listed p.units) ++
+    field load_text (codes "load") p.load ++ field whole (codes "no") number ++ field_if (list_of unit_data) (codes "units") (unless_empty p.units) ++
     field (list_of wagon_text) (codes "wagons") p.wagons
 
 abbrev pub plan_fields : Railway → ℕ → Trip → Fields

@@ -1,7 +1,7 @@
 //! Values as JSON, appended to a writer.
 ghost use Rattle.std.specs.Prelude.{◌≡◌, OnOk, map, true};
 ghost use Rattle.serde_json.specs.Data.{Data, boolean};
-ghost use Rattle.json_tokens.specs.Texts.{Fields, item_tokens, fields, Adds, AddsData, AddsField, AddsFields, AddsFieldIf, list_of, listed, or_null, text, whole};
+ghost use Rattle.json_tokens.specs.Texts.{Fields, item_tokens, fields, Adds, AddsData, AddsField, AddsFields, AddsFieldIf, list_of, unless_empty, or_null, text, whole};
 ghost use Rattle.json_tokens.specs.Writing.{is_plain};
 ghost use Rattle.reply_writer.specs.Shapes.{at_text, load_text, leg_fields, leg_data, unit_fields, unit_data, wagon_text};
 
@@ -303,7 +303,7 @@ pub(crate) fn put_list_if<T: Json>(
 ) -> Result<(), AllocError>
     requires { is_plain name.now ≡ true }
     ensures ok { OnOk result
-        (AddsFieldIf (list_of T.shape) out.old out.new name.now (listed items.now)) }
+        (AddsFieldIf (list_of T.shape) out.old out.new name.now (unless_empty items.now)) }
     ensures before { out.new.before ≡ out.old.before }
 {
     if items.is_empty() {
