@@ -13,7 +13,7 @@ use Rattle.trip_plan.specs.Trip.{Trip}
 use Rattle.taf_messages.specs.declared.item.ItemBody.{ItemBody}
 use Rattle.taf_messages.specs.declared.item.ItemBody.TheVariants as item
 use Rattle.taf_messages.specs.declared.movement.MovementKind.{MovementKind}
-use Rattle.taf_messages.specs.declared.movement.MovementKind.TheVariants.{Release, Departure, YardArrival, YardDeparture, Exception, Estimate, Arrival, Delivery}
+use Rattle.taf_messages.specs.declared.movement.MovementKind.TheVariants.{Release, YardArrival, YardDeparture, Estimate}
 use Rattle.taf_messages.specs.declared.record.EstimateAt.{EstimateAt}
 use Rattle.journey.specs.declared.event.Event.{Event}
 use Rattle.journey.specs.declared.event.EventBody.{EventBody}
@@ -42,13 +42,8 @@ still _ h = absurd (false≢true h)
 -- of a movement that keeps the estimates the lead is told
 pub lead_told : (events : List Event) (what : MovementKind) → keeps_estimates (Moved what) ≡ true → movement_receivers events what ≡ option_to_list (lead_of events)
 lead_told events Release h = absurd (false≢true h)
-lead_told events Departure h = refl
-lead_told events (YardArrival place) h = refl
-lead_told events (YardDeparture place) h = refl
-lead_told events (Exception delay) h = refl
 lead_told events Estimate h = absurd (false≢true h)
-lead_told events Arrival h = refl
-lead_told events Delivery h = refl
+lead_told events _ h = refl
 
 first_out : (p : EstimateAt → Bool) (j : ℕ) (o : Option ℕ) (rest : List EstimateAt) → ((at : ℕ) → o ≡ Some at → p (record { leg = j; at = at }) ≡ false) → filter p rest ≡ [] →
     filter p (cons_option (option_map (λ at. record { leg = j; at = at }) o) rest) ≡ []
