@@ -1,18 +1,19 @@
 use Rattle.std.proofs.Common.{rules, arith, ap, sym, refl, subst, true, ◌∙◌, ◌≡◌, ℕ, ◌+◌, ◌%◌, ◌<◌, ◌≤◌, List, [], ◌∷◌, ◌++◌, length, length-append, get_or, vec_len, vec_capacity, IfOk, Ok, Err}
+use Rattle.std.proofs.lemmas.List.{map-id}
 use Rattle.std.proofs.lemmas.Iterator.Consumers.{YieldsList-turn, YieldsList-end}
 use Rattle.std.proofs.lemmas.Iterator.Adapters.{YieldsList-from_vec}
 use Rattle.std.specs.declared.thread.PromisedHandle.{PromisedHandle}
-use Rattle.inbox.specs.States.{PassState, new_pass}
+use Rattle.inbox.specs.States.{PassState}
 use Rattle.hub_shared.specs.Seats.{new_seat}
 use Rattle.hub_workers.specs.declared.ends.SessionStart.{SessionStart}
 use Rattle.hub_workers.specs.declared.ends.Served.{Served}
 use Rattle.hub_shifts.specs.declared.promises.ServedBy.{ServedBy}
 use Rattle.hub_workers.specs.declared.worker.Worker.{Worker}
 use Rattle.hub_shifts.specs.declared.promises.WorkedBy.{WorkedBy}
-use Rattle.hub_workers.specs.Lanes.{LaneState, EachAt, EachPair}
+use Rattle.hub_workers.specs.Lanes.{IsPassOf, EachPair}
 use Rattle.hub_workers.specs.Ends.{IsServed, IsWorked}
 use Rattle.hub_workers.proofs.FallLemmas.{EachPair-push}
-use Rattle.hub_shifts.proofs.ThreadLemmas.{through, map_same, if_ok_three}
+use Rattle.hub_shifts.proofs.ThreadLemmas.{through, if_ok_two}
 use Rattle.hub_shifts.proofs.threads.fn.run_threads.scope.Goals as goal
 use Rattle.hub_shifts.proofs.threads.fn.run_threads.scope.Goals.{in-Ok, in-Err, in-Ok-spawn_with, in-Err-spawn_with}
 
@@ -43,7 +44,7 @@ spawn_with-requires-clause-runs g c =
     let n = length c.loop-start.yielded in
     let start = c.in-Some.start in
     let turn = YieldsList-turn (YieldsList-from_vec c.captures.workers.items (search rules) (search rules)) c.loop-start.yielded c.loop-start.start-iterator c.loop-start.yielded_by c.next.result c.next.new.self start c.in-Some.is c.next.ensures.steps in
-    let P : Worker g.row.L.Denot → Type 0 = λ s. (s.seat ≡ new_seat 1) × ((d : LaneState) → s.pass ≡ new_pass (get_or lanes n d).id 1) in
+    let P : Worker g.row.L.Denot → Type 0 = λ s. (s.seat ≡ new_seat 1) × IsPassOf lanes n s.pass in
     let known = subst P (sym turn.1) (c.requires.5 n start turn.0) in
     let r = c.index-lanes-lane.result in
     let a = ap (λ (t : PassState). t.inbox) (known.1 r) in
@@ -77,10 +78,10 @@ loop-start-preserved g c =
     let longer = length-append yielded (start ∷ []) in
     let Handle : Type 0 = PromisedHandle (Worker g.row.L.Denot) WorkedBy in
     let kept : (vec_len c.match-spawn_with.working ≤ vec_len c.loop-start.working + 1) × (vec_capacity c.match-spawn_with.working ≡ vec_capacity c.loop-start.working)
-    × (c.match-spawn_with.all ≡ true → (c.loop-start.all ≡ true) × ((h : Handle) × (c.match-spawn_with.working.items ≡ c.loop-start.working.items ++ h ∷ []) × (h.promise.began.value ≡ start.pass))) =
+    × (c.match-spawn_with.all_started ≡ true → (c.loop-start.all_started ≡ true) × ((h : Handle) × (c.match-spawn_with.working.items ≡ c.loop-start.working.items ++ h ∷ []) × (h.promise.began.value ≡ start.pass))) =
     elim c.match-spawn_with.branch [
       | in-Ok w ↦ (search rules, search rules, λ yes. (search rules, (w.in-Ok.thread, search rules, search rules)))
-      | in-Err w ↦ (search rules, search rules, λ yes. absurd (cc (w.all-is, yes)))
+      | in-Err w ↦ (search rules, search rules, λ yes. absurd (cc (w.all_started-is, yes)))
     ] in
     let at = c.loop-start.invariant.0 in
     let short = c.loop-start.invariant.1 in
@@ -122,7 +123,7 @@ spawn_with-requires-in-loop-start-2-clause-runs g c =
     let n = length c.loop-start-2.yielded in
     let start = c.in-Some-start.start in
     let turn = YieldsList-turn (YieldsList-from_vec c.captures.sessions.items (search rules) (search rules)) c.loop-start-2.yielded c.loop-start-2.start-iterator c.loop-start-2.yielded_by c.next-in-loop-start-2.result c.next-in-loop-start-2.new.self start c.in-Some-start.is c.next-in-loop-start-2.ensures.steps in
-    let P : SessionStart g.row.S.Denot g.row.K.Denot → Type 0 = λ s. (s.session ≡ n) × ((d : LaneState) → s.pass ≡ new_pass (get_or lanes (n % length lanes) d).id 1) in
+    let P : SessionStart g.row.S.Denot g.row.K.Denot → Type 0 = λ s. (s.session ≡ n) × IsPassOf lanes (n % length lanes) s.pass in
     let known = subst P (sym turn.1) (c.requires.6 n start turn.0) in
     let r = c.index-lanes-place.result in
     let a = ap (λ (t : PassState). t.inbox) (known.1 r) in
@@ -155,10 +156,10 @@ loop-start-2-preserved g c =
     let longer = length-append yielded (start ∷ []) in
     let Handle : Type 0 = PromisedHandle Served ServedBy in
     let kept : (vec_len c.match-spawn_with-3.serving ≤ vec_len c.loop-start-2.serving + 1) × (vec_capacity c.match-spawn_with-3.serving ≡ vec_capacity c.loop-start-2.serving)
-    × (c.match-spawn_with-3.all ≡ true → (c.loop-start-2.all ≡ true) × ((h : Handle) × (c.match-spawn_with-3.serving.items ≡ c.loop-start-2.serving.items ++ h ∷ []) × (h.promise.session ≡ start.session) × (h.promise.began.value ≡ start.pass))) =
+    × (c.match-spawn_with-3.all_started ≡ true → (c.loop-start-2.all_started ≡ true) × ((h : Handle) × (c.match-spawn_with-3.serving.items ≡ c.loop-start-2.serving.items ++ h ∷ []) × (h.promise.session ≡ start.session) × (h.promise.began.value ≡ start.pass))) =
     elim c.match-spawn_with-3.branch [
       | in-Ok-spawn_with w ↦ (search rules, search rules, λ yes. (search rules, (w.in-Ok-spawn_with.thread, search rules, search rules, search rules)))
-      | in-Err-spawn_with w ↦ (search rules, search rules, λ yes. absurd (cc (w.all-is, yes)))
+      | in-Err-spawn_with w ↦ (search rules, search rules, λ yes. absurd (cc (w.all_started-is, yes)))
     ] in
     let at = c.loop-start-2.invariant.0 in
     let short = c.loop-start-2.invariant.1 in
@@ -176,20 +177,20 @@ loop-start-2-preserved g c =
     )
 
 -- at the end the handles are those of all workers and all sessions
-pub returns : goal.returns
-returns g c =
+pub returns-then-all_started : goal.returns-then-all_started
+returns-then-all_started g c =
     let HandleW : Type 0 = PromisedHandle (Worker g.row.L.Denot) WorkedBy in
     let HandleS : Type 0 = PromisedHandle Served ServedBy in
     let Post : Type 0 = Worker g.row.L.Denot in
     let Seat : Type 0 = SessionStart g.row.S.Denot g.row.K.Denot in
-    let posted : c.loop-start.yielded ≡ c.captures.workers.items = sym (map_same c.loop-start.yielded) ∙ (YieldsList-end (YieldsList-from_vec c.captures.workers.items (search rules) (search rules)) c.loop-start.yielded c.loop-start.start-iterator c.loop-start.yielded_by c.next.result c.next.new.self c.in-None.is c.next.ensures.steps).0 in
-    let seated : c.loop-start-2.yielded ≡ c.captures.sessions.items = sym (map_same c.loop-start-2.yielded) ∙ (YieldsList-end (YieldsList-from_vec c.captures.sessions.items (search rules) (search rules)) c.loop-start-2.yielded c.loop-start-2.start-iterator c.loop-start-2.yielded_by c.next-in-loop-start-2.result c.next-in-loop-start-2.new.self c.in-None-start.is c.next-in-loop-start-2.ensures.steps).0 in
+    let posted : c.loop-start.yielded ≡ c.captures.workers.items = sym (map-id c.loop-start.yielded) ∙ (YieldsList-end (YieldsList-from_vec c.captures.workers.items (search rules) (search rules)) c.loop-start.yielded c.loop-start.start-iterator c.loop-start.yielded_by c.next.result c.next.new.self c.in-None.is c.next.ensures.steps).0 in
+    let seated : c.loop-start-2.yielded ≡ c.captures.sessions.items = sym (map-id c.loop-start-2.yielded) ∙ (YieldsList-end (YieldsList-from_vec c.captures.sessions.items (search rules) (search rules)) c.loop-start-2.yielded c.loop-start-2.start-iterator c.loop-start-2.yielded_by c.next-in-loop-start-2.result c.next-in-loop-start-2.new.self c.in-None-start.is c.next-in-loop-start-2.ensures.steps).0 in
     let PW : ℕ → Post → HandleW → Type 0 = λ k s h. h.promise.began.value ≡ s.pass in
     let PS : ℕ → Seat → HandleS → Type 0 = λ k s h. (h.promise.session ≡ s.session) × (h.promise.began.value ≡ s.pass) in
     let AS : ℕ → Seat → Type 0 = λ i s. s.session ≡ i in
-    if_ok_three _ _ _ _
-    (λ b served worked yes.
-    let both = c.loop-start-2.invariant.3 yes in
+    let both = c.loop-start-2.invariant.3 c.if-all_started.true in
+    if_ok_two _ _ _
+    (λ b served worked.
     let handles : EachPair PS c.captures.sessions.items c.loop-start-2.serving.items = subst (λ l. EachPair PS l c.loop-start-2.serving.items) seated both.1 in
     let hands : EachPair PW c.captures.workers.items c.loop-start.working.items = subst (λ l. EachPair PW l c.loop-start.working.items) posted (c.loop-start.invariant.3 both.0) in (
       through AS PS (λ i h r. IsServed h.promise.session h.promise.began.value r.end r.tally.entries r.pass) (λ i s r. IsServed i s.pass r.end r.tally.entries r.pass)
@@ -199,4 +200,4 @@ returns g c =
           (λ k s h r a p q. subst (λ t. IsWorked t r.pass r.seat) p q)
           c.captures.workers.items c.loop-start.working.items b.worked.items (λ k d low. tt) hands worked,
     ))
-    c.join_all.result c.join_all.ensures.served c.join_all.ensures.worked c.join_all.ensures.all
+    c.join_all-back.result c.join_all-back.ensures.served c.join_all-back.ensures.worked

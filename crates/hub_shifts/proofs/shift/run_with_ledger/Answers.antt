@@ -7,7 +7,7 @@ use Rattle.hub_workers.specs.Lanes.{LaneState, new_lane, of_lane, HandsOut}
 use Rattle.hub_workers.specs.Ends.{IsServed, IsWorked}
 use Rattle.hub_workers.proofs.FallLemmas.{of_lane-alike}
 use Rattle.hub_shifts.proofs.ThreadLemmas.{each_given}
-use Rattle.hub_shifts.proofs.shift.run_named.Goals as goal
+use Rattle.hub_shifts.proofs.shift.run_with_ledger.Goals as goal
 
 pub run_threads-requires-clause-workers : goal.run_threads-requires-clause-workers
 run_threads-requires-clause-workers g c κs within =
@@ -22,12 +22,12 @@ run_threads-requires-clause-sessions g c κs within =
     let lanes = c.in_ok-lanes.field-0.lanes in
     let now = c.as_slice.result.now in
     let shown : now ≡ lanes.items = c.as_slice.ensures.value in
-    let size : length now ≡ c.args.workers = ap (λ (l : List LaneState). length l) shown ∙ (sym lanes.ok.0 ∙ c.in_ok-lanes.ensures.counts.0) in
+    let size : length now ≡ c.args.setup.workers = ap (λ (l : List LaneState). length l) shown ∙ (sym lanes.ok.0 ∙ c.in_ok-lanes.ensures.counts.0) in
     λ i s low.
     let known = c.in_ok-lanes.ensures.sessions i s low in (
       known.0,
       λ d.
-          known.1 d ∙ (ap (λ (l : List LaneState). new_pass (get_or l (i % c.args.workers) d).id 1) (sym shown)
+          known.1 d ∙ (ap (λ (l : List LaneState). new_pass (get_or l (i % c.args.setup.workers) d).id 1) (sym shown)
           ∙ ap (λ n. new_pass (get_or now (i % n) d).id 1) (sym size)),
     )
 
@@ -36,16 +36,16 @@ end_shift-requires-clause-lanes g c =
     let lanes = c.in_ok-lanes.field-0.lanes in
     let sessions = c.in_ok-lanes.field-0.sessions.items in
     let served = c.in_ok-back.back.served.items in
-    let size : length lanes.items ≡ c.args.workers = sym lanes.ok.0 ∙ c.in_ok-lanes.ensures.counts.0 in
+    let size : length lanes.items ≡ c.args.setup.workers = sym lanes.ok.0 ∙ c.in_ok-lanes.ensures.counts.0 in
     λ k l low.
     let known = c.in_ok-lanes.ensures.lanes k l low in
-    let alike = of_lane-alike k c.args.workers 0 sessions served (sym c.in_ok-back.ensures.served.0) in
+    let alike = of_lane-alike k c.args.setup.workers 0 sessions served (sym c.in_ok-back.ensures.served.0) in
     subst (λ m. HandsOut (new_lane (get_or lanes.items k l).id) (get_or lanes.items k l) (1 + m)) (alike ∙ ap (λ n. length (of_lane k n 0 served)) (sym size)) known
 
 pub end_shift-requires-clause-served : goal.end_shift-requires-clause-served
 end_shift-requires-clause-served g c =
     let lanes = c.in_ok-lanes.field-0.lanes in
-    let size : length lanes.items ≡ c.args.workers = sym lanes.ok.0 ∙ c.in_ok-lanes.ensures.counts.0 in
+    let size : length lanes.items ≡ c.args.setup.workers = sym lanes.ok.0 ∙ c.in_ok-lanes.ensures.counts.0 in
     let pass_of : SessionStart g.row.S.Denot g.row.K.Denot → PassState = λ s. s.pass in
     each_given (λ i t (r : Served). IsServed i t r.end r.tally.entries r.pass) pass_of (λ i (d : LaneState). new_pass (get_or lanes.items (i % length lanes.items) d).id 1)
     c.in_ok-lanes.field-0.sessions.items c.in_ok-back.back.served.items
@@ -56,8 +56,8 @@ pub end_shift-requires-clause-worked : goal.end_shift-requires-clause-worked
 end_shift-requires-clause-worked g c =
     let lanes = c.in_ok-lanes.field-0.lanes in
     let workers = c.in_ok-lanes.field-0.workers in
-    let size : length lanes.items ≡ c.args.workers = sym lanes.ok.0 ∙ c.in_ok-lanes.ensures.counts.0 in
-    let many : length workers.items ≡ c.args.workers = sym workers.ok.0 ∙ c.in_ok-lanes.ensures.counts.1 in
+    let size : length lanes.items ≡ c.args.setup.workers = sym lanes.ok.0 ∙ c.in_ok-lanes.ensures.counts.0 in
+    let many : length workers.items ≡ c.args.setup.workers = sym workers.ok.0 ∙ c.in_ok-lanes.ensures.counts.1 in
     let pass_of : Worker g.row.L.Denot → PassState = λ w. w.pass in (
       c.in_ok-back.ensures.worked.0 ∙ (many ∙ sym size),
       each_given (λ k t (r : Worker g.row.L.Denot). IsWorked t r.pass r.seat) pass_of (λ k (d : LaneState). new_pass (get_or lanes.items k d).id 1)
