@@ -1,8 +1,9 @@
 //! The threads of a shift.
-ghost use Rattle.std.specs.Prelude.{◌≡◌, ◌%◌, ◌≤◌, [], length, vec_len, vec_capacity, IfOk};
+ghost use Rattle.std.specs.Prelude.{◌≡◌, ◌≤◌, [], length, vec_len, vec_capacity, IfOk};
 ghost use Rattle.hub_shared.specs.Seats.{new_seat};
-ghost use Rattle.hub_workers.specs.Lanes.{IsPassOf, EachAt, EachPair};
+ghost use Rattle.hub_workers.specs.Lanes.{EachPair};
 ghost use Rattle.hub_workers.specs.Ends.{IsServed, IsWorked};
+ghost use Rattle.hub_shifts.specs.Starts.{CanBegin};
 
 use crate::promises::{ServedBy, WorkedBy};
 use crate::shift::ShiftFault;
@@ -51,13 +52,8 @@ where
     K: Sink + Send + Drop,
     G: Gate + Sync,
     R: Threads + Wait + Sync,
-    requires lanes { (1 ≤ length context.lanes.now) × (length context.lanes.now ≤ 8)
-        × (vec_len workers ≡ length context.lanes.now) }
-    requires answers { (length context.answers.now ≡ vec_len sessions) × (vec_len sessions ≤ 64) }
-    requires workers { EachAt (λ k w. (w.seat ≡ new_seat 1)
-        × IsPassOf context.lanes.now k w.pass) workers.items }
-    requires sessions { EachAt (λ i s. (s.session ≡ i)
-        × IsPassOf context.lanes.now (i % length context.lanes.now) s.pass) sessions.items }
+    requires { CanBegin context.lanes.now (length context.answers.now) sessions.items
+        workers.items }
     ensures served { IfOk result (λ b. EachPair
         (λ i s r. IsServed i s.pass r.end r.tally.entries r.pass) sessions.items b.served.items) }
     ensures worked { IfOk result (λ b. EachPair (λ k s r. IsWorked s.pass r.pass r.seat)
@@ -76,12 +72,7 @@ where
         thread::scope_env(),
         rt,
         move |scope| -> Result<Back<L>, ShiftFault>
-            requires { (1 ≤ length lanes.now) × (length lanes.now ≤ 8)
-                × (vec_len workers ≡ length lanes.now) × (length answers.now ≡ vec_len sessions)
-                × (vec_len sessions ≤ 64)
-                × EachAt (λ k w. (w.seat ≡ new_seat 1) × IsPassOf lanes.now k w.pass) workers.items
-                × EachAt (λ i s. (s.session ≡ i)
-                × IsPassOf lanes.now (i % length lanes.now) s.pass) sessions.items
+            requires { CanBegin lanes.now (length answers.now) sessions.items workers.items
                 × (serving.items ≡ []) × (vec_len sessions ≤ vec_capacity serving)
                 × (working.items ≡ []) × (vec_len workers ≤ vec_capacity working) }
             ensures { IfOk result

@@ -1,4 +1,4 @@
-use Rattle.std.proofs.Common.{rules, arith, ap, sym, refl, subst, true, ◌∙◌, ◌≡◌, ℕ, ◌+◌, ◌%◌, ◌<◌, ◌≤◌, List, [], ◌∷◌, ◌++◌, length, length-append, get_or, vec_len, vec_capacity, IfOk, Ok, Err}
+use Rattle.std.proofs.Common.{rules, arith, ap, sym, refl, subst, true, ◌∙◌, ◌≡◌, ℕ, ◌+◌, ◌%◌, ◌≤◌, [], ◌∷◌, ◌++◌, length, length-append, vec_len, vec_capacity}
 use Rattle.std.proofs.lemmas.List.{map-id}
 use Rattle.std.proofs.lemmas.Iterator.Consumers.{YieldsList-turn, YieldsList-end}
 use Rattle.std.proofs.lemmas.Iterator.Adapters.{YieldsList-from_vec}
@@ -19,7 +19,7 @@ use Rattle.hub_shifts.proofs.threads.fn.run_threads.scope.Goals.{in-Ok, in-Err, 
 
 pub loop-start-init : goal.loop-start-init
 loop-start-init g c =
-    let none = c.requires.9 in
+    let none = c.requires.3 in
     let long = c.captures.working.ok.0 in
     let empty : length c.captures.working.items ≡ 0 = ap length none in
     (refl, omega (arith, empty, long), refl, λ yes. (empty, λ k d e low. absurd (omega (arith, low))))
@@ -28,14 +28,13 @@ pub bounds-lanes-lane : goal.bounds-lanes-lane
 bounds-lanes-lane g c =
     let turn = (YieldsList-turn (YieldsList-from_vec c.captures.workers.items (search rules) (search rules)) c.loop-start.yielded c.loop-start.start-iterator c.loop-start.yielded_by c.next.result c.next.new.self c.in-Some.start c.in-Some.is c.next.ensures.steps).0 in
     let at = c.loop-start.invariant.0 in
-    let many = c.requires.2 in
-    let listed = c.captures.workers.ok.0 in
-    omega (arith, turn, at, many, listed)
+    let many = c.requires.0.worker_count in
+    omega (arith, turn, at, many)
 
 pub offset_bounds-lanes-lane : goal.offset_bounds-lanes-lane
 offset_bounds-lanes-lane g c =
     let inside = bounds-lanes-lane g c in
-    let few = c.requires.1 in
+    let few = c.requires.0.few_lanes in
     omega (arith, inside, few)
 
 pub spawn_with-requires-clause-runs : goal.spawn_with-requires-clause-runs
@@ -45,7 +44,7 @@ spawn_with-requires-clause-runs g c =
     let start = c.in-Some.start in
     let turn = YieldsList-turn (YieldsList-from_vec c.captures.workers.items (search rules) (search rules)) c.loop-start.yielded c.loop-start.start-iterator c.loop-start.yielded_by c.next.result c.next.new.self start c.in-Some.is c.next.ensures.steps in
     let P : Worker g.row.L.Denot → Type 0 = λ s. (s.seat ≡ new_seat 1) × IsPassOf lanes n s.pass in
-    let known = subst P (sym turn.1) (c.requires.5 n start turn.0) in
+    let known = subst P (sym turn.1) (c.requires.0.workers_are n start turn.0) in
     let r = c.index-lanes-lane.result in
     let a = ap (λ (t : PassState). t.inbox) (known.1 r) in
     let b = c.loop-start.invariant.0 in
@@ -58,7 +57,7 @@ push_reserved-requires g c =
     let turn = (YieldsList-turn (YieldsList-from_vec c.captures.workers.items (search rules) (search rules)) c.loop-start.yielded c.loop-start.start-iterator c.loop-start.yielded_by c.next.result c.next.new.self c.in-Some.start c.in-Some.is c.next.ensures.steps).0 in
     let short = c.loop-start.invariant.1 in
     let same = c.loop-start.invariant.2 in
-    let room = c.requires.10 in
+    let room = c.requires.4 in
     let listed = c.captures.workers.ok.0 in
     omega (arith, turn, short, same, room, listed)
 
@@ -66,10 +65,9 @@ pub overflow_add-lane : goal.overflow_add-lane
 overflow_add-lane g c =
     let turn = (YieldsList-turn (YieldsList-from_vec c.captures.workers.items (search rules) (search rules)) c.loop-start.yielded c.loop-start.start-iterator c.loop-start.yielded_by c.next.result c.next.new.self c.in-Some.start c.in-Some.is c.next.ensures.steps).0 in
     let at = c.loop-start.invariant.0 in
-    let many = c.requires.2 in
-    let few = c.requires.1 in
-    let listed = c.captures.workers.ok.0 in
-    omega (arith, turn, at, many, few, listed)
+    let many = c.requires.0.worker_count in
+    let few = c.requires.0.few_lanes in
+    omega (arith, turn, at, many, few)
 
 pub loop-start-preserved : goal.loop-start-preserved
 loop-start-preserved g c =
@@ -97,7 +95,7 @@ loop-start-preserved g c =
 
 pub loop-start-2-init : goal.loop-start-2-init
 loop-start-2-init g c =
-    let none = c.requires.7 in
+    let none = c.requires.1 in
     let long = c.captures.serving.ok.0 in
     let empty : length c.captures.serving.items ≡ 0 = ap length none in
     (refl, omega (arith, empty, long), refl, λ yes. (yes, (empty, λ k d e low. absurd (omega (arith, low)))))
@@ -106,15 +104,14 @@ pub bounds-answers-place : goal.bounds-answers-place
 bounds-answers-place g c =
     let turn = (YieldsList-turn (YieldsList-from_vec c.captures.sessions.items (search rules) (search rules)) c.loop-start-2.yielded c.loop-start-2.start-iterator c.loop-start-2.yielded_by c.next-in-loop-start-2.result c.next-in-loop-start-2.new.self c.in-Some-start.start c.in-Some-start.is c.next-in-loop-start-2.ensures.steps).0 in
     let at = c.loop-start-2.invariant.0 in
-    let many = c.requires.3 in
-    let listed = c.captures.sessions.ok.0 in
-    omega (arith, turn, at, many, listed)
+    let many = c.requires.0.queue_count in
+    omega (arith, turn, at, many)
 
 pub offset_bounds-answers-place : goal.offset_bounds-answers-place
 offset_bounds-answers-place g c =
     let inside = bounds-answers-place g c in
-    let few = c.requires.4 in
-    let many = c.requires.3 in
+    let few = c.requires.0.few_sessions in
+    let many = c.requires.0.queue_count in
     omega (arith, inside, few, many)
 
 pub spawn_with-requires-in-loop-start-2-clause-runs : goal.spawn_with-requires-in-loop-start-2-clause-runs
@@ -124,7 +121,7 @@ spawn_with-requires-in-loop-start-2-clause-runs g c =
     let start = c.in-Some-start.start in
     let turn = YieldsList-turn (YieldsList-from_vec c.captures.sessions.items (search rules) (search rules)) c.loop-start-2.yielded c.loop-start-2.start-iterator c.loop-start-2.yielded_by c.next-in-loop-start-2.result c.next-in-loop-start-2.new.self start c.in-Some-start.is c.next-in-loop-start-2.ensures.steps in
     let P : SessionStart g.row.S.Denot g.row.K.Denot → Type 0 = λ s. (s.session ≡ n) × IsPassOf lanes (n % length lanes) s.pass in
-    let known = subst P (sym turn.1) (c.requires.6 n start turn.0) in
+    let known = subst P (sym turn.1) (c.requires.0.sessions_are n start turn.0) in
     let r = c.index-lanes-place.result in
     let a = ap (λ (t : PassState). t.inbox) (known.1 r) in
     let b = c.loop-start-2.invariant.0 in
@@ -137,7 +134,7 @@ push_reserved-requires-in-Ok-spawn_with g c =
     let turn = (YieldsList-turn (YieldsList-from_vec c.captures.sessions.items (search rules) (search rules)) c.loop-start-2.yielded c.loop-start-2.start-iterator c.loop-start-2.yielded_by c.next-in-loop-start-2.result c.next-in-loop-start-2.new.self c.in-Some-start.start c.in-Some-start.is c.next-in-loop-start-2.ensures.steps).0 in
     let short = c.loop-start-2.invariant.1 in
     let same = c.loop-start-2.invariant.2 in
-    let room = c.requires.8 in
+    let room = c.requires.2 in
     let listed = c.captures.sessions.ok.0 in
     omega (arith, turn, short, same, room, listed)
 
@@ -145,9 +142,8 @@ pub overflow_add-place : goal.overflow_add-place
 overflow_add-place g c =
     let turn = (YieldsList-turn (YieldsList-from_vec c.captures.sessions.items (search rules) (search rules)) c.loop-start-2.yielded c.loop-start-2.start-iterator c.loop-start-2.yielded_by c.next-in-loop-start-2.result c.next-in-loop-start-2.new.self c.in-Some-start.start c.in-Some-start.is c.next-in-loop-start-2.ensures.steps).0 in
     let at = c.loop-start-2.invariant.0 in
-    let few = c.requires.4 in
-    let listed = c.captures.sessions.ok.0 in
-    omega (arith, turn, at, few, listed)
+    let few = c.requires.0.few_sessions in
+    omega (arith, turn, at, few)
 
 pub loop-start-2-preserved : goal.loop-start-2-preserved
 loop-start-2-preserved g c =
@@ -195,7 +191,7 @@ returns-then-all_started g c =
     let hands : EachPair PW c.captures.workers.items c.loop-start.working.items = subst (λ l. EachPair PW l c.loop-start.working.items) posted (c.loop-start.invariant.3 both.0) in (
       through AS PS (λ i h r. IsServed h.promise.session h.promise.began.value r.end r.tally.entries r.pass) (λ i s r. IsServed i s.pass r.end r.tally.entries r.pass)
           (λ i s h r a p q. subst (λ n. IsServed n s.pass r.end r.tally.entries r.pass) (p.0 ∙ a) (subst (λ t. IsServed h.promise.session t r.end r.tally.entries r.pass) p.1 q))
-          c.captures.sessions.items c.loop-start-2.serving.items b.served.items (λ k d low. (c.requires.6 k d low).0) handles served,
+          c.captures.sessions.items c.loop-start-2.serving.items b.served.items (λ k d low. (c.requires.0.sessions_are k d low).0) handles served,
       through (λ k s. Unit {0}) PW (λ k h r. IsWorked h.promise.began.value r.pass r.seat) (λ k s r. IsWorked s.pass r.pass r.seat)
           (λ k s h r a p q. subst (λ t. IsWorked t r.pass r.seat) p q)
           c.captures.workers.items c.loop-start.working.items b.worked.items (λ k d low. tt) hands worked,
