@@ -1,5 +1,5 @@
 -- What the threads give back, by what they began with.
-use Rattle.std.proofs.Common.{Result, Ok, Err, IfOk, ◌≡◌, ℕ, ◌<◌, List, [], ◌∷◌, length, map, get_or, refl, ap, ◌∙◌, subst, arith}
+use Rattle.std.proofs.Common.{Result, Ok, Err, IfOk, ◌≡◌, ℕ, ◌<◌, List, [], ◌∷◌, length, get_or, ◌∙◌, subst, arith}
 use Rattle.inbox.specs.States.{PassState}
 use Rattle.hub_workers.specs.Lanes.{EachAt, EachPair}
 use Rattle.hub_shifts.proofs.KeptLemmas.{some_item}
@@ -17,14 +17,10 @@ through A P Q S f xs (h ∷ hs) rs a p q = (
   λ k d e low. let alike = p.0 in f k (get_or xs k d) (get_or (h ∷ hs) k h) (get_or rs k e) (a k d low) (p.1 k d h low) (q.1 k h e (omega (arith, alike, low))),
 )
 
-pub map_same : {X : Type 0} (xs : List X) → map (λ x. x) xs ≡ xs
-map_same [] = refl
-map_same (x ∷ xs) = ap (λ l. x ∷ l) (map_same xs)
-
--- of three facts of an Ok a fourth
-pub if_ok_three : {T E : Type 0} (A B C D : T → Type 0) → ((b : T) → A b → B b → C b → D b) → (r : Result T E) → IfOk r A → IfOk r B → IfOk r C → IfOk r D
-if_ok_three A B C D f (Ok b) x y z = f b x y z
-if_ok_three A B C D f (Err e) x y z = tt
+-- of two facts of an Ok a third
+pub if_ok_two : {T E : Type 0} (A B C : T → Type 0) → ((b : T) → A b → B b → C b) → (r : Result T E) → IfOk r A → IfOk r B → IfOk r C
+if_ok_two A B C f (Ok b) x y = f b x y
+if_ok_two A B C f (Err e) x y = tt
 
 -- what the threads gave back, by the passes that they began with
 pub each_given : {A B C : Type 0} (S : ℕ → PassState → B → Type 0) (pass_of : A → PassState) (began : ℕ → C → PassState) (starts : List A) (back : List B)

@@ -1,2 +1,3 @@
 pub mod Laws
 pub mod Shifts
+pub mod Starts

@@ -7,7 +7,7 @@ ghost use Rattle.hub_workers.specs.Ends.{IsServed, IsWorked};
 ghost use Rattle.hub_shifts.specs.Shifts.{IsShift};
 ghost use Rattle.hub_shifts.specs.declared.shift.ShiftFault.TheVariants as faults;
 
-use crate::threads::{Back, run_threads};
+use crate::threads::{Back, ShiftContext, run_threads};
 use hub_core::Hub;
 use hub_shared::{Seat, SharedHub, Tally};
 use hub_workers::{
@@ -81,17 +81,27 @@ where
     ensures { IfOk result (λ s. IsShift (vec_len sessions) workers s) }
 {
     let blank = Blank::new(workers as u64 + 1);
-    run_named::<Brand, S, K, G, R>(rt, alloc, gate, sessions, workers, blank)
+    let setup = Setup {
+        sessions,
+        workers,
+        blank,
+    };
+    run_with_ledger::<Brand, S, K, G, R>(rt, alloc, gate, setup)
 }
 
-// A shift whose seats are shares of this ledger.
-fn run_named<L, S, K, G, R>(
-    rt: &R,
-    alloc: Global,
-    gate: &G,
+// What a shift is set up with: its sessions, how many workers serve them, and the ledger of its seats.
+struct Setup<S, K> {
     sessions: Vec<(S, K)>,
     workers: usize,
     blank: Blank,
+}
+
+// A shift whose seats are shares of this ledger.
+fn run_with_ledger<L, S, K, G, R>(
+    rt: &R,
+    alloc: Global,
+    gate: &G,
+    setup: Setup<S, K>,
 ) -> Result<Shift, ShiftFault>
 where
     L: Ledger + Send + Sync,
@@ -99,11 +109,17 @@ where
     K: Sink + Send + Drop,
     G: Gate + Sync,
     R: Threads + Wait + Sync,
-    requires sessions { (1 ≤ vec_len sessions) × (vec_len sessions ≤ 64) }
-    requires workers { (1 ≤ workers) × (workers ≤ 8) }
-    requires blank { (blank.name ≡ L.name) × (blank.parts ≡ L.parts) × (blank.parts ≡ workers + 1) }
-    ensures { IfOk result (λ s. IsShift (vec_len sessions) workers s) }
+    requires sessions { (1 ≤ vec_len setup.sessions) × (vec_len setup.sessions ≤ 64) }
+    requires workers { (1 ≤ setup.workers) × (setup.workers ≤ 8) }
+    requires blank { (setup.blank.name ≡ L.name) × (setup.blank.parts ≡ L.parts)
+        × (setup.blank.parts ≡ setup.workers + 1) }
+    ensures { IfOk result (λ s. IsShift (vec_len setup.sessions) setup.workers s) }
 {
+    let Setup {
+        sessions,
+        workers,
+        blank,
+    } = setup;
     let (hub, mut seat) = SharedHub::<L>::new(alloc, blank);
     let Places {
         lanes,
@@ -112,41 +128,48 @@ where
     } = make_places(rt, alloc, sessions, workers, &mut seat)?;
     let answers = make_answers(alloc, sessions.len())?;
     let opening = Opening::new();
-    let back = run_threads::<L, S, K, G, R>(
-        rt,
-        alloc,
+    let context = ShiftContext {
         gate,
-        lanes.as_slice(),
-        &hub,
-        answers.as_slice(),
-        &opening,
-        sessions,
-        workers,
-    )?;
-    let shift = end_shift(rt, alloc, lanes, hub, seat, back)?;
+        lanes: lanes.as_slice(),
+        hub: &hub,
+        answers: answers.as_slice(),
+        opening: &opening,
+    };
+    let back = run_threads::<L, S, K, G, R>(rt, alloc, context, sessions, workers)?;
+    let to_close = ToClose { lanes, hub, seat };
+    let shift = end_shift(rt, alloc, to_close, back)?;
     Ok(shift)
+}
+
+// What a shift closes at its end: its lanes, and the hub, by the seat that it kept.
+struct ToClose<L: Ledger> {
+    lanes: Vec<Lane>,
+    hub: SharedHub<L>,
+    seat: Seat<L>,
 }
 
 // Closes the hub and the lanes, once all threads have ended.
 fn end_shift<L: Ledger>(
     rt: &impl Wait,
     alloc: Global,
-    lanes: Vec<Lane>,
-    hub: SharedHub<L>,
-    seat: Seat<L>,
+    to_close: ToClose<L>,
     back: Back<L>,
 ) -> Result<Shift, Memory>
-    requires some { (1 ≤ length lanes.items) × (length lanes.items ≤ 8) }
-    requires lanes { EachAt (λ k l. HandsOut (new_lane l.id) l
-        (1 + length (of_lane k (length lanes.items) 0 back.served.items))) lanes.items }
-    requires served { EachAt (λ i r. (d : _)
-        → IsServed i (new_pass (slice_index_or lanes.items (i % length lanes.items) d).id 1)
+    requires some { (1 ≤ length to_close.lanes.items) × (length to_close.lanes.items ≤ 8) }
+    requires lanes { let lanes = to_close.lanes.items in EachAt (λ k l. HandsOut (new_lane l.id) l
+        (1 + length (of_lane k (length lanes) 0 back.served.items))) lanes }
+    requires served { let lanes = to_close.lanes.items in EachAt (λ i r. (d : _)
+        → IsServed i (new_pass (slice_index_or lanes (i % length lanes) d).id 1)
         r.end r.tally.entries r.pass) back.served.items }
-    requires worked { (length back.worked.items ≡ length lanes.items) × EachAt (λ k r. (d : _)
-        → IsWorked (new_pass (slice_index_or lanes.items k d).id 1) r.pass r.seat) back.worked.items }
-    requires seat { (seat ≡ new_seat 1) × (L.parts ≡ length lanes.items + 1) }
-    ensures { IfOk result (λ s. IsShift (length back.served.items) (length lanes.items) s) }
+    requires worked { let lanes = to_close.lanes.items in (length back.worked.items ≡ length lanes)
+        × EachAt (λ k r. (d : _) → IsWorked (new_pass (slice_index_or lanes k d).id 1)
+        r.pass r.seat) back.worked.items }
+    requires seat { (to_close.seat ≡ new_seat 1)
+        × (L.parts ≡ length to_close.lanes.items + 1) }
+    ensures { IfOk result (λ s.
+        IsShift (length back.served.items) (length to_close.lanes.items) s) }
 {
+    let ToClose { lanes, hub, seat } = to_close;
     let Back { served, worked } = back;
     let mut lanes = lanes;
     let Outcomes { ends, tallies } = take_sessions(alloc, lanes.as_mut_slice(), served)?;

@@ -1,15 +1,16 @@
 //! The threads of a shift.
-ghost use Rattle.std.specs.Prelude.{◌≡◌, ◌%◌, ◌≤◌, [], length, vec_len, vec_capacity, slice_index_or, true, IfOk};
-ghost use Rattle.inbox.specs.States.{new_pass};
+ghost use Rattle.std.specs.Prelude.{◌≡◌, ◌≤◌, [], length, vec_len, vec_capacity, IfOk};
 ghost use Rattle.hub_shared.specs.Seats.{new_seat};
-ghost use Rattle.hub_workers.specs.Lanes.{EachAt, EachPair};
+ghost use Rattle.hub_workers.specs.Lanes.{EachPair};
 ghost use Rattle.hub_workers.specs.Ends.{IsServed, IsWorked};
+ghost use Rattle.hub_shifts.specs.Starts.{CanBegin};
 
 use crate::promises::{ServedBy, WorkedBy};
 use crate::shift::ShiftFault;
 use hub_shared::SharedHub;
 use hub_workers::{
-    AnswerQueue, Gate, JobQueue, Lane, Opening, Served, SessionStart, Worker, serve, work,
+    AnswerQueue, Gate, Lane, Opening, Served, SessionContext, SessionStart, Worker, WorkerContext,
+    serve, work,
 };
 use std::alloc::Global;
 use std::snapshot::Snapshot;
@@ -18,6 +19,16 @@ use std::sync::ledger::Ledger;
 use std::thread;
 use std::thread::{PromisedHandle, Threads};
 use taf_codes::{Memory, Sink, Source};
+
+// What the threads of a shift are lent.
+#[derive(Drop)]
+pub(crate) struct ShiftContext<'x, L: Ledger, G> {
+    pub gate: &'x G,
+    pub lanes: &'x [Lane],
+    pub hub: &'x SharedHub<L>,
+    pub answers: &'x [AnswerQueue],
+    pub opening: &'x Opening,
+}
 
 // What the threads of a shift gave back.
 #[derive(Drop)]
@@ -31,11 +42,7 @@ pub(crate) struct Back<L: Ledger> {
 pub(crate) fn run_threads<'x, L, S, K, G, R>(
     rt: &'x R,
     alloc: Global,
-    gate: &'x G,
-    lanes: &'x [Lane],
-    hub: &'x SharedHub<L>,
-    answers: &'x [AnswerQueue],
-    opening: &'x Opening,
+    context: ShiftContext<'x, L, G>,
     sessions: Vec<SessionStart<S, K>>,
     workers: Vec<Worker<L>>,
 ) -> Result<Back<L>, ShiftFault>
@@ -45,32 +52,27 @@ where
     K: Sink + Send + Drop,
     G: Gate + Sync,
     R: Threads + Wait + Sync,
-    requires lanes { (1 ≤ length lanes.now) × (length lanes.now ≤ 8)
-        × (vec_len workers ≡ length lanes.now) }
-    requires answers { (length answers.now ≡ vec_len sessions) × (vec_len sessions ≤ 64) }
-    requires workers { EachAt (λ k w. (w.seat ≡ new_seat 1)
-        × ((d : _) → w.pass ≡ new_pass (slice_index_or lanes.now k d).id 1)) workers.items }
-    requires sessions { EachAt (λ i s. (s.session ≡ i)
-        × ((d : _) → s.pass ≡ new_pass (slice_index_or lanes.now (i % length lanes.now) d).id 1)) sessions.items }
-    ensures served { IfOk result (λ b. EachPair (λ i s r. IsServed i s.pass r.end r.tally.entries r.pass)
-        sessions.items b.served.items) }
+    requires { CanBegin context.lanes.now (length context.answers.now) sessions.items
+        workers.items }
+    ensures served { IfOk result (λ b. EachPair
+        (λ i s r. IsServed i s.pass r.end r.tally.entries r.pass) sessions.items b.served.items) }
     ensures worked { IfOk result (λ b. EachPair (λ k s r. IsWorked s.pass r.pass r.seat)
         workers.items b.worked.items) }
 {
+    let ShiftContext {
+        gate,
+        lanes,
+        hub,
+        answers,
+        opening,
+    } = context;
     let serving = with_room(alloc, sessions.len())?;
     let working = with_room(alloc, workers.len())?;
     thread::scope(
         thread::scope_env(),
         rt,
         move |scope| -> Result<Back<L>, ShiftFault>
-            requires { (1 ≤ length lanes.now) × (length lanes.now ≤ 8)
-                × (vec_len workers ≡ length lanes.now) × (length answers.now ≡ vec_len sessions)
-                × (vec_len sessions ≤ 64)
-                × EachAt (λ k w. (w.seat ≡ new_seat 1)
-                × ((d : _) → w.pass ≡ new_pass (slice_index_or lanes.now k d).id 1)) workers.items
-                × EachAt (λ i s. (s.session ≡ i)
-                × ((d : _) → s.pass ≡ new_pass
-                (slice_index_or lanes.now (i % length lanes.now) d).id 1)) sessions.items
+            requires { CanBegin lanes.now (length answers.now) sessions.items workers.items
                 × (serving.items ≡ []) × (vec_len sessions ≤ vec_capacity serving)
                 × (working.items ≡ []) × (vec_len workers ≤ vec_capacity working) }
             ensures { IfOk result
@@ -79,7 +81,7 @@ where
                 × EachPair (λ k s r. IsWorked s.pass r.pass r.seat) workers.items b.worked.items) }
         {
             let (mut serving, mut working) = (serving, working);
-            let mut all = true;
+            let mut all_started = true;
             let mut lane = 0;
             for start in workers {
                 let jobs = lanes[lane].jobs();
@@ -91,10 +93,18 @@ where
                     move || -> Worker<L>
                         requires { (start.seat ≡ new_seat 1) × (start.pass.inbox ≡ jobs.now.id) }
                         ensures { IsWorked start.pass result.pass result.seat }
-                    { run_worker::<L, G, R>(rt, gate, jobs, hub, answers, start) },
+                    {
+                        let context = WorkerContext {
+                            gate,
+                            jobs,
+                            hub,
+                            answers,
+                        };
+                        run_worker::<L, G, R>(rt, context, start)
+                    },
                 ) {
                     Ok(thread) => working.push_reserved(thread),
-                    Err(_) => all = false,
+                    Err(_) => all_started = false,
                 }
                 lane += 1;
             }
@@ -112,23 +122,34 @@ where
                         requires { (start.pass.inbox ≡ jobs.now.id) × (start.pass.put ≡ []) }
                         ensures { IsServed start.session start.pass result.end result.tally.entries
                             result.pass }
-                    { serve::<S, K, R>(rt, alloc, opening, jobs, queue, start) },
+                    {
+                        let context = SessionContext {
+                            opening,
+                            jobs,
+                            answers: queue,
+                        };
+                        serve::<S, K, R>(rt, alloc, context, start)
+                    },
                 ) {
                     Ok(thread) => serving.push_reserved(thread),
-                    Err(_) => all = false,
+                    Err(_) => all_started = false,
                 }
                 place += 1;
             }
-            opening.decide(all);
-            join_all(rt, all, serving, working, lanes, answers)
+            opening.decide(all_started);
+            let back = join_all(rt, serving, working, lanes, answers);
+            if all_started {
+                back
+            } else {
+                Err(ShiftFault::Thread)
+            }
         },
     )
 }
 
-// Joins the sessions, ends the workers, and joins them.
+// Joins the sessions, ends the workers, and joins them. Want of memory is the only error.
 fn join_all<L: Ledger, R: Threads>(
     rt: &R,
-    all: bool,
     serving: Vec<PromisedHandle<Served, ServedBy>>,
     working: Vec<PromisedHandle<Worker<L>, WorkedBy>>,
     lanes: &[Lane],
@@ -137,9 +158,8 @@ fn join_all<L: Ledger, R: Threads>(
     ensures served { IfOk result (λ b. EachPair (λ i h r.
         IsServed h.promise.session h.promise.began.value r.end r.tally.entries r.pass)
         serving.items b.served.items) }
-    ensures worked { IfOk result (λ b. EachPair (λ k h r. IsWorked h.promise.began.value r.pass r.seat)
-        working.items b.worked.items) }
-    ensures all { IfOk result (λ b. all ≡ true) }
+    ensures worked { IfOk result (λ b. EachPair
+        (λ k h r. IsWorked h.promise.began.value r.pass r.seat) working.items b.worked.items) }
 {
     let served = thread::join_promised(rt, serving).ok();
     if served.is_none() {
@@ -147,9 +167,6 @@ fn join_all<L: Ledger, R: Threads>(
     }
     end_jobs(lanes);
     let worked = thread::join_promised(rt, working).ok();
-    if !all {
-        return Err(ShiftFault::Thread);
-    }
     match (served, worked) {
         (Some(served), Some(worked)) => Ok(Back { served, worked }),
         _ => Err(ShiftFault::Memory),
@@ -170,6 +187,7 @@ fn end_jobs(lanes: &[Lane]) {
     }
 }
 
+// A list with room for so many items.
 fn with_room<T>(alloc: Global, count: usize) -> Result<Vec<T>, Memory>
     ensures { IfOk result (λ v. (v.items ≡ []) × (count ≤ vec_capacity v)) }
 {
@@ -182,15 +200,12 @@ fn with_room<T>(alloc: Global, count: usize) -> Result<Vec<T>, Memory>
 // What the thread of a worker does.
 fn run_worker<L: Ledger, G: Gate, R: Wait>(
     rt: &R,
-    gate: &G,
-    jobs: &JobQueue,
-    hub: &SharedHub<L>,
-    answers: &[AnswerQueue],
+    context: WorkerContext<'_, L, G>,
     start: Worker<L>,
 ) -> Worker<L>
     requires seat { start.seat ≡ new_seat 1 }
-    requires own { start.pass.inbox ≡ jobs.now.id }
+    requires own { start.pass.inbox ≡ context.jobs.now.id }
     ensures { IsWorked start.pass result.pass result.seat }
 {
-    work(rt, gate, jobs, hub, answers, start)
+    work(rt, &context, start)
 }

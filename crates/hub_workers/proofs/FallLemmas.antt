@@ -83,9 +83,6 @@ one_more R add lanes old now j r xs x old_is now_is falls within each step k d l
     let here = get_or-set_other now j k r d (λ same. ne (sym same)) in
     rw (here, kept) (each k d low))
 
-pub hands_none : (r : LaneState) → HandsOut r r 0
-hands_none r = record { id = refl; back = refl; put = refl; taken = refl; parts = omega arith }
-
 pub hands_more : {X : Type 0} (a b c : LaneState) (l : List X) (x : X) → HandsOut a b (length l) → HandsOut b c (length (x ∷ [])) → HandsOut a c (length (l ++ x ∷ []))
 hands_more a b c l x first then =
     let long = length_push l x in
@@ -97,9 +94,6 @@ hands_more a b c l x first then =
       taken = then.taken ∙ first.taken;
       parts = omega (arith, long, p, q);
     }
-
-pub back_none : (r : LaneState) → TakesBack r r []
-back_none r = record { id = refl; pass = refl; back = sym (append-nil r.back) }
 
 pub back_more : (a b c : LaneState) (l : List PassState) (x : PassState) → TakesBack a b l → TakesBack b c (x ∷ []) → TakesBack a c (l ++ x ∷ [])
 back_more a b c l x first then = record {

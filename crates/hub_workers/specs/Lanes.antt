@@ -19,6 +19,10 @@ new_lane id = record { id = id; pass = new_pass id ALL_PARTS; back = [] }
 abbrev pub thread_pass : TableId → List Job → List Job → PassState
 thread_pass id put taken = record { inbox = id; parts = 1; put = put; taken = taken }
 
+-- a pass of lane k of these, as it was handed out
+abbrev pub IsPassOf : List LaneState → ℕ → PassState → Type 0
+IsPassOf lanes k pass = (d : LaneState) → pass ≡ new_pass (slice_index_or lanes k d).id 1
+
 -- what stands where there is no inbox and no pass
 abbrev pub no_inbox : TableId
 no_inbox = record { words = 0; slots = 0; views_name = 0; atom = 0; block = 0; offset = 0; slot_names = [] }

@@ -1,10 +1,10 @@
 //! The lanes of a shift: a queue of jobs for each worker.
-ghost use Rattle.std.specs.Prelude.{◌≡◌, ◌+◌, ◌%◌, ◌≤◌, [], ◌∷◌, ◌++◌, length, vec_len, slice_index_or, sum_by, OnOk, IfOk};
+ghost use Rattle.std.specs.Prelude.{◌≡◌, ◌+◌, ◌%◌, ◌≤◌, [], ◌∷◌, ◌++◌, length, vec_len, sum_by, OnOk, IfOk};
 ghost use Rattle.std.specs.List.{All};
 ghost use Rattle.inbox.specs.Rules.{ALL_PARTS};
 ghost use Rattle.inbox.specs.States.{new_pass, IsKeptBy};
 ghost use Rattle.hub_shared.specs.Seats.{new_seat};
-ghost use Rattle.hub_workers.specs.Lanes.{new_lane, EachAt, of_lane, HandsOut, TakesBack, EachLane};
+ghost use Rattle.hub_workers.specs.Lanes.{new_lane, IsPassOf, EachAt, of_lane, HandsOut, TakesBack, EachLane};
 
 use crate::ends::SessionStart;
 use crate::queues::JobQueue;
@@ -43,6 +43,7 @@ impl Model for Lane {
 }
 
 impl Lane {
+    // A lane for so many jobs, whose pass has every part.
     pub(crate) fn new(rt: &impl Wait, alloc: Global, capacity: usize) -> Result<Lane, Memory>
         requires { (1 ≤ capacity) × (capacity ≤ 1024) }
         ensures { IfOk result (λ l. l ≡ new_lane l.id) }
@@ -106,8 +107,8 @@ pub(crate) fn make_lanes(
 {
     let mut lanes = Vec::new(alloc);
     for lane in 0..workers {
-        let own = sessions / workers + usize::from(lane < sessions % workers);
-        let capacity = (WINDOW * own).clamp(1, MAX_JOBS);
+        let own_sessions = sessions / workers + usize::from(lane < sessions % workers);
+        let capacity = (WINDOW * own_sessions).clamp(1, MAX_JOBS);
         let lane = Lane::new(rt, alloc, capacity)?;
         lanes.push(lane).map_err(|_| Memory)?;
     }
@@ -115,7 +116,7 @@ pub(crate) fn make_lanes(
 }
 
 // Gives each session its number, and a pass of its lane.
-pub(crate) fn seat_sessions<S: Drop, K: Drop>(
+pub(crate) fn start_sessions<S: Drop, K: Drop>(
     rt: &impl Wait,
     alloc: Global,
     lanes: &mut [Lane],
@@ -124,10 +125,11 @@ pub(crate) fn seat_sessions<S: Drop, K: Drop>(
     requires lanes { (1 ≤ length lanes.old) × EachAt (λ k l. 1000 ≤ l.pass.parts) lanes.old }
     requires sessions { vec_len sessions ≤ 64 }
     ensures count { IfOk result (λ v. vec_len v ≡ vec_len sessions) }
-    ensures starts { IfOk result (λ v. EachAt (λ i s. (s.session ≡ i) × ((d : _)
-        → s.pass ≡ new_pass (slice_index_or lanes.old (i % length lanes.old) d).id 1)) v.items) }
+    ensures starts { IfOk result (λ v. EachAt (λ i s. (s.session ≡ i)
+        × IsPassOf lanes.old (i % length lanes.old) s.pass) v.items) }
     ensures lanes { IfOk result (λ v. EachLane (λ k before after.
-        HandsOut before after (length (of_lane k (length lanes.old) 0 v.items))) lanes.old lanes.new) }
+        HandsOut before after (length (of_lane k (length lanes.old) 0 v.items)))
+        lanes.old lanes.new) }
 {
     let mut starts = Vec::new(alloc);
     for (reader, writer) in sessions {
@@ -146,7 +148,7 @@ pub(crate) fn seat_sessions<S: Drop, K: Drop>(
 }
 
 // Gives each worker a pass of its lane and a seat.
-pub(crate) fn seat_workers<L: Ledger>(
+pub(crate) fn start_workers<L: Ledger>(
     rt: &impl Wait,
     alloc: Global,
     lanes: &mut [Lane],
@@ -155,8 +157,8 @@ pub(crate) fn seat_workers<L: Ledger>(
     requires lanes { EachAt (λ k l. 1000 ≤ l.pass.parts) lanes.old }
     requires seat { seat.old ≡ new_seat (length lanes.old + 1) }
     ensures count { IfOk result (λ v. vec_len v ≡ length lanes.old) }
-    ensures workers { IfOk result (λ v. EachAt (λ k w. (w.seat ≡ new_seat 1) × ((d : _)
-        → w.pass ≡ new_pass (slice_index_or lanes.old k d).id 1)) v.items) }
+    ensures workers { IfOk result (λ v. EachAt (λ k w. (w.seat ≡ new_seat 1)
+        × IsPassOf lanes.old k w.pass) v.items) }
     ensures lanes { IfOk result (λ v. EachLane (λ k before after. HandsOut before after 1)
         lanes.old lanes.new) }
     ensures seat { IfOk result (λ v. seat.new ≡ new_seat 1) }

@@ -23,7 +23,7 @@
 //! | `queues` | the queues between sessions and workers, and the signal to begin |
 //! | `port` | a session's way to its worker |
 //! | `ends` | what the thread of a session begins with and gives back |
-//! | `session`, `worker` | what a thread of each does |
+//! | `session`, `worker` | what a thread of each is lent, and what it does |
 //! | `lane`, `places`, `closing` | lanes: how passes are handed out and taken back, and how lanes are closed |
 #![tactic(auto)]
 
@@ -43,5 +43,5 @@ pub use gate::{Gate, OpenGate};
 pub use lane::Lane;
 pub use places::{Places, make_places};
 pub use queues::{AnswerQueue, JobQueue, Opening};
-pub use session::serve;
-pub use worker::{Worker, work};
+pub use session::{SessionContext, serve};
+pub use worker::{Worker, WorkerContext, work};

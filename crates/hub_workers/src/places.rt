@@ -1,11 +1,10 @@
 //! What the threads of sessions and workers begin with: everything is handed out before the first one starts.
-ghost use Rattle.std.specs.Prelude.{◌≡◌, ◌+◌, ◌%◌, ◌≤◌, length, vec_len, slice_index_or, IfOk};
-ghost use Rattle.inbox.specs.States.{new_pass};
+ghost use Rattle.std.specs.Prelude.{◌≡◌, ◌+◌, ◌%◌, ◌≤◌, length, vec_len, IfOk};
 ghost use Rattle.hub_shared.specs.Seats.{new_seat};
-ghost use Rattle.hub_workers.specs.Lanes.{new_lane, EachAt, of_lane, HandsOut};
+ghost use Rattle.hub_workers.specs.Lanes.{new_lane, IsPassOf, EachAt, of_lane, HandsOut};
 
 use crate::ends::SessionStart;
-use crate::lane::{Lane, make_lanes, seat_sessions, seat_workers};
+use crate::lane::{Lane, make_lanes, start_sessions, start_workers};
 use crate::worker::Worker;
 use hub_shared::Seat;
 use std::alloc::Global;
@@ -40,15 +39,15 @@ pub fn make_places<L: Ledger, S: Drop, K: Drop>(
         × (vec_len p.sessions ≡ vec_len sessions)) }
     ensures lanes { IfOk result (λ p. EachAt (λ k l. HandsOut (new_lane l.id) l
         (1 + length (of_lane k workers 0 p.sessions.items))) p.lanes.items) }
-    ensures sessions { IfOk result (λ p. EachAt (λ i s. (s.session ≡ i) × ((d : _)
-        → s.pass ≡ new_pass (slice_index_or p.lanes.items (i % workers) d).id 1)) p.sessions.items) }
-    ensures workers { IfOk result (λ p. EachAt (λ k w. (w.seat ≡ new_seat 1) × ((d : _)
-        → w.pass ≡ new_pass (slice_index_or p.lanes.items k d).id 1)) p.workers.items) }
+    ensures sessions { IfOk result (λ p. EachAt (λ i s. (s.session ≡ i)
+        × IsPassOf p.lanes.items (i % workers) s.pass) p.sessions.items) }
+    ensures workers { IfOk result (λ p. EachAt (λ k w. (w.seat ≡ new_seat 1)
+        × IsPassOf p.lanes.items k w.pass) p.workers.items) }
     ensures seat { IfOk result (λ p. seat.new ≡ new_seat 1) }
 {
     let mut lanes = make_lanes(rt, alloc, workers, sessions.len())?;
-    let workers = seat_workers(rt, alloc, lanes.as_mut_slice(), seat)?;
-    let sessions = seat_sessions(rt, alloc, lanes.as_mut_slice(), sessions)?;
+    let workers = start_workers(rt, alloc, lanes.as_mut_slice(), seat)?;
+    let sessions = start_sessions(rt, alloc, lanes.as_mut_slice(), sessions)?;
     Ok(Places {
         lanes,
         sessions,

@@ -13,6 +13,14 @@ use std::marker::Brand;
 use std::sync::Wait;
 use taf_codes::{Sink, Source};
 
+/// What the thread of a session is lent: the signal to begin, the queue of its lane, and the queue of its own answers.
+#[derive(Drop)]
+pub struct SessionContext<'x> {
+    pub opening: &'x Opening,
+    pub jobs: &'x JobQueue,
+    pub answers: &'x AnswerQueue,
+}
+
 /// Serves a session once the threads begin. Where they never do, not a line is read, and the session ends with
 /// [`SessionFault::Port`].
 ///
@@ -20,17 +28,15 @@ use taf_codes::{Sink, Source};
 pub fn serve<'x, S: Source + Drop, K: Sink + Drop, R: Wait>(
     rt: &'x R,
     alloc: Global,
-    opening: &Opening,
-    jobs: &'x JobQueue,
-    answers: &'x AnswerQueue,
+    context: SessionContext<'x>,
     start: SessionStart<S, K>,
 ) -> Served
-    requires own { start.pass.inbox ≡ jobs.now.id }
+    requires own { start.pass.inbox ≡ context.jobs.now.id }
     requires none { start.pass.put ≡ [] }
     ensures { IsServed start.session start.pass result.end result.tally.entries result.pass }
 {
-    if opening.wait(rt) {
-        serve_begun::<Brand, S, K, R>(rt, alloc, jobs, answers, start)
+    if context.opening.wait(rt) {
+        serve_begun::<Brand, S, K, R>(rt, alloc, context, start)
     } else {
         end_at_once(alloc, start)
     }
@@ -53,11 +59,10 @@ fn end_at_once<S: Drop, K: Drop>(alloc: Global, start: SessionStart<S, K>) -> Se
 fn serve_begun<'x, B: Begun, S: Source + Drop, K: Sink + Drop, R: Wait>(
     rt: &'x R,
     alloc: Global,
-    jobs: &'x JobQueue,
-    answers: &'x AnswerQueue,
+    context: SessionContext<'x>,
     start: SessionStart<S, K>,
 ) -> Served
-    requires own { start.pass.inbox ≡ jobs.now.id }
+    requires own { start.pass.inbox ≡ context.jobs.now.id }
     requires none { start.pass.put ≡ [] }
     requires began { start.pass ≡ B.began }
     ensures { IsServed start.session start.pass result.end result.tally.entries result.pass }
@@ -68,6 +73,7 @@ fn serve_begun<'x, B: Begun, S: Source + Drop, K: Sink + Drop, R: Wait>(
         writer,
         pass,
     } = start;
+    let SessionContext { jobs, answers, .. } = context;
     let port: ShiftPort<'x, B, R> = ShiftPort::new(rt, session, jobs, pass, answers);
     let (end, tally, port) = serve_by(alloc, session, reader, writer, port);
     Served {

@@ -16,19 +16,25 @@ pub struct Worker<L: Ledger> {
     pub seat: Seat<L>,
 }
 
+/// What a worker is lent: the gate, the queue of its lane, the hub, and the queue of each session's answers.
+#[derive(Drop)]
+pub struct WorkerContext<'x, L: Ledger, G> {
+    pub gate: &'x G,
+    pub jobs: &'x JobQueue,
+    pub hub: &'x SharedHub<L>,
+    pub answers: &'x [AnswerQueue],
+}
+
 /// Takes jobs, makes their calls and answers their sessions, until the queue was ended and is found empty.
 ///
 /// It put nothing. While the faults of its seat are below 2^60, it took as many jobs as its seat counted calls and faults.
-/// The answer to a job is put into the queue at its session's place in `answers`; where there is none it is dropped.
+/// The answer to a job is put into the queue at its session's place in the context's `answers`; where there is none it is dropped.
 pub fn work<L: Ledger, G: Gate, R: Wait>(
     rt: &R,
-    gate: &G,
-    jobs: &JobQueue,
-    hub: &SharedHub<L>,
-    answers: &[AnswerQueue],
+    context: &WorkerContext<'_, L, G>,
     worker: Worker<L>,
 ) -> Worker<L>
-    requires own { worker.pass.inbox ≡ jobs.now.id }
+    requires own { worker.pass.inbox ≡ context.now.jobs.now.id }
     ensures pass { result.pass ≡ record worker.pass { taken = result.pass.taken } }
     ensures seat { result.seat.parts ≡ worker.seat.parts }
     ensures made { result.seat.refused < 2 ^ 60
@@ -38,8 +44,8 @@ pub fn work<L: Ledger, G: Gate, R: Wait>(
     let Worker { pass, seat } = worker;
     let (mut pass, mut seat) = (pass, seat);
     for _ in rt.forever() {
-        match jobs.next(rt, &mut pass) {
-            Some(job) => answer(rt, gate, hub, answers, &mut seat, job),
+        match context.jobs.next(rt, &mut pass) {
+            Some(job) => answer(rt, context, &mut seat, job),
             None => break,
         }
     }
@@ -49,9 +55,7 @@ pub fn work<L: Ledger, G: Gate, R: Wait>(
 // Makes the call of one job, and answers its session.
 fn answer<L: Ledger, G: Gate, R: Wait>(
     rt: &R,
-    gate: &G,
-    hub: &SharedHub<L>,
-    answers: &[AnswerQueue],
+    context: &WorkerContext<'_, L, G>,
     seat: &mut Seat<L>,
     job: Job,
 )
@@ -60,19 +64,19 @@ fn answer<L: Ledger, G: Gate, R: Wait>(
         → seat.new.count + seat.new.refused ≡ seat.old.count + seat.old.refused + 1 }
     ensures before { seat.new.refused < 2 ^ 60 → seat.old.refused < 2 ^ 60 }
 {
-    gate.before(&job);
+    context.gate.before(&job);
     let Job {
         session,
         index,
         call,
     } = job;
-    let answer = hub.submit(rt, seat, call);
+    let answer = context.hub.submit(rt, seat, call);
     let done = Done {
         session,
         index,
         answer,
     };
-    if let Some(queue) = answers.get(session as usize) {
+    if let Some(queue) = context.answers.get(session as usize) {
         queue.push(rt, done);
     }
 }

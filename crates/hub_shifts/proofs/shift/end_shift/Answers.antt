@@ -3,6 +3,7 @@ use Rattle.std.specs.List.{All}
 use Rattle.std.proofs.lemmas.List.{length-map}
 use Rattle.std.proofs.lemmas.List.Elements.{All-weaker, All-map}
 use Rattle.std.proofs.lemmas.List.Sums.{sum_by-append, sum_by-cons}
+use mathlib.Core.List.{map-map}
 use Rattle.inbox.specs.declared.rule.Job.{Job}
 use Rattle.inbox.specs.Rules.{ALL_PARTS}
 use Rattle.inbox.specs.States.{PassState, new_pass, IsKeptBy}
@@ -26,15 +27,6 @@ put_of t = t.put
 
 abbrev session_of : Served → SessionState
 session_of s = record { end = s.end; tally = s.tally; put = s.pass.put }
-
-map_twice : {X Y Z : Type 0} (f : X → Y) (g : Y → Z) (xs : List X) → map (λ x. g (f x)) xs ≡ map g (map f xs)
-map_twice f g [] = refl
-map_twice f g (x ∷ xs) = ap (λ l. g (f x) ∷ l) (map_twice f g xs)
-
--- two ways to one list
-map_both : {X Y V Z : Type 0} (f : X → Y) (g : Y → Z) (h : X → V) (k : V → Z) → ((x : X) → g (f x) ≡ k (h x)) → (xs : List X) → map g (map f xs) ≡ map k (map h xs)
-map_both f g h k same [] = refl
-map_both f g h k same (x ∷ xs) = ap (λ y. y ∷ map g (map f xs)) (same x) ∙ ap (λ l. k (h x) ∷ l) (map_both f g h k same xs)
 
 -- a number of the seats, added up
 seat_sums : {W : Type 0} (worker_of : W → WorkerState) (seat_of : W → SeatState) (f : SeatState → ℕ) → ((w : W) → (worker_of w).seat ≡ seat_of w) → (ws : List W)
@@ -71,21 +63,21 @@ close-hub-requires g c =
     let seat_of : Worker g.row.L.Denot → SeatState = λ w. w.seat in
     let parts : SeatState → ℕ = λ s. s.parts in
     let worked = c.args.back.worked.items in
-    let seats : c.push.new.self.items ≡ map seat_of worked ++ c.args.seat ∷ [] = (let a : c.push.new.self.items ≡ c.in_ok-seats.seats.items ++ c.args.seat ∷ [] = search rules in a ∙ ap (λ l. l ++ c.args.seat ∷ []) c.in_ok-seats.ensures.seats) in
+    let seats : c.push.new.self.items ≡ map seat_of worked ++ c.args.to_close.seat ∷ [] = (let a : c.push.new.self.items ≡ c.in_ok-seats.seats.items ++ c.args.to_close.seat ∷ [] = search rules in a ∙ ap (λ l. l ++ c.args.to_close.seat ∷ []) c.in_ok-seats.ensures.seats) in
     let each : All (λ s. parts s ≡ 1) (map seat_of worked) = All-map (λ s. parts s ≡ 1) seat_of worked (λ k e low. (c.requires.worked.1 k e low (new_lane no_inbox)).one) in
     let sums = ones parts (map seat_of worked) each in
     let long = length-map worked seat_of in
-    let split = sum_by-append parts (map seat_of worked) (c.args.seat ∷ []) in
-    let last = sum_by-cons parts c.args.seat [] in
-    let seat : c.args.seat.parts ≡ 1 = ap parts c.requires.seat.0 in
+    let split = sum_by-append parts (map seat_of worked) (c.args.to_close.seat ∷ []) in
+    let last = sum_by-cons parts c.args.to_close.seat [] in
+    let seat : c.args.to_close.seat.parts ≡ 1 = ap parts c.requires.seat.0 in
     let many = c.requires.worked.0 in
     let all = c.requires.seat.1 in
-    let sum : sum_by parts (map seat_of worked ++ c.args.seat ∷ []) ≡ g.L.Ledger.parts = omega (arith, sums, long, split, last, seat, many, all) in
+    let sum : sum_by parts (map seat_of worked ++ c.args.to_close.seat ∷ []) ≡ g.L.Ledger.parts = omega (arith, sums, long, split, last, seat, many, all) in
     subst (λ l. sum_by parts l ≡ g.L.Ledger.parts) (sym seats) sum
 
 pub close_lanes-requires : goal.close_lanes-requires
 close_lanes-requires g c =
-    let items = c.args.lanes.items in
+    let items = c.args.to_close.lanes.items in
     let ts = c.take_sessions.new.lanes in
     let tw = c.take_workers.new.lanes in
     let served = c.args.back.served.items in
@@ -94,12 +86,12 @@ close_lanes-requires g c =
     let seat_of : Worker g.row.L.Denot → SeatState = λ w. w.seat in
     let first : c.as_mut_slice.result.now ≡ items = c.as_mut_slice.ensures.value in
     let len_ts : length ts ≡ length items = c.take_sessions.auto.lanes ∙ ap (λ (l : List LaneState). length l) first in
-    let long : c.args.lanes.len ≡ length items = c.args.lanes.ok.0 in
-    let back : take c.args.lanes.len (ts ++ drop (length ts) items) ≡ ts = whole_slice c.args.lanes.len ts items len_ts long in
+    let long : c.args.to_close.lanes.len ≡ length items = c.args.to_close.lanes.ok.0 in
+    let back : take c.args.to_close.lanes.len (ts ++ drop (length ts) items) ≡ ts = whole_slice c.args.to_close.lanes.len ts items len_ts long in
     let mid : c.as_mut_slice-2.result.now ≡ ts = c.as_mut_slice-2.ensures.value ∙ back in
     let len_tw : length tw ≡ length ts = c.take_workers.auto.lanes ∙ ap (λ (l : List LaneState). length l) mid in
-    let end : take c.args.lanes.len (tw ++ drop (length tw) (take c.args.lanes.len (ts ++ drop (length ts) items))) ≡ tw =
-    ap (λ l. take c.args.lanes.len (tw ++ drop (length tw) l)) back ∙ whole_slice c.args.lanes.len tw ts len_tw (long ∙ sym len_ts) in
+    let end : take c.args.to_close.lanes.len (tw ++ drop (length tw) (take c.args.to_close.lanes.len (ts ++ drop (length ts) items))) ≡ tw =
+    ap (λ l. take c.args.to_close.lanes.len (tw ++ drop (length tw) l)) back ∙ whole_slice c.args.to_close.lanes.len tw ts len_tw (long ∙ sym len_ts) in
     let many : length worked ≡ length items = c.requires.worked.0 in
     let came = came_of own_of seat_of items ts tw c.as_mut_slice.result.now c.as_mut_slice-2.result.now served worked first mid len_ts many c.requires.lanes c.requires.served c.requires.worked.1 c.in_ok-ends.ensures.lanes c.in_ok-seats.ensures.lanes in
     let Own : List LaneState → Type 0 = λ l. EachAt (λ k (r : LaneState). All (λ (p : PassState). p.inbox ≡ r.id) r.back) l in
@@ -117,7 +109,7 @@ close_lanes-requires g c =
 
 pub returns : goal.returns
 returns g c =
-    let items = c.args.lanes.items in
+    let items = c.args.to_close.lanes.items in
     let ts = c.take_sessions.new.lanes in
     let tw = c.take_workers.new.lanes in
     let served = c.args.back.served.items in
@@ -126,12 +118,12 @@ returns g c =
     let seat_of : Worker g.row.L.Denot → SeatState = λ w. w.seat in
     let first : c.as_mut_slice.result.now ≡ items = c.as_mut_slice.ensures.value in
     let len_ts : length ts ≡ length items = c.take_sessions.auto.lanes ∙ ap (λ (l : List LaneState). length l) first in
-    let long : c.args.lanes.len ≡ length items = c.args.lanes.ok.0 in
-    let back : take c.args.lanes.len (ts ++ drop (length ts) items) ≡ ts = whole_slice c.args.lanes.len ts items len_ts long in
+    let long : c.args.to_close.lanes.len ≡ length items = c.args.to_close.lanes.ok.0 in
+    let back : take c.args.to_close.lanes.len (ts ++ drop (length ts) items) ≡ ts = whole_slice c.args.to_close.lanes.len ts items len_ts long in
     let mid : c.as_mut_slice-2.result.now ≡ ts = c.as_mut_slice-2.ensures.value ∙ back in
     let len_tw : length tw ≡ length ts = c.take_workers.auto.lanes ∙ ap (λ (l : List LaneState). length l) mid in
-    let end : take c.args.lanes.len (tw ++ drop (length tw) (take c.args.lanes.len (ts ++ drop (length ts) items))) ≡ tw =
-    ap (λ l. take c.args.lanes.len (tw ++ drop (length tw) l)) back ∙ whole_slice c.args.lanes.len tw ts len_tw (long ∙ sym len_ts) in
+    let end : take c.args.to_close.lanes.len (tw ++ drop (length tw) (take c.args.to_close.lanes.len (ts ++ drop (length ts) items))) ≡ tw =
+    ap (λ l. take c.args.to_close.lanes.len (tw ++ drop (length tw) l)) back ∙ whole_slice c.args.to_close.lanes.len tw ts len_tw (long ∙ sym len_ts) in
     let many : length worked ≡ length items = c.requires.worked.0 in
     let came = came_of own_of seat_of items ts tw c.as_mut_slice.result.now c.as_mut_slice-2.result.now served worked first mid len_ts many c.requires.lanes c.requires.served c.requires.worked.1 c.in_ok-ends.ensures.lanes c.in_ok-seats.ensures.lanes in
     let Closes : ℕ → LaneState → List Job → Type 0 = λ k l left. IsKeptBy (l.back ++ l.pass ∷ []) left in
@@ -140,7 +132,7 @@ returns g c =
     let worker_of : Worker g.row.L.Denot → WorkerState = λ w. record { taken = w.pass.taken; seat = w.seat } in
     let count : SeatState → ℕ = λ s. s.count in
     let refused : SeatState → ℕ = λ s. s.refused in
-    let seats : c.push.new.self.items ≡ map seat_of worked ++ c.args.seat ∷ [] = (let a : c.push.new.self.items ≡ c.in_ok-seats.seats.items ++ c.args.seat ∷ [] = search rules in a ∙ ap (λ l. l ++ c.args.seat ∷ []) c.in_ok-seats.ensures.seats) in
+    let seats : c.push.new.self.items ≡ map seat_of worked ++ c.args.to_close.seat ∷ [] = (let a : c.push.new.self.items ≡ c.in_ok-seats.seats.items ++ c.args.to_close.seat ∷ [] = search rules in a ∙ ap (λ l. l ++ c.args.to_close.seat ∷ []) c.in_ok-seats.ensures.seats) in
     let size : length (map worker_of worked) ≡ length items = length-map worked worker_of ∙ many in
     record {
       served = map session_of served;
@@ -150,27 +142,27 @@ returns g c =
       served_count = length-map served session_of;
       worked_count = size;
       left_count = closed.0 ∙ (len_tw ∙ len_ts);
-      ends_are = c.in_ok-ends.ensures.ends ∙ map_twice session_of (λ (x : SessionState). x.end) served;
-      tallies_are = c.in_ok-ends.ensures.tallies ∙ map_twice session_of (λ (x : SessionState). x.tally) served;
+      ends_are = c.in_ok-ends.ensures.ends ∙ sym (map-map (λ (x : SessionState). x.end) session_of served);
+      tallies_are = c.in_ok-ends.ensures.tallies ∙ sym (map-map (λ (x : SessionState). x.tally) session_of served);
       of_sessions = EachAt-map session_of IsOfSession served (λ i r low.
           let s = c.requires.served i r low (new_lane no_inbox) in
           record { ended = s.ended; own_jobs = s.own_jobs });
       makes_calls = EachAt-map worker_of (λ k w. MakesCalls w) worked (λ k w low few. let made = (c.requires.worked.1 k w low (new_lane no_inbox)).made few in omega (arith, made));
       calls =
           let sum = c.close-hub.ensures.sum in
-          let all : sum_by count c.push.new.self.items ≡ sum_by count (map seat_of worked ++ c.args.seat ∷ []) = ap (λ l. sum_by count l) seats in
-          let split = sum_by-append count (map seat_of worked) (c.args.seat ∷ []) in
-          let last = sum_by-cons count c.args.seat [] in
-          let none : c.args.seat.count ≡ 0 = ap count c.requires.seat.0 in
+          let all : sum_by count c.push.new.self.items ≡ sum_by count (map seat_of worked ++ c.args.to_close.seat ∷ []) = ap (λ l. sum_by count l) seats in
+          let split = sum_by-append count (map seat_of worked) (c.args.to_close.seat ∷ []) in
+          let last = sum_by-cons count c.args.to_close.seat [] in
+          let none : c.args.to_close.seat.count ≡ 0 = ap count c.requires.seat.0 in
           let same = seat_sums worker_of seat_of count (λ w. refl) worked in
           omega (arith, sum, all, split, last, none, same);
       faults =
           let sum = c.add_refused-refused.ensures in
           let same : sum_by refused c.as_slice.result.now ≡ sum_by refused c.push.new.self.items = ap (λ l. sum_by refused l) c.as_slice.ensures.value in
-          let all : sum_by refused c.push.new.self.items ≡ sum_by refused (map seat_of worked ++ c.args.seat ∷ []) = ap (λ l. sum_by refused l) seats in
-          let split = sum_by-append refused (map seat_of worked) (c.args.seat ∷ []) in
-          let last = sum_by-cons refused c.args.seat [] in
-          let none : c.args.seat.refused ≡ 0 = ap refused c.requires.seat.0 in
+          let all : sum_by refused c.push.new.self.items ≡ sum_by refused (map seat_of worked ++ c.args.to_close.seat ∷ []) = ap (λ l. sum_by refused l) seats in
+          let split = sum_by-append refused (map seat_of worked) (c.args.to_close.seat ∷ []) in
+          let last = sum_by-cons refused c.args.to_close.seat [] in
+          let none : c.args.to_close.seat.refused ≡ 0 = ap refused c.requires.seat.0 in
           let each = seat_sums worker_of seat_of refused (λ w. refl) worked in
           omega (arith, sum, same, all, split, last, none, each);
       kept = λ k d low.
@@ -180,7 +172,7 @@ returns g c =
           let l = new_lane no_inbox in
           let own = own_of (get_or worked k e) in
           let all = came_kept k (length items) (map pass_of served) own (get_or items k l) (get_or tw k l) (get_or left k []) (came k l e in_items) (closed.1 k l [] (omega (arith, in_items, len_tw, len_ts))) in
-          let puts : map put_of (map pass_of served) ≡ put_lists (map session_of served) = map_both pass_of put_of session_of (λ (x : SessionState). x.put) (λ r. refl) served in
+          let puts : map put_of (map pass_of served) ≡ put_lists (map session_of served) = map-map put_of pass_of served ∙ sym (map-map (λ (x : SessionState). x.put) session_of served) in
           let took : own.taken ≡ (get_or (map worker_of worked) k d).taken = sym (ap (λ (w : WorkerState). w.taken) (read_map worker_of worked k e d at)) in
           subst (λ t. LaneIsKept k (length items) (put_lists (map session_of served)) t (get_or left k [])) took
           (subst (λ p. LaneIsKept k (length items) p own.taken (get_or left k [])) puts all);

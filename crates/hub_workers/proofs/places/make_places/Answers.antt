@@ -3,7 +3,7 @@ use Rattle.inbox.specs.States.{PassState, new_pass}
 use Rattle.hub_shared.specs.Seats.{new_seat}
 use Rattle.hub_workers.specs.declared.ends.SessionStart.{SessionStart}
 use Rattle.hub_workers.specs.declared.worker.Worker.{Worker}
-use Rattle.hub_workers.specs.Lanes.{LaneState, new_lane, EachAt, of_lane, HandsOut}
+use Rattle.hub_workers.specs.Lanes.{LaneState, new_lane, IsPassOf, EachAt, of_lane, HandsOut}
 use Rattle.hub_workers.proofs.PlaceLemmas.{lent_twice, handed_out, first_id, last_id}
 use Rattle.hub_workers.proofs.places.make_places.Goals as goal
 
@@ -11,22 +11,22 @@ pub returns : goal.returns
 returns g c =
     let made = c.in_ok-lanes.lanes.items in
     let len = c.in_ok-lanes.lanes.len in
-    let first = c.seat_workers.new.lanes in
-    let last = c.seat_sessions.new.lanes in
+    let first = c.start_workers.new.lanes in
+    let last = c.start_sessions.new.lanes in
     let sessions = c.in_ok-sessions.sessions.items in
     let workers = c.in_ok-workers.workers.items in
     let n = c.args.workers in
     let long : len ≡ length made = c.in_ok-lanes.lanes.ok.0 in
     let made_is : length made ≡ n = sym long ∙ c.in_ok-lanes.ensures.0 in
     let is : c.as_mut_slice.result.now ≡ made = c.as_mut_slice.ensures.value in
-    let lent = lent_twice len made c.as_mut_slice.result.now first c.as_mut_slice-2.result.now last sessions long is c.as_mut_slice-2.ensures.value c.seat_workers.auto.lanes c.seat_sessions.auto.lanes c.in_ok-lanes.ensures.1 c.in_ok-workers.ensures.lanes c.in_ok-sessions.ensures.lanes in
+    let lent = lent_twice len made c.as_mut_slice.result.now first c.as_mut_slice-2.result.now last sessions long is c.as_mut_slice-2.ensures.value c.start_workers.auto.lanes c.start_sessions.auto.lanes c.in_ok-lanes.ensures.1 c.in_ok-workers.ensures.lanes c.in_ok-sessions.ensures.lanes in
     let handed = lent.0 in
     let end = lent.2 in
     let first_is : length first ≡ n = handed.first_fit ∙ made_is in
-    let begun : EachAt (λ i (s : SessionStart g.row.S.Denot g.row.K.Denot). (s.session ≡ i) × ((d : LaneState) → s.pass ≡ new_pass (get_or first (i % length first) d).id 1)) sessions =
-    subst (λ l. EachAt (λ i (s : SessionStart g.row.S.Denot g.row.K.Denot). (s.session ≡ i) × ((d : LaneState) → s.pass ≡ new_pass (get_or l (i % length l) d).id 1)) sessions) lent.1 c.in_ok-sessions.ensures.starts in
-    let seated : EachAt (λ k (w : Worker g.row.L.Denot). (w.seat ≡ new_seat 1) × ((d : LaneState) → w.pass ≡ new_pass (get_or made k d).id 1)) workers =
-    subst (λ l. EachAt (λ k (w : Worker g.row.L.Denot). (w.seat ≡ new_seat 1) × ((d : LaneState) → w.pass ≡ new_pass (get_or l k d).id 1)) workers) is c.in_ok-workers.ensures.workers in
+    let begun : EachAt (λ i (s : SessionStart g.row.S.Denot g.row.K.Denot). (s.session ≡ i) × IsPassOf first (i % length first) s.pass) sessions =
+    subst (λ l. EachAt (λ i (s : SessionStart g.row.S.Denot g.row.K.Denot). (s.session ≡ i) × IsPassOf l (i % length l) s.pass) sessions) lent.1 c.in_ok-sessions.ensures.starts in
+    let seated : EachAt (λ k (w : Worker g.row.L.Denot). (w.seat ≡ new_seat 1) × IsPassOf made k w.pass) workers =
+    subst (λ l. EachAt (λ k (w : Worker g.row.L.Denot). (w.seat ≡ new_seat 1) × IsPassOf l k w.pass) workers) is c.in_ok-workers.ensures.workers in
     let some = c.requires.workers.0 in
     let worker_count = c.in_ok-workers.ensures.count in
     let lane_count = ap (λ (l : List LaneState). length l) is in

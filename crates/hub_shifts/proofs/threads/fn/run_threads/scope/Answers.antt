@@ -1,24 +1,25 @@
-use Rattle.std.proofs.Common.{rules, arith, ap, sym, refl, subst, true, ◌∙◌, ◌≡◌, ℕ, ◌+◌, ◌%◌, ◌<◌, ◌≤◌, List, [], ◌∷◌, ◌++◌, length, length-append, get_or, vec_len, vec_capacity, IfOk, Ok, Err}
+use Rattle.std.proofs.Common.{rules, arith, ap, sym, refl, subst, true, ◌∙◌, ◌≡◌, ℕ, ◌+◌, ◌%◌, ◌≤◌, [], ◌∷◌, ◌++◌, length, length-append, vec_len, vec_capacity}
+use Rattle.std.proofs.lemmas.List.{map-id}
 use Rattle.std.proofs.lemmas.Iterator.Consumers.{YieldsList-turn, YieldsList-end}
 use Rattle.std.proofs.lemmas.Iterator.Adapters.{YieldsList-from_vec}
 use Rattle.std.specs.declared.thread.PromisedHandle.{PromisedHandle}
-use Rattle.inbox.specs.States.{PassState, new_pass}
+use Rattle.inbox.specs.States.{PassState}
 use Rattle.hub_shared.specs.Seats.{new_seat}
 use Rattle.hub_workers.specs.declared.ends.SessionStart.{SessionStart}
 use Rattle.hub_workers.specs.declared.ends.Served.{Served}
 use Rattle.hub_shifts.specs.declared.promises.ServedBy.{ServedBy}
 use Rattle.hub_workers.specs.declared.worker.Worker.{Worker}
 use Rattle.hub_shifts.specs.declared.promises.WorkedBy.{WorkedBy}
-use Rattle.hub_workers.specs.Lanes.{LaneState, EachAt, EachPair}
+use Rattle.hub_workers.specs.Lanes.{IsPassOf, EachPair}
 use Rattle.hub_workers.specs.Ends.{IsServed, IsWorked}
 use Rattle.hub_workers.proofs.FallLemmas.{EachPair-push}
-use Rattle.hub_shifts.proofs.ThreadLemmas.{through, map_same, if_ok_three}
+use Rattle.hub_shifts.proofs.ThreadLemmas.{through, if_ok_two}
 use Rattle.hub_shifts.proofs.threads.fn.run_threads.scope.Goals as goal
 use Rattle.hub_shifts.proofs.threads.fn.run_threads.scope.Goals.{in-Ok, in-Err, in-Ok-spawn_with, in-Err-spawn_with}
 
 pub loop-start-init : goal.loop-start-init
 loop-start-init g c =
-    let none = c.requires.9 in
+    let none = c.requires.3 in
     let long = c.captures.working.ok.0 in
     let empty : length c.captures.working.items ≡ 0 = ap length none in
     (refl, omega (arith, empty, long), refl, λ yes. (empty, λ k d e low. absurd (omega (arith, low))))
@@ -27,14 +28,13 @@ pub bounds-lanes-lane : goal.bounds-lanes-lane
 bounds-lanes-lane g c =
     let turn = (YieldsList-turn (YieldsList-from_vec c.captures.workers.items (search rules) (search rules)) c.loop-start.yielded c.loop-start.start-iterator c.loop-start.yielded_by c.next.result c.next.new.self c.in-Some.start c.in-Some.is c.next.ensures.steps).0 in
     let at = c.loop-start.invariant.0 in
-    let many = c.requires.2 in
-    let listed = c.captures.workers.ok.0 in
-    omega (arith, turn, at, many, listed)
+    let many = c.requires.0.worker_count in
+    omega (arith, turn, at, many)
 
 pub offset_bounds-lanes-lane : goal.offset_bounds-lanes-lane
 offset_bounds-lanes-lane g c =
     let inside = bounds-lanes-lane g c in
-    let few = c.requires.1 in
+    let few = c.requires.0.few_lanes in
     omega (arith, inside, few)
 
 pub spawn_with-requires-clause-runs : goal.spawn_with-requires-clause-runs
@@ -43,8 +43,8 @@ spawn_with-requires-clause-runs g c =
     let n = length c.loop-start.yielded in
     let start = c.in-Some.start in
     let turn = YieldsList-turn (YieldsList-from_vec c.captures.workers.items (search rules) (search rules)) c.loop-start.yielded c.loop-start.start-iterator c.loop-start.yielded_by c.next.result c.next.new.self start c.in-Some.is c.next.ensures.steps in
-    let P : Worker g.row.L.Denot → Type 0 = λ s. (s.seat ≡ new_seat 1) × ((d : LaneState) → s.pass ≡ new_pass (get_or lanes n d).id 1) in
-    let known = subst P (sym turn.1) (c.requires.5 n start turn.0) in
+    let P : Worker g.row.L.Denot → Type 0 = λ s. (s.seat ≡ new_seat 1) × IsPassOf lanes n s.pass in
+    let known = subst P (sym turn.1) (c.requires.0.workers_are n start turn.0) in
     let r = c.index-lanes-lane.result in
     let a = ap (λ (t : PassState). t.inbox) (known.1 r) in
     let b = c.loop-start.invariant.0 in
@@ -57,7 +57,7 @@ push_reserved-requires g c =
     let turn = (YieldsList-turn (YieldsList-from_vec c.captures.workers.items (search rules) (search rules)) c.loop-start.yielded c.loop-start.start-iterator c.loop-start.yielded_by c.next.result c.next.new.self c.in-Some.start c.in-Some.is c.next.ensures.steps).0 in
     let short = c.loop-start.invariant.1 in
     let same = c.loop-start.invariant.2 in
-    let room = c.requires.10 in
+    let room = c.requires.4 in
     let listed = c.captures.workers.ok.0 in
     omega (arith, turn, short, same, room, listed)
 
@@ -65,10 +65,9 @@ pub overflow_add-lane : goal.overflow_add-lane
 overflow_add-lane g c =
     let turn = (YieldsList-turn (YieldsList-from_vec c.captures.workers.items (search rules) (search rules)) c.loop-start.yielded c.loop-start.start-iterator c.loop-start.yielded_by c.next.result c.next.new.self c.in-Some.start c.in-Some.is c.next.ensures.steps).0 in
     let at = c.loop-start.invariant.0 in
-    let many = c.requires.2 in
-    let few = c.requires.1 in
-    let listed = c.captures.workers.ok.0 in
-    omega (arith, turn, at, many, few, listed)
+    let many = c.requires.0.worker_count in
+    let few = c.requires.0.few_lanes in
+    omega (arith, turn, at, many, few)
 
 pub loop-start-preserved : goal.loop-start-preserved
 loop-start-preserved g c =
@@ -77,10 +76,10 @@ loop-start-preserved g c =
     let longer = length-append yielded (start ∷ []) in
     let Handle : Type 0 = PromisedHandle (Worker g.row.L.Denot) WorkedBy in
     let kept : (vec_len c.match-spawn_with.working ≤ vec_len c.loop-start.working + 1) × (vec_capacity c.match-spawn_with.working ≡ vec_capacity c.loop-start.working)
-    × (c.match-spawn_with.all ≡ true → (c.loop-start.all ≡ true) × ((h : Handle) × (c.match-spawn_with.working.items ≡ c.loop-start.working.items ++ h ∷ []) × (h.promise.began.value ≡ start.pass))) =
+    × (c.match-spawn_with.all_started ≡ true → (c.loop-start.all_started ≡ true) × ((h : Handle) × (c.match-spawn_with.working.items ≡ c.loop-start.working.items ++ h ∷ []) × (h.promise.began.value ≡ start.pass))) =
     elim c.match-spawn_with.branch [
       | in-Ok w ↦ (search rules, search rules, λ yes. (search rules, (w.in-Ok.thread, search rules, search rules)))
-      | in-Err w ↦ (search rules, search rules, λ yes. absurd (cc (w.all-is, yes)))
+      | in-Err w ↦ (search rules, search rules, λ yes. absurd (cc (w.all_started-is, yes)))
     ] in
     let at = c.loop-start.invariant.0 in
     let short = c.loop-start.invariant.1 in
@@ -96,7 +95,7 @@ loop-start-preserved g c =
 
 pub loop-start-2-init : goal.loop-start-2-init
 loop-start-2-init g c =
-    let none = c.requires.7 in
+    let none = c.requires.1 in
     let long = c.captures.serving.ok.0 in
     let empty : length c.captures.serving.items ≡ 0 = ap length none in
     (refl, omega (arith, empty, long), refl, λ yes. (yes, (empty, λ k d e low. absurd (omega (arith, low)))))
@@ -105,15 +104,14 @@ pub bounds-answers-place : goal.bounds-answers-place
 bounds-answers-place g c =
     let turn = (YieldsList-turn (YieldsList-from_vec c.captures.sessions.items (search rules) (search rules)) c.loop-start-2.yielded c.loop-start-2.start-iterator c.loop-start-2.yielded_by c.next-in-loop-start-2.result c.next-in-loop-start-2.new.self c.in-Some-start.start c.in-Some-start.is c.next-in-loop-start-2.ensures.steps).0 in
     let at = c.loop-start-2.invariant.0 in
-    let many = c.requires.3 in
-    let listed = c.captures.sessions.ok.0 in
-    omega (arith, turn, at, many, listed)
+    let many = c.requires.0.queue_count in
+    omega (arith, turn, at, many)
 
 pub offset_bounds-answers-place : goal.offset_bounds-answers-place
 offset_bounds-answers-place g c =
     let inside = bounds-answers-place g c in
-    let few = c.requires.4 in
-    let many = c.requires.3 in
+    let few = c.requires.0.few_sessions in
+    let many = c.requires.0.queue_count in
     omega (arith, inside, few, many)
 
 pub spawn_with-requires-in-loop-start-2-clause-runs : goal.spawn_with-requires-in-loop-start-2-clause-runs
@@ -122,8 +120,8 @@ spawn_with-requires-in-loop-start-2-clause-runs g c =
     let n = length c.loop-start-2.yielded in
     let start = c.in-Some-start.start in
     let turn = YieldsList-turn (YieldsList-from_vec c.captures.sessions.items (search rules) (search rules)) c.loop-start-2.yielded c.loop-start-2.start-iterator c.loop-start-2.yielded_by c.next-in-loop-start-2.result c.next-in-loop-start-2.new.self start c.in-Some-start.is c.next-in-loop-start-2.ensures.steps in
-    let P : SessionStart g.row.S.Denot g.row.K.Denot → Type 0 = λ s. (s.session ≡ n) × ((d : LaneState) → s.pass ≡ new_pass (get_or lanes (n % length lanes) d).id 1) in
-    let known = subst P (sym turn.1) (c.requires.6 n start turn.0) in
+    let P : SessionStart g.row.S.Denot g.row.K.Denot → Type 0 = λ s. (s.session ≡ n) × IsPassOf lanes (n % length lanes) s.pass in
+    let known = subst P (sym turn.1) (c.requires.0.sessions_are n start turn.0) in
     let r = c.index-lanes-place.result in
     let a = ap (λ (t : PassState). t.inbox) (known.1 r) in
     let b = c.loop-start-2.invariant.0 in
@@ -136,7 +134,7 @@ push_reserved-requires-in-Ok-spawn_with g c =
     let turn = (YieldsList-turn (YieldsList-from_vec c.captures.sessions.items (search rules) (search rules)) c.loop-start-2.yielded c.loop-start-2.start-iterator c.loop-start-2.yielded_by c.next-in-loop-start-2.result c.next-in-loop-start-2.new.self c.in-Some-start.start c.in-Some-start.is c.next-in-loop-start-2.ensures.steps).0 in
     let short = c.loop-start-2.invariant.1 in
     let same = c.loop-start-2.invariant.2 in
-    let room = c.requires.8 in
+    let room = c.requires.2 in
     let listed = c.captures.sessions.ok.0 in
     omega (arith, turn, short, same, room, listed)
 
@@ -144,9 +142,8 @@ pub overflow_add-place : goal.overflow_add-place
 overflow_add-place g c =
     let turn = (YieldsList-turn (YieldsList-from_vec c.captures.sessions.items (search rules) (search rules)) c.loop-start-2.yielded c.loop-start-2.start-iterator c.loop-start-2.yielded_by c.next-in-loop-start-2.result c.next-in-loop-start-2.new.self c.in-Some-start.start c.in-Some-start.is c.next-in-loop-start-2.ensures.steps).0 in
     let at = c.loop-start-2.invariant.0 in
-    let few = c.requires.4 in
-    let listed = c.captures.sessions.ok.0 in
-    omega (arith, turn, at, few, listed)
+    let few = c.requires.0.few_sessions in
+    omega (arith, turn, at, few)
 
 pub loop-start-2-preserved : goal.loop-start-2-preserved
 loop-start-2-preserved g c =
@@ -155,10 +152,10 @@ loop-start-2-preserved g c =
     let longer = length-append yielded (start ∷ []) in
     let Handle : Type 0 = PromisedHandle Served ServedBy in
     let kept : (vec_len c.match-spawn_with-3.serving ≤ vec_len c.loop-start-2.serving + 1) × (vec_capacity c.match-spawn_with-3.serving ≡ vec_capacity c.loop-start-2.serving)
-    × (c.match-spawn_with-3.all ≡ true → (c.loop-start-2.all ≡ true) × ((h : Handle) × (c.match-spawn_with-3.serving.items ≡ c.loop-start-2.serving.items ++ h ∷ []) × (h.promise.session ≡ start.session) × (h.promise.began.value ≡ start.pass))) =
+    × (c.match-spawn_with-3.all_started ≡ true → (c.loop-start-2.all_started ≡ true) × ((h : Handle) × (c.match-spawn_with-3.serving.items ≡ c.loop-start-2.serving.items ++ h ∷ []) × (h.promise.session ≡ start.session) × (h.promise.began.value ≡ start.pass))) =
     elim c.match-spawn_with-3.branch [
       | in-Ok-spawn_with w ↦ (search rules, search rules, λ yes. (search rules, (w.in-Ok-spawn_with.thread, search rules, search rules, search rules)))
-      | in-Err-spawn_with w ↦ (search rules, search rules, λ yes. absurd (cc (w.all-is, yes)))
+      | in-Err-spawn_with w ↦ (search rules, search rules, λ yes. absurd (cc (w.all_started-is, yes)))
     ] in
     let at = c.loop-start-2.invariant.0 in
     let short = c.loop-start-2.invariant.1 in
@@ -176,27 +173,27 @@ loop-start-2-preserved g c =
     )
 
 -- at the end the handles are those of all workers and all sessions
-pub returns : goal.returns
-returns g c =
+pub returns-then-all_started : goal.returns-then-all_started
+returns-then-all_started g c =
     let HandleW : Type 0 = PromisedHandle (Worker g.row.L.Denot) WorkedBy in
     let HandleS : Type 0 = PromisedHandle Served ServedBy in
     let Post : Type 0 = Worker g.row.L.Denot in
     let Seat : Type 0 = SessionStart g.row.S.Denot g.row.K.Denot in
-    let posted : c.loop-start.yielded ≡ c.captures.workers.items = sym (map_same c.loop-start.yielded) ∙ (YieldsList-end (YieldsList-from_vec c.captures.workers.items (search rules) (search rules)) c.loop-start.yielded c.loop-start.start-iterator c.loop-start.yielded_by c.next.result c.next.new.self c.in-None.is c.next.ensures.steps).0 in
-    let seated : c.loop-start-2.yielded ≡ c.captures.sessions.items = sym (map_same c.loop-start-2.yielded) ∙ (YieldsList-end (YieldsList-from_vec c.captures.sessions.items (search rules) (search rules)) c.loop-start-2.yielded c.loop-start-2.start-iterator c.loop-start-2.yielded_by c.next-in-loop-start-2.result c.next-in-loop-start-2.new.self c.in-None-start.is c.next-in-loop-start-2.ensures.steps).0 in
+    let posted : c.loop-start.yielded ≡ c.captures.workers.items = sym (map-id c.loop-start.yielded) ∙ (YieldsList-end (YieldsList-from_vec c.captures.workers.items (search rules) (search rules)) c.loop-start.yielded c.loop-start.start-iterator c.loop-start.yielded_by c.next.result c.next.new.self c.in-None.is c.next.ensures.steps).0 in
+    let seated : c.loop-start-2.yielded ≡ c.captures.sessions.items = sym (map-id c.loop-start-2.yielded) ∙ (YieldsList-end (YieldsList-from_vec c.captures.sessions.items (search rules) (search rules)) c.loop-start-2.yielded c.loop-start-2.start-iterator c.loop-start-2.yielded_by c.next-in-loop-start-2.result c.next-in-loop-start-2.new.self c.in-None-start.is c.next-in-loop-start-2.ensures.steps).0 in
     let PW : ℕ → Post → HandleW → Type 0 = λ k s h. h.promise.began.value ≡ s.pass in
     let PS : ℕ → Seat → HandleS → Type 0 = λ k s h. (h.promise.session ≡ s.session) × (h.promise.began.value ≡ s.pass) in
     let AS : ℕ → Seat → Type 0 = λ i s. s.session ≡ i in
-    if_ok_three _ _ _ _
-    (λ b served worked yes.
-    let both = c.loop-start-2.invariant.3 yes in
+    let both = c.loop-start-2.invariant.3 c.if-all_started.true in
+    if_ok_two _ _ _
+    (λ b served worked.
     let handles : EachPair PS c.captures.sessions.items c.loop-start-2.serving.items = subst (λ l. EachPair PS l c.loop-start-2.serving.items) seated both.1 in
     let hands : EachPair PW c.captures.workers.items c.loop-start.working.items = subst (λ l. EachPair PW l c.loop-start.working.items) posted (c.loop-start.invariant.3 both.0) in (
       through AS PS (λ i h r. IsServed h.promise.session h.promise.began.value r.end r.tally.entries r.pass) (λ i s r. IsServed i s.pass r.end r.tally.entries r.pass)
           (λ i s h r a p q. subst (λ n. IsServed n s.pass r.end r.tally.entries r.pass) (p.0 ∙ a) (subst (λ t. IsServed h.promise.session t r.end r.tally.entries r.pass) p.1 q))
-          c.captures.sessions.items c.loop-start-2.serving.items b.served.items (λ k d low. (c.requires.6 k d low).0) handles served,
+          c.captures.sessions.items c.loop-start-2.serving.items b.served.items (λ k d low. (c.requires.0.sessions_are k d low).0) handles served,
       through (λ k s. Unit {0}) PW (λ k h r. IsWorked h.promise.began.value r.pass r.seat) (λ k s r. IsWorked s.pass r.pass r.seat)
           (λ k s h r a p q. subst (λ t. IsWorked t r.pass r.seat) p q)
           c.captures.workers.items c.loop-start.working.items b.worked.items (λ k d low. tt) hands worked,
     ))
-    c.join_all.result c.join_all.ensures.served c.join_all.ensures.worked c.join_all.ensures.all
+    c.join_all-back.result c.join_all-back.ensures.served c.join_all-back.ensures.worked

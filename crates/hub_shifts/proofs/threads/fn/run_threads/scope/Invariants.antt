@@ -8,7 +8,7 @@ invariant-loop-start g l =
     (l.lane ≡ length l.yielded)
     × (vec_len l.working ≤ length l.yielded)
     × (vec_capacity l.working ≡ vec_capacity l.initial.working)
-    × (l.all ≡ true → EachPair (λ k s h. h.promise.began.value ≡ s.pass) l.yielded l.working.items)
+    × (l.all_started ≡ true → EachPair (λ k s h. h.promise.began.value ≡ s.pass) l.yielded l.working.items)
 
 -- and the same of the sessions
 abbrev pub invariant-loop-start-2 : goal.invariant-loop-start-2
@@ -16,4 +16,4 @@ invariant-loop-start-2 g l =
     (l.place ≡ length l.yielded)
     × (vec_len l.serving ≤ length l.yielded)
     × (vec_capacity l.serving ≡ vec_capacity l.initial.serving)
-    × (l.all ≡ true → (l.initial.all ≡ true) × EachPair (λ k s h. (h.promise.session ≡ s.session) × (h.promise.began.value ≡ s.pass)) l.yielded l.serving.items)
+    × (l.all_started ≡ true → (l.initial.all_started ≡ true) × EachPair (λ k s h. (h.promise.session ≡ s.session) × (h.promise.began.value ≡ s.pass)) l.yielded l.serving.items)

@@ -4,9 +4,9 @@ use Rattle.std.proofs.lemmas.Iterator.Consumers.{YieldsList-turn}
 use Rattle.std.proofs.lemmas.Iterator.Adapters.{YieldsList-from_vec}
 use Rattle.inbox.specs.States.{PassState, new_pass}
 use Rattle.hub_workers.specs.declared.ends.SessionStart.{SessionStart}
-use Rattle.hub_workers.specs.Lanes.{LaneState, EachAt, of_lane, HandsOut, EachLane}
+use Rattle.hub_workers.specs.Lanes.{LaneState, IsPassOf, EachAt, of_lane, HandsOut, EachLane}
 use Rattle.hub_workers.proofs.FallLemmas.{EachAt-push, of_lane-fits, one_more, hands_more}
-use Rattle.hub_workers.proofs.lane.seat_sessions.Goals as goal
+use Rattle.hub_workers.proofs.lane.start_sessions.Goals as goal
 
 pub hand_out-pass-requires : goal.hand_out-pass-requires
 hand_out-pass-requires g c =
@@ -47,12 +47,12 @@ loop-reader-preserved g c =
     let found : lane ≡ get_or now j lane = subst (λ m. lane ≡ get_or now (c.len-session.result % m) lane) same c.index-lanes-lane.is in
     let inside : j < length now = omega (arith, same, within) in
     let read : (d : LaneState) → lane ≡ get_or now j d = λ d. get_or_read now j lane inside found d in
-    let given : (d : LaneState) → c.hand_out-pass.result ≡ new_pass (get_or old (length starts % n) d).id 1 =
+    let given : IsPassOf old (length starts % n) c.hand_out-pass.result =
     λ d.
     let kept = (c.loop-reader.invariant.2 j d within).id in
     let id : lane.id ≡ (get_or old j d).id = ap (λ (r : LaneState). r.id) (read d) ∙ kept in
     c.hand_out-pass.ensures.pass ∙ (ap (λ (r : LaneState). new_pass r.id 1) (sym c.index-lanes-lane.is) ∙ ap (λ i. new_pass i 1) id ∙ ap (λ m. new_pass (get_or old m d).id 1) falls) in
-    let P : ℕ → SessionStart g.row.S.Denot g.row.K.Denot → Type 0 = λ i s. (s.session ≡ i) × ((d : LaneState) → s.pass ≡ new_pass (get_or old (i % n) d).id 1) in
+    let P : ℕ → SessionStart g.row.S.Denot g.row.K.Denot → Type 0 = λ i s. (s.session ≡ i) × IsPassOf old (i % n) s.pass in
     let all = one_more (λ a b l. HandsOut a b (length l)) hands_more n old now j c.hand_out-pass.new.self starts start refl same falls within c.loop-reader.invariant.2 (λ d. subst (λ r. HandsOut r c.hand_out-pass.new.self 1) (sym c.index-lanes-lane.is ∙ read d) c.hand_out-pass.ensures.after) in (
       search (rules, longer),
       subst (EachAt P) (sym grown) (EachAt-push P starts start c.loop-reader.invariant.1 (numbered, given)),

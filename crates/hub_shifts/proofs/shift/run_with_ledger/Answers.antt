@@ -1,0 +1,85 @@
+use Rattle.std.proofs.Common.{rules, arith, ap, sym, subst, ◌∙◌, ◌≡◌, ◌+◌, ◌%◌, List, length, get_or}
+use Rattle.inbox.specs.States.{PassState, new_pass}
+use Rattle.hub_workers.specs.declared.ends.SessionStart.{SessionStart}
+use Rattle.hub_workers.specs.declared.ends.Served.{Served}
+use Rattle.hub_workers.specs.declared.worker.Worker.{Worker}
+use Rattle.hub_workers.specs.Lanes.{LaneState, new_lane, of_lane, HandsOut}
+use Rattle.hub_workers.specs.Ends.{IsServed, IsWorked}
+use Rattle.hub_shifts.specs.Starts.{CanBegin}
+use Rattle.hub_workers.proofs.FallLemmas.{of_lane-alike}
+use Rattle.hub_shifts.proofs.ThreadLemmas.{each_given}
+use Rattle.hub_shifts.proofs.shift.run_with_ledger.Goals as goal
+
+pub run_threads-requires : goal.run_threads-requires
+run_threads-requires g c =
+    let places = c.in_ok-lanes.field-0 in
+    let known = c.in_ok-lanes.ensures in
+    let now = c.as_slice.result.now in
+    let shown : now ≡ places.lanes.items = c.as_slice.ensures.value in
+    let size : length now ≡ c.args.setup.workers = c.as_slice.ensures.len ∙ known.counts.0 in
+    let queues = c.as_slice-2.ensures.len in
+    let made = c.in_ok-answers.ensures in
+    let counted = c.len.ensures in
+    let worked = places.workers.ok.0 in
+    let served = places.sessions.ok.0 in
+    let all_workers = known.counts.1 in
+    let all_sessions = known.counts.2 in
+    let some = c.requires.workers.0 in
+    let few = c.requires.workers.1 in
+    let few_sessions = c.requires.sessions.1 in
+    let begin : CanBegin {S = g.row.S.Denot} {K = g.row.K.Denot} {L = g.row.L.Denot} now (length c.as_slice-2.result.now) places.sessions.items places.workers.items =
+    record {
+      some_lanes = omega (arith, size, some);
+      few_lanes = omega (arith, size, few);
+      few_sessions = omega (arith, served, all_sessions, few_sessions);
+      worker_count = omega (arith, worked, all_workers, size);
+      queue_count = omega (arith, queues, made, counted, served);
+      workers_are = λ k w low.
+          let each = known.workers k w low in (
+            each.0,
+            λ d. each.1 d ∙ ap (λ (l : List LaneState). new_pass (get_or l k d).id 1) (sym shown),
+          );
+      sessions_are = λ i s low.
+          let each = known.sessions i s low in (
+            each.0,
+            λ d.
+                each.1 d ∙ (ap (λ (l : List LaneState). new_pass (get_or l (i % c.args.setup.workers) d).id 1) (sym shown)
+                ∙ ap (λ n. new_pass (get_or now (i % n) d).id 1) (sym size)),
+          );
+    } in
+    search (rules, begin)
+
+pub end_shift-requires-clause-lanes : goal.end_shift-requires-clause-lanes
+end_shift-requires-clause-lanes g c =
+    let lanes = c.in_ok-lanes.field-0.lanes in
+    let sessions = c.in_ok-lanes.field-0.sessions.items in
+    let served = c.in_ok-back.back.served.items in
+    let size : length lanes.items ≡ c.args.setup.workers = sym lanes.ok.0 ∙ c.in_ok-lanes.ensures.counts.0 in
+    λ k l low.
+    let known = c.in_ok-lanes.ensures.lanes k l low in
+    let alike = of_lane-alike k c.args.setup.workers 0 sessions served (sym c.in_ok-back.ensures.served.0) in
+    subst (λ m. HandsOut (new_lane (get_or lanes.items k l).id) (get_or lanes.items k l) (1 + m)) (alike ∙ ap (λ n. length (of_lane k n 0 served)) (sym size)) known
+
+pub end_shift-requires-clause-served : goal.end_shift-requires-clause-served
+end_shift-requires-clause-served g c =
+    let lanes = c.in_ok-lanes.field-0.lanes in
+    let size : length lanes.items ≡ c.args.setup.workers = sym lanes.ok.0 ∙ c.in_ok-lanes.ensures.counts.0 in
+    let pass_of : SessionStart g.row.S.Denot g.row.K.Denot → PassState = λ s. s.pass in
+    each_given (λ i t (r : Served). IsServed i t r.end r.tally.entries r.pass) pass_of (λ i (d : LaneState). new_pass (get_or lanes.items (i % length lanes.items) d).id 1)
+    c.in_ok-lanes.field-0.sessions.items c.in_ok-back.back.served.items
+    (λ i s low d. (c.in_ok-lanes.ensures.sessions i s low).1 d ∙ ap (λ n. new_pass (get_or lanes.items (i % n) d).id 1) (sym size))
+    c.in_ok-back.ensures.served
+
+pub end_shift-requires-clause-worked : goal.end_shift-requires-clause-worked
+end_shift-requires-clause-worked g c =
+    let lanes = c.in_ok-lanes.field-0.lanes in
+    let workers = c.in_ok-lanes.field-0.workers in
+    let size : length lanes.items ≡ c.args.setup.workers = sym lanes.ok.0 ∙ c.in_ok-lanes.ensures.counts.0 in
+    let many : length workers.items ≡ c.args.setup.workers = sym workers.ok.0 ∙ c.in_ok-lanes.ensures.counts.1 in
+    let pass_of : Worker g.row.L.Denot → PassState = λ w. w.pass in (
+      c.in_ok-back.ensures.worked.0 ∙ (many ∙ sym size),
+      each_given (λ k t (r : Worker g.row.L.Denot). IsWorked t r.pass r.seat) pass_of (λ k (d : LaneState). new_pass (get_or lanes.items k d).id 1)
+          workers.items c.in_ok-back.back.worked.items
+          (λ k w low d. (c.in_ok-lanes.ensures.workers k w low).1 d)
+          c.in_ok-back.ensures.worked,
+    )
