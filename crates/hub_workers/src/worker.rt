@@ -28,7 +28,7 @@ pub struct WorkerContext<'x, L: Ledger, G> {
 /// Takes jobs, makes their calls and answers their sessions, until the queue was ended and is found empty.
 ///
 /// It put nothing. While the faults of its seat are below 2^60, it took as many jobs as its seat counted calls and faults.
-/// The answer to a job is put into the queue at its session's place in the context's `answers`; where there is none it is dropped.
+/// The answer to a job is put into the queue at its session's place in `context.answers`; where there is none it is dropped.
 pub fn work<L: Ledger, G: Gate, R: Wait>(
     rt: &R,
     context: &WorkerContext<'_, L, G>,

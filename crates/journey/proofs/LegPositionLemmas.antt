@@ -6,7 +6,7 @@ use Rattle.std.proofs.lemmas.List.Sums.{fold-append}
 use Rattle.trip_plan.specs.declared.parts.Leg.{Leg}
 use Rattle.journey.specs.declared.event.Event.{Event}
 use Rattle.journey.specs.Stages.{stage, stage_after, leg_index, is_reception, plan, plan_in}
-use Rattle.journey.specs.Legs.{LegPosition, leg_position, leg_position_after, index_after, legs, legs_after, with_minutes}
+use Rattle.journey.specs.Legs.{LegPosition, leg_position, leg_position_after, index_after, legs, legs_after, with_leg_minutes}
 use Rattle.journey.proofs.NewestLemmas.{newest-push}
 
 pub stage-push : (events : List Event) (e : Event) → stage (events ++ e ∷ []) ≡ option_or (stage_after e.body) (stage events)
@@ -32,7 +32,7 @@ legs-push events e =
     ap (λ c. legs_after c (legs events) e.body) (course_index events)
 
 -- a leg's time leaves the number of legs
-pub timed_length : (ls : List Leg) (i minutes : ℕ) → length (with_minutes ls i minutes) ≡ length ls
+pub timed_length : (ls : List Leg) (i minutes : ℕ) → length (with_leg_minutes ls i minutes) ≡ length ls
 timed_length [] i minutes = refl
 timed_length (l ∷ ls) zero minutes = refl
 timed_length (l ∷ ls) (suc i) minutes = ap suc (timed_length ls i minutes)

@@ -13,7 +13,7 @@ use Rattle.journey.specs.declared.event.EventBody.{EventBody}
 use Rattle.journey.specs.declared.event.EventBody.TheVariants.{Planned, Moved, EstimateAsked, LegTimed, Offered, Answered, Withdrawn, Rerouted}
 use Rattle.journey.specs.Words.{newest}
 use Rattle.journey.specs.Stages.{leg_index, is_reception}
-use Rattle.journey.specs.Legs.{legs, legs_after, index_after, with_minutes}
+use Rattle.journey.specs.Legs.{legs, legs_after, index_after, with_leg_minutes}
 use Rattle.journey.specs.JourneyStates.{journey_state, journey_state_after}
 use Rattle.journey.specs.Checks.{checks}
 use Rattle.journey.specs.TrackStates.{IsSound}
@@ -115,22 +115,22 @@ routed_leg ls route c i n minutes put on size h = elim (split i c) [
 ]
 
 -- the leg that takes other minutes
-timed_same : (ls : List Leg) (t minutes : ℕ) → slice_get (with_minutes ls t minutes) t ≡ option_map (with_minutes minutes) (slice_get ls t)
+timed_same : (ls : List Leg) (t minutes : ℕ) → slice_get (with_leg_minutes ls t minutes) t ≡ option_map (with_minutes minutes) (slice_get ls t)
 timed_same [] t minutes = refl
 timed_same (l ∷ ls) zero minutes = refl
 timed_same (l ∷ ls) (suc t) minutes = timed_same ls t minutes
 
 -- any other leg
-timed_other : (ls : List Leg) (t minutes i : ℕ) → (i ≡ t → ⊥) → slice_get (with_minutes ls t minutes) i ≡ slice_get ls i
+timed_other : (ls : List Leg) (t minutes i : ℕ) → (i ≡ t → ⊥) → slice_get (with_leg_minutes ls t minutes) i ≡ slice_get ls i
 timed_other [] t minutes i h = refl
 timed_other (l ∷ ls) zero minutes zero h = absurd (h refl)
 timed_other (l ∷ ls) zero minutes (suc i) h = refl
 timed_other (l ∷ ls) (suc t) minutes zero h = refl
 timed_other (l ∷ ls) (suc t) minutes (suc i) h = timed_other ls t minutes i (λ e. h (ap suc e))
 
-slice_get-with_minutes : (ls : List Leg) (t minutes i : ℕ) →
-    slice_get (with_minutes ls t minutes) i ≡ (if i == t then option_map (with_minutes minutes) (slice_get ls i) else slice_get ls i)
-slice_get-with_minutes ls t minutes i = elim (eqb_tells i t) [
+slice_get-with_leg_minutes : (ls : List Leg) (t minutes i : ℕ) →
+    slice_get (with_leg_minutes ls t minutes) i ≡ (if i == t then option_map (with_minutes minutes) (slice_get ls i) else slice_get ls i)
+slice_get-with_leg_minutes ls t minutes i = elim (eqb_tells i t) [
   | inl h ↦ rw (h.0, h.1) (timed_same ls t minutes)
   | inr h ↦ rw h.0 (timed_other ls t minutes i h.1)
 ]
@@ -149,7 +149,7 @@ next_leg : (ls : List Leg) (c : ℕ) (body : EventBody) (i : ℕ) (count minutes
 next_leg ls c (Planned plan) i count minutes put on size h = planned_leg plan.legs i minutes put
 next_leg ls c (Rerouted route) i count minutes put on size h = routed_leg ls route c i (unwrap_or count 0) minutes put on size h
 next_leg ls c (LegTimed t m) i count minutes put on size h =
-    slice_get-with_minutes ls t m i ∙ ap (λ o. if i == t then option_map (with_minutes m) o else o) h ∙
+    slice_get-with_leg_minutes ls t m i ∙ ap (λ o. if i == t then option_map (with_minutes m) o else o) h ∙
     timed_leg (i == t) (nat_lt i (unwrap_or count 0)) m minutes put
 next_leg ls c (Moved what) i count minutes put on size h = h
 next_leg ls c EstimateAsked i count minutes put on size h = h
@@ -217,7 +217,7 @@ pub reroute_undoes_times : RerouteUndoesTimes
 reroute_undoes_times = record {
   is_journey = ((omega arith, omega arith), (refl, (refl, (refl, tt))));
   planned = refl;
-  with_minutes = refl;
+  timed = refl;
   rerouted = refl;
   timed_again = refl;
 }

@@ -18,16 +18,16 @@ pub record LegPosition : Type 0 where
   pub legs : List Leg
 
 -- the legs, of which leg i takes these minutes
-abbrev pub with_minutes : List Leg → ℕ → ℕ → List Leg
-with_minutes [] i minutes = []
-with_minutes (leg ∷ legs) zero minutes = record leg { minutes = minutes } ∷ legs
-with_minutes (leg ∷ legs) (suc i) minutes = leg ∷ with_minutes legs i minutes
+abbrev pub with_leg_minutes : List Leg → ℕ → ℕ → List Leg
+with_leg_minutes [] i minutes = []
+with_leg_minutes (leg ∷ legs) zero minutes = record leg { minutes = minutes } ∷ legs
+with_leg_minutes (leg ∷ legs) (suc i) minutes = leg ∷ with_leg_minutes legs i minutes
 
 -- the legs after an event that comes on leg c: a plan sets them all, a route those after c, and a leg's time its minutes
 abbrev pub legs_after : ℕ → List Leg → EventBody → List Leg
 legs_after c legs (Planned plan) = plan.legs
 legs_after c legs (Rerouted route) = take (c + 1) legs ++ route
-legs_after c legs (LegTimed leg minutes) = with_minutes legs leg minutes
+legs_after c legs (LegTimed leg minutes) = with_leg_minutes legs leg minutes
 legs_after c legs _ = legs
 
 -- the leg after an event

@@ -111,6 +111,6 @@ second_minutes n = option_map (λ l. l.minutes) (leg (take n rerouted_journey) 1
 pub record RerouteUndoesTimes : Type 0 where
   pub is_journey : IsJourney rerouted_journey
   pub planned : second_minutes 1 ≡ Some 200
-  pub with_minutes : second_minutes 2 ≡ Some 250
+  pub timed : second_minutes 2 ≡ Some 250
   pub rerouted : second_minutes 3 ≡ Some 180
   pub timed_again : second_minutes 4 ≡ Some 190

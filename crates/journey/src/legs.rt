@@ -1,5 +1,5 @@
 ghost use Rattle.std.specs.Prelude.{◌≡◌, ℕ, ◌+◌, ◌<◌, ◌≤◌, ◌++◌, length, take, slice_get};
-ghost use Rattle.journey.specs.Legs.{with_minutes};
+ghost use Rattle.journey.specs.Legs.{with_leg_minutes};
 
 use std::marker::Model;
 use trip_plan::Leg;
@@ -73,7 +73,7 @@ impl Legs {
 
     /// Gives this leg, if there is such a leg, these minutes.
     pub(crate) fn time(&mut self, leg: usize, minutes: u32)
-        ensures { self.new ≡ with_minutes self.old leg minutes }
+        ensures { self.new ≡ with_leg_minutes self.old leg minutes }
     {
         if leg < self.count {
             self.row.items[leg].minutes = minutes;

@@ -1,8 +1,8 @@
-use Rattle.std.proofs.Common.{rules, ◌≡◌, ℕ, ◌+◌, ◌%◌, ◌<◌, ◌≤◌, [], ◌∷◌, ◌++◌, length, vec_len, slice_index_or, set, sym, ap, ◌∙◌, subst, refl, arith, length-append, get_or}
+use Rattle.std.proofs.Common.{rules, ◌≡◌, ℕ, ◌+◌, ◌%◌, ◌<◌, ◌≤◌, [], ◌∷◌, ◌++◌, length, set, sym, ap, ◌∙◌, subst, refl, arith, length-append, get_or}
 use Rattle.std.proofs.lemmas.List.{get_or_read}
 use Rattle.std.proofs.lemmas.Iterator.Consumers.{YieldsList-turn}
 use Rattle.std.proofs.lemmas.Iterator.Adapters.{YieldsList-from_vec}
-use Rattle.inbox.specs.States.{PassState, new_pass}
+use Rattle.inbox.specs.States.{new_pass}
 use Rattle.hub_workers.specs.declared.ends.SessionStart.{SessionStart}
 use Rattle.hub_workers.specs.Lanes.{LaneState, IsPassOf, EachAt, of_lane, HandsOut, EachLane}
 use Rattle.hub_workers.proofs.FallLemmas.{EachAt-push, of_lane-fits, one_more, hands_more}

@@ -1,5 +1,5 @@
-use Rattle.std.proofs.Common.{rules, arith, ap, sym, refl, subst, ◌∙◌, ◌≡◌, ℕ, ◌+◌, ◌%◌, ◌<◌, ◌≤◌, List, length, get_or}
-use Rattle.inbox.specs.States.{PassState, new_pass}
+use Rattle.std.proofs.Common.{arith, ap, sym, subst, ◌∙◌, ◌≡◌, ◌+◌, ◌%◌, ◌<◌, List, length, get_or}
+use Rattle.inbox.specs.States.{new_pass}
 use Rattle.hub_shared.specs.Seats.{new_seat}
 use Rattle.hub_workers.specs.declared.ends.SessionStart.{SessionStart}
 use Rattle.hub_workers.specs.declared.worker.Worker.{Worker}
