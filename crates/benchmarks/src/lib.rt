@@ -17,7 +17,7 @@
 //! | `lane` | a job from one thread to another, through an inbox and through a plain queue (`lane of a plain queue`) | 1,000,000 |
 //! | `shift` | a call of one of eight sessions with sixteen on the way, made by one of two workers on one hub | 200,000 |
 //!
-//! `bench schedules [COUNT [FIRST]]` plays the schedules of COUNT seeds from FIRST on (1,000 from 1 on), and prints how many things were
+//! `bench schedules [COUNT [FIRST]]` runs the schedules of COUNT seeds from FIRST on (1,000 from 1 on), and prints how many things were
 //! tried. It ends with a fault at a seed in whose schedule a session said something else than in lock step ([`schedules`]).
 //!
 //! What is made is made before the clock starts. Promised: which name is which benchmark ([`Bench::named`]), and what

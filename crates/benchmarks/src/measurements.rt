@@ -3,7 +3,7 @@ use crate::measured::Measured;
 use crate::words::Asked;
 use crate::{codec, copies, journeys, lanes, report, shifts, trips};
 use anyhow::Result;
-use schedules::play_seeds;
+use schedules::run_seeds;
 use std::alloc::Global;
 use std::io::Write;
 use std::sync::Wait;
@@ -20,7 +20,7 @@ pub fn perform<W: Write>(
     match asked {
         Asked::Names => print_names(output),
         Asked::Run { bench, count } => measure(rt, alloc, output, bench, count),
-        Asked::Schedules { count, first } => play_schedules(rt, alloc, output, count, first),
+        Asked::Schedules { count, first } => run_schedules(rt, alloc, output, count, first),
     }
 }
 
@@ -56,7 +56,7 @@ fn measure<W: Write>(
     Ok(())
 }
 
-fn play_schedules<W: Write>(
+fn run_schedules<W: Write>(
     clock: &impl Clock,
     alloc: Global,
     output: &mut W,
@@ -64,7 +64,7 @@ fn play_schedules<W: Write>(
     first: u64,
 ) -> Result<()> {
     let start = Instant::now(clock)?;
-    let counts = play_seeds(alloc, first, count)?;
+    let counts = run_seeds(alloc, first, count)?;
     let measured = Measured::since(clock, start, count)?;
     output.write_fmt(format_args!("schedules: {measured}; {counts}\n"))?;
     Ok(())

@@ -14,7 +14,7 @@ pub enum Asked {
     Schedules { count: u64, first: u64 },
 }
 
-// How many schedules are played where no count is given.
+// How many schedules are run where no count is given.
 const USUAL_SCHEDULES: u64 = 1_000;
 
 /// What the words after the program's name ask for.

@@ -8,7 +8,7 @@ ghost use Rattle.call_reader.specs.Reading.{Gives};
 use crate::unit_loads::UnitLoads;
 use crate::value::{DecodeError, FromJson};
 use json::Scratch;
-use json_tokens::{FlatRecord, JsonValue};
+use json_tokens::{FlatRecord, JsonTape, JsonValue};
 use serde_json::Value;
 use std::alloc::Global;
 use taf_codes::Railway;
@@ -58,36 +58,44 @@ impl CallReader {
     }
 }
 
-// The call that a text is. Most records have no lists, and are read without a tree.
+// The call that a text is. Most records have no lists, and are read into one list of their fields.
 fn read_line(alloc: Global, text: &str, scratch: &mut Scratch) -> Result<Call, RecordFault>
     ensures { Gives result (reading.call_read (read_text text.now)) }
 {
-    match FlatRecord::read(alloc, text, scratch)? {
-        Some(record) => read_record(Fields {
-            alloc,
-            value: JsonValue::Flat(&record),
-        }),
-        None => read_tree(alloc, text),
+    if let Some(record) = FlatRecord::read(alloc, text, scratch)? {
+        let value = JsonValue::Flat(&record);
+        return read_record(&Fields { alloc, value });
     }
+    read_tape(alloc, text, scratch)
+}
+
+// The call that a text is, by its tape. A tree is needed only where a number is no whole one, or for
+// what is no JSON.
+fn read_tape(alloc: Global, text: &str, scratch: &mut Scratch) -> Result<Call, RecordFault>
+    ensures { Gives result (reading.call_read (read_text text.now)) }
+{
+    if let Some(tape) = JsonTape::read(alloc, text, scratch)? {
+        let value = JsonValue::Tape(tape.root());
+        return read_record(&Fields { alloc, value });
+    }
+    read_tree(alloc, text)
 }
 
 // The call that a text is, by its tree.
 fn read_tree(alloc: Global, text: &str) -> Result<Call, RecordFault>
     ensures { Gives result (reading.call_read (read_text text.now)) }
 {
-    let value = match Value::from_str(alloc, text) {
-        Ok(value) => value,
+    let tree = match Value::from_str(alloc, text) {
+        Ok(tree) => tree,
         Err(error) if error.is_memory() => return Err(RecordFault::Memory),
         Err(_) => return Err(RecordFault::BadJson),
     };
-    read_record(Fields {
-        alloc,
-        value: JsonValue::Tree(&value),
-    })
+    let value = JsonValue::Tree(&tree);
+    read_record(&Fields { alloc, value })
 }
 
 // The fields of a record, and where the lists of its call are to lie.
-#[derive(Clone, Copy)]
+#[derive(Drop)]
 struct Fields<'r, 'a> {
     alloc: Global,
     value: JsonValue<'r, 'a>,
@@ -95,14 +103,13 @@ struct Fields<'r, 'a> {
 
 impl Fields<'_, '_> {
     // The value of a field.
-    fn read<T: FromJson>(self, field: Field) -> Result<T, RecordFault>
-        ensures { Gives result (reading.field_of T.good field (json_value_data self.entry.value)) }
+    fn read<T: FromJson>(&self, field: Field) -> Result<T, RecordFault>
+        ensures { Gives result (reading.field_of T.good field (json_value_data self.now.value)) }
     {
-        let value = self
-            .value
-            .get(field.name())
-            .ok_or(RecordFault::MissingField(field))?;
-        match T::of_value(self.alloc, value) {
+        let Some(value) = self.value.get(field.name()) else {
+            return Err(RecordFault::MissingField(field));
+        };
+        match T::of_value(self.alloc, &value) {
             Ok(value) => Ok(value),
             Err(DecodeError::Bad) => Err(RecordFault::BadField(field)),
             Err(DecodeError::Memory) => Err(RecordFault::Memory),
@@ -110,14 +117,14 @@ impl Fields<'_, '_> {
     }
 
     // The value of a field that may be absent or null.
-    fn read_if<T: FromJson>(self, field: Field) -> Result<Option<T>, RecordFault>
+    fn read_if<T: FromJson>(&self, field: Field) -> Result<Option<T>, RecordFault>
         ensures { Gives result
-            (reading.optional_field_of T.good field (json_value_data self.entry.value)) }
+            (reading.optional_field_of T.good field (json_value_data self.now.value)) }
     {
         match self.value.get(field.name()) {
             None => Ok(None),
             Some(value) if value.is_null() => Ok(None),
-            Some(value) => match T::of_value(self.alloc, value) {
+            Some(value) => match T::of_value(self.alloc, &value) {
                 Ok(value) => Ok(Some(value)),
                 Err(DecodeError::Bad) => Err(RecordFault::BadField(field)),
                 Err(DecodeError::Memory) => Err(RecordFault::Memory),
@@ -125,20 +132,22 @@ impl Fields<'_, '_> {
         }
     }
 
-    fn kind(self) -> Result<Kind, RecordFault>
-        ensures { result ≡ reading.kind_of (json_value_data self.entry.value) }
+    fn kind(&self) -> Result<Kind, RecordFault>
+        ensures { result ≡ reading.kind_of (json_value_data self.now.value) }
     {
-        self.value
-            .get("kind")
-            .and_then(JsonValue::as_str)
-            .and_then(Kind::named)
-            .ok_or(RecordFault::BadKind)
+        match self.value.get("kind") {
+            Some(value) => value
+                .as_str()
+                .and_then(Kind::named)
+                .ok_or(RecordFault::BadKind),
+            None => Err(RecordFault::BadKind),
+        }
     }
 }
 
 #[tactic(auto, unfolding(crate::specs::Reading::call_of, crate::specs::Reading::call_of_kind))]
-fn read_record(fields: Fields) -> Result<Call, RecordFault>
-    ensures { Gives result (reading.call_of (json_value_data fields.entry.value)) }
+fn read_record(fields: &Fields<'_, '_>) -> Result<Call, RecordFault>
+    ensures { Gives result (reading.call_of (json_value_data fields.now.value)) }
 {
     if !fields.value.is_object() {
         return Err(RecordFault::BadJson);
@@ -172,8 +181,8 @@ fn read_record(fields: Fields) -> Result<Call, RecordFault>
 }
 
 #[tactic(auto, using(crate::proofs::SentLemmas::read_from_its_lead), unfolding(crate::specs::Reading::message_of))]
-fn read_message(fields: Fields, name: BodyName) -> Result<Message, RecordFault>
-    ensures { Gives result (reading.message_of name (json_value_data fields.entry.value)) }
+fn read_message(fields: &Fields<'_, '_>, name: BodyName) -> Result<Message, RecordFault>
+    ensures { Gives result (reading.message_of name (json_value_data fields.now.value)) }
 {
     let by = fields.read(Field::From)?;
     let content = Content {
@@ -188,8 +197,8 @@ fn read_message(fields: Fields, name: BodyName) -> Result<Message, RecordFault>
 }
 
 #[tactic(auto, unfolding(crate::specs::Reading::body_of))]
-fn read_body(fields: Fields, by: Railway, name: BodyName) -> Result<Body, RecordFault>
-    ensures { Gives result (reading.body_of name by (json_value_data fields.entry.value)) }
+fn read_body(fields: &Fields<'_, '_>, by: Railway, name: BodyName) -> Result<Body, RecordFault>
+    ensures { Gives result (reading.body_of name by (json_value_data fields.now.value)) }
 {
     match name {
         BodyName::Plan => Ok(Body::Plan(read_plan(fields, by)?)),
@@ -217,8 +226,8 @@ fn read_body(fields: Fields, by: Railway, name: BodyName) -> Result<Body, Record
 }
 
 #[tactic(auto, unfolding(crate::specs::Reading::movement_of))]
-fn read_movement(fields: Fields, name: MovementName) -> Result<Movement, RecordFault>
-    ensures { Gives result (reading.movement_of name (json_value_data fields.entry.value)) }
+fn read_movement(fields: &Fields<'_, '_>, name: MovementName) -> Result<Movement, RecordFault>
+    ensures { Gives result (reading.movement_of name (json_value_data fields.now.value)) }
 {
     Ok(Movement {
         wagon: fields.read(Field::Wagon)?,
@@ -228,8 +237,11 @@ fn read_movement(fields: Fields, name: MovementName) -> Result<Movement, RecordF
 }
 
 #[tactic(auto, unfolding(crate::specs::Reading::movement_kind_of))]
-fn read_movement_kind(fields: Fields, name: MovementName) -> Result<MovementKind, RecordFault>
-    ensures { Gives result (reading.movement_kind_of name (json_value_data fields.entry.value)) }
+fn read_movement_kind(
+    fields: &Fields<'_, '_>,
+    name: MovementName,
+) -> Result<MovementKind, RecordFault>
+    ensures { Gives result (reading.movement_kind_of name (json_value_data fields.now.value)) }
 {
     match name {
         MovementName::Release => Ok(MovementKind::Release),
@@ -250,8 +262,8 @@ fn read_movement_kind(fields: Fields, name: MovementName) -> Result<MovementKind
 }
 
 #[tactic(auto, unfolding(crate::specs::Reading::offer_of))]
-fn read_offer(fields: Fields) -> Result<TrainOffer, RecordFault>
-    ensures { Gives result (reading.offer_of (json_value_data fields.entry.value)) }
+fn read_offer(fields: &Fields<'_, '_>) -> Result<TrainOffer, RecordFault>
+    ensures { Gives result (reading.offer_of (json_value_data fields.now.value)) }
 {
     Ok(TrainOffer {
         at: fields.read(Field::At)?,
@@ -263,8 +275,8 @@ fn read_offer(fields: Fields) -> Result<TrainOffer, RecordFault>
 }
 
 #[tactic(auto, unfolding(crate::specs::Reading::answer_of))]
-fn read_answer(fields: Fields) -> Result<TrainAnswer, RecordFault>
-    ensures { Gives result (reading.answer_of (json_value_data fields.entry.value)) }
+fn read_answer(fields: &Fields<'_, '_>) -> Result<TrainAnswer, RecordFault>
+    ensures { Gives result (reading.answer_of (json_value_data fields.now.value)) }
 {
     Ok(TrainAnswer {
         at: fields.read(Field::At)?,
@@ -277,8 +289,8 @@ fn read_answer(fields: Fields) -> Result<TrainAnswer, RecordFault>
 }
 
 #[tactic(auto, unfolding(crate::specs::Reading::plan_of))]
-fn read_plan(fields: Fields, lead: Railway) -> Result<Plan, RecordFault>
-    ensures { Gives result (reading.plan_of lead (json_value_data fields.entry.value)) }
+fn read_plan(fields: &Fields<'_, '_>, lead: Railway) -> Result<Plan, RecordFault>
+    ensures { Gives result (reading.plan_of lead (json_value_data fields.now.value)) }
 {
     let consignment = fields.read(Field::Consignment)?;
     let load = fields.read(Field::Load)?;
@@ -299,8 +311,8 @@ fn read_plan(fields: Fields, lead: Railway) -> Result<Plan, RecordFault>
 }
 
 // The intermodal units of a plan: absent, null and empty are the same.
-fn read_units(fields: Fields) -> Result<UnitLoads, RecordFault>
-    ensures { Gives result (reading.units_of (json_value_data fields.entry.value)) }
+fn read_units(fields: &Fields<'_, '_>) -> Result<UnitLoads, RecordFault>
+    ensures { Gives result (reading.units_of (json_value_data fields.now.value)) }
 {
     match fields.read_if(Field::Units)? {
         Some(units) => Ok(units),
@@ -308,8 +320,8 @@ fn read_units(fields: Fields) -> Result<UnitLoads, RecordFault>
     }
 }
 
-fn read_route(fields: Fields) -> Result<Route, RecordFault>
-    ensures { Gives result (reading.route_of (json_value_data fields.entry.value)) }
+fn read_route(fields: &Fields<'_, '_>) -> Result<Route, RecordFault>
+    ensures { Gives result (reading.route_of (json_value_data fields.now.value)) }
 {
     let legs: Listed<Leg> = fields.read(Field::Legs)?;
     Ok(Route::new(fields.alloc, legs.as_slice())?)

@@ -1,15 +1,13 @@
 //! What the values of fields are read as.
 ghost use Rattle.std.specs.Prelude.{◌≡◌, ◌≤◌, Option, length};
 ghost use Rattle.serde_json.specs.Data.{Data};
-ghost use Rattle.serde_json.specs.View.{items_view};
-ghost use Rattle.json_tokens.specs.JsonValues.{json_value_data};
+ghost use Rattle.json_tokens.specs.JsonValues.{json_value_data, json_items_data};
 ghost use Rattle.call_reader.specs.Values as good;
 ghost use Rattle.call_reader.specs.Values.{Reads, ReadsList};
 ghost use Rattle.call_reader.specs.declared.value.DecodeError.TheVariants.{Memory};
 
 use crate::unit_loads::UnitLoads;
-use json_tokens::JsonValue;
-use serde_json::Value;
+use json_tokens::{JsonItems, JsonValue};
 use std::alloc::{AllocError, AllocFailed, Global};
 use taf_codes::{ConsignmentId, Place, Railway, TrainId, UnitCode};
 use taf_messages::{Field, Listed, OfferedWagons, Wagons, Within};
@@ -45,14 +43,14 @@ impl<T: Drop> From<AllocFailed<T>> for DecodeError {
 pub(crate) trait FromJson: Sized {
     ghost good: { Data → Option Self };
 
-    fn of_value(alloc: Global, value: JsonValue<'_, '_>) -> Result<Self, DecodeError>
-        ensures { Reads result (good (json_value_data value.entry)) };
+    fn of_value(alloc: Global, value: &JsonValue<'_, '_>) -> Result<Self, DecodeError>
+        ensures { Reads result (good (json_value_data value.now)) };
 }
 
 impl<const LOW: u64, const HIGH: u64> FromJson for Within<LOW, HIGH> {
     ghost good = { good.number LOW HIGH };
 
-    fn of_value(_alloc: Global, value: JsonValue<'_, '_>) -> Result<Self, DecodeError> {
+    fn of_value(_alloc: Global, value: &JsonValue<'_, '_>) -> Result<Self, DecodeError> {
         let number = value.as_u64().ok_or(DecodeError::Bad)?;
         Within::new(number).ok_or(DecodeError::Bad)
     }
@@ -61,7 +59,7 @@ impl<const LOW: u64, const HIGH: u64> FromJson for Within<LOW, HIGH> {
 impl FromJson for u32 {
     ghost good = { good.number 0 4_294_967_295 };
 
-    fn of_value(_alloc: Global, value: JsonValue<'_, '_>) -> Result<u32, DecodeError> {
+    fn of_value(_alloc: Global, value: &JsonValue<'_, '_>) -> Result<u32, DecodeError> {
         let number = value.as_u64().ok_or(DecodeError::Bad)?;
         u32::try_from(number).map_err(|_| DecodeError::Bad)
     }
@@ -70,7 +68,7 @@ impl FromJson for u32 {
 impl FromJson for Railway {
     ghost good = { good.railway };
 
-    fn of_value(_alloc: Global, value: JsonValue<'_, '_>) -> Result<Railway, DecodeError> {
+    fn of_value(_alloc: Global, value: &JsonValue<'_, '_>) -> Result<Railway, DecodeError> {
         let text = value.as_str().ok_or(DecodeError::Bad)?;
         Railway::read(text).map_err(|_| DecodeError::Bad)
     }
@@ -79,7 +77,7 @@ impl FromJson for Railway {
 impl FromJson for Place {
     ghost good = { good.place };
 
-    fn of_value(_alloc: Global, value: JsonValue<'_, '_>) -> Result<Place, DecodeError> {
+    fn of_value(_alloc: Global, value: &JsonValue<'_, '_>) -> Result<Place, DecodeError> {
         let text = value.as_str().ok_or(DecodeError::Bad)?;
         Place::read(text).map_err(|_| DecodeError::Bad)
     }
@@ -88,7 +86,7 @@ impl FromJson for Place {
 impl FromJson for ConsignmentId {
     ghost good = { good.consignment };
 
-    fn of_value(_alloc: Global, value: JsonValue<'_, '_>) -> Result<ConsignmentId, DecodeError> {
+    fn of_value(_alloc: Global, value: &JsonValue<'_, '_>) -> Result<ConsignmentId, DecodeError> {
         let text = value.as_str().ok_or(DecodeError::Bad)?;
         ConsignmentId::read(text).map_err(|_| DecodeError::Bad)
     }
@@ -97,7 +95,7 @@ impl FromJson for ConsignmentId {
 impl FromJson for TrainId {
     ghost good = { good.train };
 
-    fn of_value(_alloc: Global, value: JsonValue<'_, '_>) -> Result<TrainId, DecodeError> {
+    fn of_value(_alloc: Global, value: &JsonValue<'_, '_>) -> Result<TrainId, DecodeError> {
         let text = value.as_str().ok_or(DecodeError::Bad)?;
         TrainId::read(text).map_err(|_| DecodeError::Bad)
     }
@@ -106,7 +104,7 @@ impl FromJson for TrainId {
 impl FromJson for UnitCode {
     ghost good = { good.unit };
 
-    fn of_value(_alloc: Global, value: JsonValue<'_, '_>) -> Result<UnitCode, DecodeError> {
+    fn of_value(_alloc: Global, value: &JsonValue<'_, '_>) -> Result<UnitCode, DecodeError> {
         let text = value.as_str().ok_or(DecodeError::Bad)?;
         UnitCode::read(text).map_err(|_| DecodeError::Bad)
     }
@@ -115,7 +113,7 @@ impl FromJson for UnitCode {
 impl FromJson for Moment {
     ghost good = { good.moment };
 
-    fn of_value(_alloc: Global, value: JsonValue<'_, '_>) -> Result<Moment, DecodeError> {
+    fn of_value(_alloc: Global, value: &JsonValue<'_, '_>) -> Result<Moment, DecodeError> {
         let text = value.as_str().ok_or(DecodeError::Bad)?;
         Moment::read(text).map_err(|_| DecodeError::Bad)
     }
@@ -124,7 +122,7 @@ impl FromJson for Moment {
 impl FromJson for WagonNumber {
     ghost good = { good.wagon };
 
-    fn of_value(_alloc: Global, value: JsonValue<'_, '_>) -> Result<WagonNumber, DecodeError> {
+    fn of_value(_alloc: Global, value: &JsonValue<'_, '_>) -> Result<WagonNumber, DecodeError> {
         let text = value.as_str().ok_or(DecodeError::Bad)?;
         WagonNumber::read(text).map_err(|_| DecodeError::Bad)
     }
@@ -133,7 +131,7 @@ impl FromJson for WagonNumber {
 impl FromJson for Load {
     ghost good = { good.load };
 
-    fn of_value(_alloc: Global, value: JsonValue<'_, '_>) -> Result<Load, DecodeError> {
+    fn of_value(_alloc: Global, value: &JsonValue<'_, '_>) -> Result<Load, DecodeError> {
         let text = value.as_str().ok_or(DecodeError::Bad)?;
         if text == "loaded" {
             Ok(Load::Loaded)
@@ -149,7 +147,7 @@ impl FromJson for Leg {
     ghost good = { good.leg };
 
     #[tactic(auto, unfolding(crate::specs::Values::leg))]
-    fn of_value(alloc: Global, value: JsonValue<'_, '_>) -> Result<Leg, DecodeError> {
+    fn of_value(alloc: Global, value: &JsonValue<'_, '_>) -> Result<Leg, DecodeError> {
         Ok(Leg {
             ru: member_of(alloc, value, Field::Ru)?,
             origin: member_of(alloc, value, Field::Origin)?,
@@ -163,7 +161,7 @@ impl FromJson for UnitLoad {
     ghost good = { good.unit_load };
 
     #[tactic(auto, unfolding(crate::specs::Values::unit_load))]
-    fn of_value(alloc: Global, value: JsonValue<'_, '_>) -> Result<UnitLoad, DecodeError> {
+    fn of_value(alloc: Global, value: &JsonValue<'_, '_>) -> Result<UnitLoad, DecodeError> {
         Ok(UnitLoad {
             unit: member_of(alloc, value, Field::Unit)?,
             wagon: member_of(alloc, value, Field::Wagon)?,
@@ -174,7 +172,7 @@ impl FromJson for UnitLoad {
 impl<T: FromJson + Drop> FromJson for Listed<T> {
     ghost good = { good.list T.good };
 
-    fn of_value(alloc: Global, value: JsonValue<'_, '_>) -> Result<Listed<T>, DecodeError> {
+    fn of_value(alloc: Global, value: &JsonValue<'_, '_>) -> Result<Listed<T>, DecodeError> {
         Ok(Listed::from_vec(items_of(alloc, value)?))
     }
 }
@@ -182,7 +180,7 @@ impl<T: FromJson + Drop> FromJson for Listed<T> {
 impl FromJson for Wagons {
     ghost good = { good.wagons };
 
-    fn of_value(alloc: Global, value: JsonValue<'_, '_>) -> Result<Wagons, DecodeError> {
+    fn of_value(alloc: Global, value: &JsonValue<'_, '_>) -> Result<Wagons, DecodeError> {
         let items = items_of(alloc, value)?;
         Wagons::new(items).ok_or(DecodeError::Bad)
     }
@@ -191,7 +189,7 @@ impl FromJson for Wagons {
 impl FromJson for OfferedWagons {
     ghost good = { good.offered_wagons };
 
-    fn of_value(alloc: Global, value: JsonValue<'_, '_>) -> Result<OfferedWagons, DecodeError> {
+    fn of_value(alloc: Global, value: &JsonValue<'_, '_>) -> Result<OfferedWagons, DecodeError> {
         let items = items_of(alloc, value)?;
         OfferedWagons::new(items).ok_or(DecodeError::Bad)
     }
@@ -200,7 +198,7 @@ impl FromJson for OfferedWagons {
 impl FromJson for UnitLoads {
     ghost good = { good.unit_loads };
 
-    fn of_value(alloc: Global, value: JsonValue<'_, '_>) -> Result<UnitLoads, DecodeError> {
+    fn of_value(alloc: Global, value: &JsonValue<'_, '_>) -> Result<UnitLoads, DecodeError> {
         let items = items_of(alloc, value)?;
         UnitLoads::new(items).ok_or(DecodeError::Bad)
     }
@@ -209,32 +207,53 @@ impl FromJson for UnitLoads {
 // The value under a key of an object.
 fn member_of<T: FromJson>(
     alloc: Global,
-    value: JsonValue<'_, '_>,
+    value: &JsonValue<'_, '_>,
     field: Field,
 ) -> Result<T, DecodeError>
-    ensures { Reads result (good.member T.good field (json_value_data value.entry)) }
+    ensures { Reads result (good.member T.good field (json_value_data value.now)) }
 {
-    let value = value.get(field.name()).ok_or(DecodeError::Bad)?;
-    T::of_value(alloc, value)
+    match value.get(field.name()) {
+        Some(value) => T::of_value(alloc, &value),
+        None => Err(DecodeError::Bad),
+    }
 }
 
 // The items of an array, if each is good.
 fn items_of<T: FromJson + Drop>(
     alloc: Global,
-    value: JsonValue<'_, '_>,
+    value: &JsonValue<'_, '_>,
 ) -> Result<Vec<T>, DecodeError>
-    ensures { ReadsList result (good.list T.good (json_value_data value.entry)) }
+    ensures { ReadsList result (good.list T.good (json_value_data value.now)) }
 {
-    let values = value.as_array().ok_or(DecodeError::Bad)?;
-    each_of(alloc, values)
+    match value.items() {
+        Some(values) => each_of(alloc, values, count_of(value)),
+        None => Err(DecodeError::Bad),
+    }
 }
 
-fn each_of<T: FromJson + Drop>(alloc: Global, values: &[Value]) -> Result<Vec<T>, DecodeError>
-    ensures { ReadsList result (good.each T.good (items_view values.now)) }
+// How many items a list has, for which room is taken.
+fn count_of(value: &JsonValue<'_, '_>) -> usize {
+    let Some(mut values) = value.items() else {
+        return 0;
+    };
+    let mut count: usize = 0;
+    'items: while let Some(_) = values.next() {
+        count = count.saturating_add(1);
+    }
+    count
+}
+
+// The items, if each is good.
+fn each_of<T: FromJson + Drop>(
+    alloc: Global,
+    mut values: JsonItems<'_, '_>,
+    count: usize,
+) -> Result<Vec<T>, DecodeError>
+    ensures { ReadsList result (good.each T.good (json_items_data values.entry)) }
 {
-    let mut items = Vec::with_capacity(alloc, values.len())?;
-    for value in values {
-        let item = T::of_value(alloc, JsonValue::Tree(value))?;
+    let mut items = Vec::with_capacity(alloc, count)?;
+    while let Some(value) = values.next() {
+        let item = T::of_value(alloc, &value)?;
         items.push(item)?;
     }
     Ok(items)

@@ -1,3 +1,3 @@
 pub mod Estimates
 pub mod EstimateStates
-pub mod Held
+pub mod HeldLegs

@@ -26,7 +26,7 @@ impl<'a> Model for Estimates<'a> {
     ghost use Rattle.std.specs.Prelude.{Some};
     ghost use Rattle.eti_chain.specs.Estimates.{basis_from};
     ghost use Rattle.eti_chain.specs.EstimateStates.{EstimatesState, IsWithin, state_with_commitment};
-    ghost use Rattle.eti_chain.specs.Held.{legs_in};
+    ghost use Rattle.eti_chain.specs.HeldLegs.{legs_in};
 
     ghost Value = { EstimatesState };
 

@@ -1,6 +1,6 @@
 //! Legs that are lent, or owned.
 ghost use Rattle.std.specs.Prelude.{◌≡◌};
-ghost use Rattle.eti_chain.specs.Held.{legs_in};
+ghost use Rattle.eti_chain.specs.HeldLegs.{legs_in};
 
 use journey::Legs;
 

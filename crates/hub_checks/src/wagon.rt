@@ -1,14 +1,13 @@
 //! What may be wrong with one wagon that a message names.
-ghost use Rattle.std.specs.Prelude.{◌≡◌, ◌&&◌, ◌++◌, ◌∷◌, [], IfOk, None, Some, true, not, if◌then◌else◌};
+ghost use Rattle.std.specs.Prelude.{◌≡◌, ◌&&◌, ◌++◌, ◌∷◌, [], IfOk, None, Some, not, if◌then◌else◌};
 ghost use Rattle.std.specs.Option.{option_or};
-ghost use Rattle.trip_plan.specs.Rules.{has};
 ghost use Rattle.journey.specs.Stages as stages;
 ghost use Rattle.journey.specs.Checks.{refusal};
 ghost use Rattle.eti_chain.specs.Estimates as estimates;
-ghost use Rattle.hub_model.specs.HubState.{named_wagons};
 ghost use Rattle.hub_model.specs.Faults as of;
 ghost use Rattle.hub_model.specs.Laws.{OpenIsOffered};
 ghost use Rattle.hub_tables.specs.TableStates.{table_state};
+ghost use Rattle.hub_checks.specs.Judging.{NamesWagon};
 
 use hub_tables::{Tables, Wagon};
 use journey::{Event, EventBody};
@@ -22,10 +21,8 @@ pub(crate) fn wagon_fault(
     message: &Message,
     wagon: WagonNumber,
 ) -> Result<Option<Why>, Memory>
-    requires whole { of.whole_fault (table_state tables.now) message.now.by message.now.body
-        ≡ None }
+    requires named { NamesWagon (table_state tables.now) message.now wagon }
     requires offered { OpenIsOffered (table_state tables.now) }
-    requires is_named { has (named_wagons (table_state tables.now).offer message.now) wagon ≡ true }
     ensures { IfOk result (λ why. why
         ≡ of.wagon_fault (table_state tables.now) message.now message.now.body wagon) }
 {
@@ -79,9 +76,7 @@ fn either_fault(
     message: &Message,
     wagon: WagonNumber,
 ) -> Result<Option<Why>, Memory>
-    requires whole { of.whole_fault (table_state tables.now) message.now.by message.now.body
-        ≡ None }
-    requires is_named { has (named_wagons (table_state tables.now).offer message.now) wagon ≡ true }
+    requires named { NamesWagon (table_state tables.now) message.now wagon }
     ensures { IfOk result (λ why. why
         ≡ option_or (of.known_fault (table_state tables.now) message.now wagon)
         (of.calendar_fault (table_state tables.now) message.now wagon)) }
@@ -115,9 +110,7 @@ fn calendar_fault(
     message: &Message,
     wagon: WagonNumber,
 ) -> Result<Option<Why>, Memory>
-    requires whole { of.whole_fault (table_state tables.now) message.now.by message.now.body
-        ≡ None }
-    requires is_named { has (named_wagons (table_state tables.now).offer message.now) wagon ≡ true }
+    requires named { NamesWagon (table_state tables.now) message.now wagon }
     requires admitted { of.known_fault (table_state tables.now) message.now wagon ≡ None }
     ensures { IfOk result (λ why. why
         ≡ of.calendar_fault (table_state tables.now) message.now wagon) }

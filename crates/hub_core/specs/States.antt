@@ -1,5 +1,5 @@
 -- When the hub's state is consistent with its history.
-use Rattle.std.specs.Prelude.{◌≡◌, ℕ, ◌≤◌, List, [], ◌∷◌, ◌++◌, length, slice_get, Option, Some, None, Result, Ok, Err, IfOk, OnErr}
+use Rattle.std.specs.Prelude.{◌≡◌, ℕ, ◌<◌, ◌≤◌, List, [], ◌∷◌, ◌++◌, length, slice_get, Option, Some, None, Result, Ok, Err, IfOk, OnErr}
 use Rattle.taf_codes.specs.declared.memory.Memory.{Memory}
 use Rattle.taf_codes.specs.declared.code.Railway.{Railway}
 use Rattle.taf_messages.specs.declared.call.Call.{Call}
@@ -53,6 +53,14 @@ pub record Represents (history : List Entry) (looked_up : HubState) (position : 
 -- the state of a hub represents its history
 abbrev pub IsConsistent : State → Type 0
 IsConsistent b = Represents b.history.entries (table_state b.tables) (position_of b.seen) (outbox_state_of b.outboxes)
+
+-- a call may be taken: the state is consistent, and its history has room for one entry more
+abbrev pub MayTake : State → Type 0
+MayTake b = IsConsistent b × (length b.history.entries < 1000000)
+
+-- the name of the message was not used before, and the message keeps the limits of its parts
+abbrev pub IsNew : State → Message → Type 0
+IsNew b m = (position_of b.seen m.by m.no ≡ None) × KeepsLimits m
 
 -- the call was applied: the state represents the new history, the reply is the answer, and the history grew by exactly
 -- both; where memory is refused the history is as it was

@@ -1,40 +1,37 @@
 //! New messages that are accepted: first all that may be refused memory, then steps that cannot fail.
-ghost use Rattle.std.specs.Prelude.{◌≡◌, ◌<◌, ◌^◌, length, IfOk, OnOk, None, true};
+ghost use Rattle.std.specs.Prelude.{◌≡◌, ◌<◌, ◌^◌, length, OnOk, None, true};
 ghost use Rattle.taf_codes.specs.declared.code.Railway.{Railway};
 ghost use Rattle.outbox.specs.OutboxStates.{outbox_state_of};
 ghost use Rattle.taf_messages.specs.declared.call.Call.TheVariants as call;
 ghost use Rattle.replay_numbers.specs.SentPositions.{position_of, has_room};
 ghost use Rattle.hub_tables.specs.TableStates.{table_state, IsAcceptable};
-ghost use Rattle.hub_core.specs.States.{Applies, IsConsistent, KeepsLimits};
+ghost use Rattle.hub_core.specs.States.{Applies, IsNew, MayTake};
 ghost use Rattle.hub_core.specs.Delivery.{AreReady};
 
 use crate::delivery::{deliver, make_room_for};
 use crate::state::State;
 use crate::verdicts::{entry_of, verdict};
-use hub_items::items;
-use hub_model::{AddressedItem, items_and_events_are_bounded};
+use hub_items::put_items;
+use hub_model::items_and_events_are_bounded;
 use outbox::boxes_keep_the_lists;
 use std::alloc::Global;
 use taf_codes::{Memory, Railway};
 use taf_messages::{Message, MessageNumber, Reply, Shared};
 
-// Makes room for one entry more, its name and these items. Nothing that is looked up changes.
-fn make_room(
-    state: &mut State,
-    by: Railway,
-    no: MessageNumber,
-    items: &[AddressedItem],
-) -> Result<(), Memory>
+// Makes room for one entry more, its name and the items in the list. Nothing that is looked up changes.
+fn make_room(state: &mut State, by: Railway, no: MessageNumber) -> Result<(), Memory>
     ensures entries { state.new.history.entries ≡ state.old.history.entries }
     ensures tables { state.new.tables ≡ state.old.tables }
     ensures positions { position_of state.new.seen ≡ position_of state.old.seen }
     ensures boxes { (r : Railway) → outbox_state_of state.new.outboxes r
         ≡ outbox_state_of state.old.outboxes r }
-    ensures ready { OnOk result (AreReady state.new.outboxes (2 ^ 62) (length items.now) items.now) }
+    ensures items { state.new.items.items ≡ state.old.items.items }
+    ensures ready { OnOk result (AreReady state.new.outboxes (2 ^ 62)
+        (length state.new.items.items) state.new.items.items) }
     ensures room { OnOk result (0 < state.new.history.spare) }
     ensures name { OnOk result (has_room state.new.seen by no ≡ true) }
 {
-    make_room_for(&mut state.outboxes, items)?;
+    make_room_for(&mut state.outboxes, &state.items)?;
     state.seen.reserve(by, no)?;
     state.history.reserve()?;
     Ok(())
@@ -46,10 +43,8 @@ pub(crate) fn accept(
     state: &mut State,
     message: Shared<Message>,
 ) -> Result<Reply, Memory>
-    requires kept { IsConsistent state.old }
-    requires room { length state.old.history.entries < 1000000 }
-    requires new { position_of state.old.seen message.by message.no ≡ None }
-    requires limits { KeepsLimits message }
+    requires ready { MayTake state.old }
+    requires new { IsNew state.old message }
     requires acceptable { IsAcceptable (table_state state.old.tables) message }
     ensures { Applies state.old state.new (call.Send message) result }
 {
@@ -59,10 +54,10 @@ pub(crate) fn accept(
     let content = sent.content();
     let by = content.by;
     let no = content.no;
-    let items = items(alloc, &state.tables, &message)?;
-    make_room(state, by, no, &items)?;
+    put_items(alloc, &mut state.items, &state.tables, &message)?;
+    make_room(state, by, no)?;
     state.tables.accept(alloc, sent)?;
-    deliver(&mut state.outboxes, items);
+    deliver(&mut state.outboxes, &mut state.items);
     let position = state.history.len() as u64;
     state.seen.note_reserved(by, no, position);
     state

@@ -1,7 +1,7 @@
 //! Acknowledgements.
-ghost use Rattle.std.specs.Prelude.{◌≡◌, ◌<◌, length};
+ghost use Rattle.std.specs.Prelude.{◌≡◌};
 ghost use Rattle.taf_messages.specs.declared.call.Call.TheVariants as call;
-ghost use Rattle.hub_core.specs.States.{Applies, IsConsistent, ack_outcome_reply};
+ghost use Rattle.hub_core.specs.States.{Applies, MayTake, ack_outcome_reply};
 
 use crate::state::State;
 use hub_model::Entry;
@@ -26,8 +26,7 @@ fn reply_of(outcome: Result<u64, AckAhead>) -> Reply
 
 /// Takes an acknowledgement. The items up to its number are dropped.
 pub(crate) fn apply_ack(state: &mut State, by: Railway, item: ItemNumber) -> Result<Reply, Memory>
-    requires kept { IsConsistent state.old }
-    requires room { length state.old.history.entries < 1000000 }
+    requires ready { MayTake state.old }
     ensures { Applies state.old state.new (call.Ack by item) result }
 {
     boxes_keep_the_lists();

@@ -1,6 +1,5 @@
 //! What each call does to the state.
-ghost use Rattle.std.specs.Prelude.{◌<◌, length};
-ghost use Rattle.hub_core.specs.States.{Applies, IsConsistent};
+ghost use Rattle.hub_core.specs.States.{Applies, MayTake};
 
 use crate::ack::apply_ack;
 use crate::ask::{ask_reply, deviation_reply, fetch_reply, unit_reply};
@@ -12,8 +11,7 @@ use taf_messages::{Call, Reply};
 
 /// Takes a call, and gives the reply. Where memory is refused, nothing that is looked up changes.
 pub(crate) fn apply_call(alloc: Global, state: &mut State, call: Call) -> Result<Reply, Memory>
-    requires kept { IsConsistent state.old }
-    requires room { length state.old.history.entries < 1000000 }
+    requires ready { MayTake state.old }
     ensures { Applies state.old state.new call result }
 {
     match call {

@@ -1,5 +1,5 @@
 //! Questions: they change nothing that is looked up.
-ghost use Rattle.std.specs.Prelude.{◌≡◌, IfOk, ◌<◌, ◌∷◌, [], ◌++◌, length, OnOk, OnErr};
+ghost use Rattle.std.specs.Prelude.{◌≡◌, IfOk};
 ghost use Rattle.hub_model.specs.Histories.{answer};
 ghost use Rattle.taf_messages.specs.declared.call.Call.TheVariants as call;
 ghost use Rattle.hub_core.specs.States.{IsConsistent};

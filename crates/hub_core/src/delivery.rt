@@ -21,14 +21,14 @@ pub(crate) fn make_room_for(outboxes: &mut Outboxes, items: &[AddressedItem]) ->
     Ok(())
 }
 
-/// Puts the items into the boxes of their railways. It takes no memory.
-pub(crate) fn deliver(outboxes: &mut Outboxes, items: Vec<AddressedItem>)
-    requires ready { AreReady outboxes.old (2 ^ 62) (length items.items) items.items }
-    requires few { length items.items < 2 ^ 62 }
+/// Moves the items out of the list into the boxes of their railways. It takes no memory, and the list keeps its own.
+pub(crate) fn deliver(outboxes: &mut Outboxes, items: &mut Vec<AddressedItem>)
+    requires ready { AreReady outboxes.old (2 ^ 62) (length items.old.items) items.old.items }
+    requires few { length items.old.items < 2 ^ 62 }
     ensures { (r : Railway) → outbox_state_of outboxes.new r
-        ≡ with_items (outbox_state_of outboxes.old r) (items_to r items.items) }
+        ≡ with_items (outbox_state_of outboxes.old r) (items_to r items.old.items) }
 {
-    for item in items {
+    for item in items.drain(..) {
         let _number = outboxes.put(item.to, item.body);
     }
 }

@@ -7,7 +7,6 @@ ghost use Rattle.hub_core.specs.Apart.{are_apart};
 ghost use Rattle.hub_core.specs.Faults.{IsFault};
 
 use crate::applying::apply_call;
-use crate::fault::HubFault;
 use crate::state::State;
 use crate::view::View;
 use hub_answers::{apart, view};
@@ -16,6 +15,7 @@ use std::alloc::Global;
 use std::marker::Model;
 use taf_codes::Memory;
 use taf_messages::{Call, Reply};
+use tallies::HubFault;
 
 /// The most calls that a hub takes.
 pub(crate) const MAX_CALLS: usize = 1_000_000;

@@ -11,7 +11,9 @@
 //!
 //! A message is taken in two steps. First comes all that may be refused memory: the items, their places in the outboxes,
 //! room in the history and among the names, and the tables' own step, which is all or nothing. Then come steps that
-//! cannot fail. So there is no half-taken message.
+//! cannot fail. So there is no half-taken message. Its items are put into a list that the state keeps from message to
+//! message, and move on from it into the outboxes: so the list mostly takes no memory. What it has between calls means
+//! nothing.
 //!
 //! | part | what it does |
 //! |---|---|
@@ -31,7 +33,6 @@ mod ack;
 mod applying;
 mod ask;
 mod delivery;
-mod fault;
 mod hub;
 mod refusals;
 mod repeats;
@@ -40,7 +41,7 @@ mod state;
 mod verdicts;
 mod view;
 
-pub use fault::HubFault;
 pub use hub::Hub;
 pub use hub_model::Entry;
+pub use tallies::HubFault;
 pub use view::View;

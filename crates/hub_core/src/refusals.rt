@@ -1,10 +1,9 @@
 //! New messages that are refused.
-ghost use Rattle.std.specs.Prelude.{◌≡◌, ◌<◌, length, Some, None};
+ghost use Rattle.std.specs.Prelude.{◌≡◌, Some};
 ghost use Rattle.taf_messages.specs.declared.call.Call.TheVariants as call;
-ghost use Rattle.replay_numbers.specs.SentPositions.{position_of};
 ghost use Rattle.hub_model.specs.Faults.{fault};
 ghost use Rattle.hub_tables.specs.TableStates.{table_state};
-ghost use Rattle.hub_core.specs.States.{Applies, IsConsistent, KeepsLimits};
+ghost use Rattle.hub_core.specs.States.{Applies, IsNew, MayTake};
 
 use crate::state::State;
 use crate::verdicts::{entry_of, verdict};
@@ -18,10 +17,8 @@ pub(crate) fn refuse(
     message: Shared<Message>,
     found: Fault,
 ) -> Result<Reply, Memory>
-    requires kept { IsConsistent state.old }
-    requires room { length state.old.history.entries < 1000000 }
-    requires new { position_of state.old.seen message.by message.no ≡ None }
-    requires limits { KeepsLimits message }
+    requires ready { MayTake state.old }
+    requires new { IsNew state.old message }
     requires fault { fault (table_state state.old.tables) message ≡ Some found }
     ensures { Applies state.old state.new (call.Send message) result }
 {

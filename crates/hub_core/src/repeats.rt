@@ -1,9 +1,9 @@
 //! Messages that were sent before.
-ghost use Rattle.std.specs.Prelude.{◌≡◌, ◌<◌, length, IfOk, Some};
+ghost use Rattle.std.specs.Prelude.{◌≡◌, IfOk, Some};
 ghost use Rattle.taf_messages.specs.declared.call.Call.TheVariants as call;
 ghost use Rattle.replay_numbers.specs.SentPositions.{position_of};
 ghost use Rattle.hub_model.specs.Histories.{answer};
-ghost use Rattle.hub_core.specs.States.{Applies, IsConsistent, KeepsLimits};
+ghost use Rattle.hub_core.specs.States.{Applies, IsConsistent, KeepsLimits, MayTake};
 
 use crate::state::{State, append_entry};
 use taf_codes::Memory;
@@ -44,8 +44,7 @@ pub(crate) fn apply_repeat(
     position: u64,
     message: Shared<Message>,
 ) -> Result<Reply, Memory>
-    requires kept { IsConsistent state.old }
-    requires room { length state.old.history.entries < 1000000 }
+    requires ready { MayTake state.old }
     requires sent_before { position_of state.old.seen message.by message.no ≡ Some position }
     requires limits { KeepsLimits message }
     ensures { Applies state.old state.new (call.Send message) result }

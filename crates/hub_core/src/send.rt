@@ -1,11 +1,10 @@
 //! Messages: each is new, or was sent before.
-ghost use Rattle.std.specs.Prelude.{◌≡◌, ◌<◌, length, None};
+ghost use Rattle.std.specs.Prelude.{None};
 ghost use Rattle.taf_messages.specs.declared.call.Call.TheVariants as call;
-ghost use Rattle.replay_numbers.specs.SentPositions.{position_of};
 ghost use Rattle.taf_messages.specs.Bodies.{moment_in};
 ghost use Rattle.hub_model.specs.Bounds.{IsWithinLimits};
 ghost use Rattle.hub_model.specs.Laws.{IsMoment};
-ghost use Rattle.hub_core.specs.States.{Applies, IsConsistent, KeepsLimits};
+ghost use Rattle.hub_core.specs.States.{Applies, IsNew, MayTake};
 
 use crate::acceptance::accept;
 use crate::refusals::refuse;
@@ -46,10 +45,8 @@ fn note_lists(message: &Message)
 
 // Takes a message whose name is new.
 fn apply_new(alloc: Global, state: &mut State, message: Shared<Message>) -> Result<Reply, Memory>
-    requires kept { IsConsistent state.old }
-    requires room { length state.old.history.entries < 1000000 }
-    requires new { position_of state.old.seen message.by message.no ≡ None }
-    requires limits { KeepsLimits message }
+    requires ready { MayTake state.old }
+    requires new { IsNew state.old message }
     ensures { Applies state.old state.new (call.Send message) result }
 {
     estimates_fit();
@@ -66,8 +63,7 @@ pub(crate) fn apply_send(
     state: &mut State,
     message: Shared<Message>,
 ) -> Result<Reply, Memory>
-    requires kept { IsConsistent state.old }
-    requires room { length state.old.history.entries < 1000000 }
+    requires ready { MayTake state.old }
     ensures { Applies state.old state.new (call.Send message) result }
 {
     let sent = message.get();

@@ -1,12 +1,12 @@
 //! The hub's state: all that it keeps.
-ghost use Rattle.std.specs.Prelude.{◌≡◌, ◌<◌, [], length};
+ghost use Rattle.std.specs.Prelude.{◌≡◌, []};
 ghost use Rattle.hub_model.specs.Updates.{after};
 ghost use Rattle.hub_model.specs.Histories.{answer, state_of};
 ghost use Rattle.hub_model.specs.Laws.{IsSend};
-ghost use Rattle.hub_core.specs.States.{Applies, IsConsistent, KeepsLimits};
+ghost use Rattle.hub_core.specs.States.{Applies, IsConsistent, KeepsLimits, MayTake};
 
 use history_pages::Pages;
-use hub_model::Entry;
+use hub_model::{AddressedItem, Entry};
 use hub_tables::Tables;
 use outbox::Outboxes;
 use replay_numbers::Seen;
@@ -14,13 +14,15 @@ use std::alloc::Global;
 use taf_codes::Memory;
 use taf_messages::{Call, Reply, copy_reply};
 
-/// What the hub keeps: its history, and the tables by which it looks things up.
+/// What the hub keeps: its history, the tables by which it looks things up, and a list that it uses again.
 #[derive(Drop)]
 pub(crate) struct State {
     pub history: Pages<Entry>,
     pub tables: Tables,
     pub seen: Seen,
     pub outboxes: Outboxes,
+    // The items of the message that is being taken. Between calls they mean nothing, and only the list's memory is kept.
+    pub items: Vec<AddressedItem>,
 }
 
 impl State {
@@ -34,6 +36,7 @@ impl State {
             tables: Tables::new(alloc),
             seen: Seen::new(alloc),
             outboxes: Outboxes::new(alloc),
+            items: Vec::new(alloc),
         }
     }
 }
@@ -41,8 +44,7 @@ impl State {
 #[tactic(auto, using(crate::proofs::HistoryLemmas::kept_entered))]
 /// Enters a call with its answer, which changes nothing that is looked up. Gives the reply.
 pub(crate) fn append_entry(state: &mut State, call: Call, reply: Reply) -> Result<Reply, Memory>
-    requires kept { IsConsistent state.old }
-    requires room { length state.old.history.entries < 1000000 }
+    requires ready { MayTake state.old }
     requires answered { reply ≡ answer state.old.history.entries call }
     requires quiet { after (state_of state.old.history.entries)
         (record { call = call; reply = reply }) ≡ state_of state.old.history.entries }

@@ -1,11 +1,15 @@
 -- The items of an alert that begins or ends.
-use Rattle.std.proofs.Common.{◌≡◌, ℕ, List, ◌++◌, Option, Some, ap, ◌∙◌, sym, append-nil}
-use Rattle.std.specs.Prelude.{map, flat_map, option_to_list}
+use Rattle.std.proofs.Common.{◌≡◌, ℕ, Bool, true, false, cond, List, [], ◌∷◌, ◌++◌, Option, Some, None, refl, ap, ◌∙◌, sym, append_assoc, append-nil}
+use Rattle.std.specs.Prelude.{map, flat_map, option_to_list, not, bytes_eq}
+use Rattle.std.specs.Option.{option_eq}
+use Rattle.std.proofs.lemmas.Bool.{false≢true}
+use Rattle.std.proofs.lemmas.List.{map-append}
 use Rattle.taf_codes.specs.declared.code.Railway.{Railway}
 use Rattle.taf_messages.specs.declared.item.ItemBody.{ItemBody}
 use Rattle.journey.specs.declared.event.Event.{Event}
+use Rattle.journey.specs.Legs.{lead_of}
 use Rattle.hub_model.specs.declared.addressed_item.AddressedItem.{AddressedItem}
-use Rattle.hub_model.specs.Items.{alert, alert_receivers, alert_items}
+use Rattle.hub_model.specs.Items.{each_once, alert, alert_receivers, alert_items}
 
 -- the same item to each railway
 abbrev to_each : List Railway → ItemBody → List AddressedItem
@@ -15,8 +19,30 @@ alert_told : (before after : List Event) (w : ℕ) (says : ItemBody) → alert b
 alert_told before after w says e =
     ap (λ (o : Option ItemBody). flat_map (to_each (alert_receivers after)) (option_to_list o)) e ∙ append-nil (to_each (alert_receivers after) says)
 
--- the alert is put for each who is alerted
-pub alert_put : (before after : List Event) (w : ℕ) (says : ItemBody) (found : Option ItemBody) (railways : List Railway) (start now : List AddressedItem) →
-    found ≡ alert before after w → found ≡ Some says → railways ≡ alert_receivers after → now ≡ start ++ map (λ r. record { to = r; body = says }) railways → now ≡ start ++ alert_items before after w
-alert_put before after w says found railways start now is e rs n =
-    n ∙ ap (λ qs. start ++ to_each qs says) rs ∙ ap (λ more. start ++ more) (sym (alert_told before after w says (sym is ∙ e)))
+-- the alert is put for the lead, and then for who is alerted beside the lead
+pub alert_put : (before after : List Event) (w : ℕ) (says : ItemBody) (lead also : Option Railway) (start one two : List AddressedItem) →
+    alert before after w ≡ Some says → lead ≡ lead_of after → option_to_list (lead_of after) ++ option_to_list also ≡ alert_receivers after →
+    one ≡ start ++ map (λ r. record { to = r; body = says }) (option_to_list lead) → two ≡ one ++ map (λ r. record { to = r; body = says }) (option_to_list also) →
+    two ≡ start ++ alert_items before after w
+alert_put before after w says lead also start one two e is told f g =
+    let first = option_to_list (lead_of after) in
+    let second = option_to_list also in
+    g ∙ ap (λ xs. xs ++ to_each second says) (f ∙ ap (λ (o : Option Railway). start ++ to_each (option_to_list o) says) is) ∙
+    append_assoc start (to_each first says) (to_each second says) ∙
+    ap (λ xs. start ++ xs) (
+    sym (map-append (λ (r : Railway). let i : AddressedItem = record { to = r; body = says } in i) first second) ∙
+    ap (λ rs. to_each rs says) told ∙ sym (alert_told before after w says e))
+
+-- a railway that is the lead is not told again
+pub lead_alone : (lead other : Option Railway) → option_eq bytes_eq other lead ≡ true → option_to_list lead ++ [] ≡ each_once (option_to_list lead ++ option_to_list other)
+lead_alone None None h = refl
+lead_alone None (Some r) h = absurd (false≢true h)
+lead_alone (Some l) None h = refl
+lead_alone (Some l) (Some r) h = sym (ap (λ (b : Bool). l ∷ cond (not b) (r ∷ []) []) h)
+
+-- another one is told after the lead
+pub lead_and_other : (lead other : Option Railway) → option_eq bytes_eq other lead ≡ false → option_to_list lead ++ option_to_list other ≡ each_once (option_to_list lead ++ option_to_list other)
+lead_and_other None None h = refl
+lead_and_other None (Some r) h = refl
+lead_and_other (Some l) None h = refl
+lead_and_other (Some l) (Some r) h = sym (ap (λ (b : Bool). l ∷ cond (not b) (r ∷ []) []) h)

@@ -1,5 +1,5 @@
 -- What is told are the notices, the estimates that are news and the alerts.
-use Rattle.std.proofs.Common.{◌≡◌, ℕ, List, [], ◌∷◌, ◌++◌, Option, Some, None, refl, sym, ap, ◌∙◌, append-nil}
+use Rattle.std.proofs.Common.{◌≡◌, ℕ, List, [], ◌∷◌, ◌++◌, Option, Some, None, refl, sym, ap, ◌∙◌, append_assoc, append-nil}
 use Rattle.std.specs.Prelude.{map, flat_map, option_to_list}
 use Rattle.taf_codes.specs.declared.code.Railway.{Railway}
 use Rattle.taf_messages.specs.declared.message.Message.{Message}
@@ -18,15 +18,20 @@ estimates_at s m w = estimate_items (s.journey w) (journey_after s m w) w
 abbrev alerts_at : HubState → Message → ℕ → List AddressedItem
 alerts_at s m w = alert_items (s.journey w) (journey_after s m w) w
 
--- they are put one after another
-pub items_of_many_wagons : (s : HubState) (m : Message) (first second none alerts last : List AddressedItem) (wagons : List ℕ) → first ≡ notices s m → wagons ≡ named_wagons s.offer m →
-    second ≡ first ++ flat_map (λ w. estimate_items (s.journey w) (journey_after s m w) w) wagons →
+-- three parts that are put one after another
+pub three_put : {X : Type 0} (start first second third one two : List X) → one ≡ start ++ first → two ≡ one ++ second → two ++ third ≡ start ++ (first ++ second ++ third)
+three_put start first second third one two f s =
+    ap (λ xs. xs ++ third) (s ∙ ap (λ xs. xs ++ second) f ∙ append_assoc start first second) ∙ append_assoc start (first ++ second) third
+
+-- those of many wagons: the alerts stand apart until the estimates are put
+pub items_of_many_wagons : (s : HubState) (m : Message) (start one two none alerts last : List AddressedItem) (wagons : List ℕ) → one ≡ start ++ notices s m → wagons ≡ named_wagons s.offer m →
+    two ≡ one ++ flat_map (λ w. estimate_items (s.journey w) (journey_after s m w) w) wagons →
     none ≡ [] → alerts ≡ none ++ flat_map (λ w. alert_items (s.journey w) (journey_after s m w) w) wagons →
-    last ≡ second ++ alerts → last ≡ all_items s m
-items_of_many_wagons s m first second none alerts last wagons f ws a e b t =
-    t ∙ ap (λ ys. ys ++ alerts) (a ∙ ap (λ ys. ys ++ flat_map (estimates_at s m) wagons) f) ∙
-    ap (λ ys. (notices s m ++ flat_map (estimates_at s m) wagons) ++ ys) (b ∙ ap (λ ys. ys ++ flat_map (alerts_at s m) wagons) e) ∙
-    ap (λ us. (notices s m ++ flat_map (estimates_at s m) us) ++ flat_map (alerts_at s m) us) ws
+    last ≡ two ++ alerts → last ≡ start ++ all_items s m
+items_of_many_wagons s m start one two none alerts last wagons f ws a e b t =
+    t ∙ ap (λ ys. two ++ ys) (b ∙ ap (λ ys. ys ++ flat_map (alerts_at s m) wagons) e) ∙
+    three_put start (notices s m) (flat_map (estimates_at s m) wagons) (flat_map (alerts_at s m) wagons) one two f a ∙
+    ap (λ us. start ++ (notices s m ++ flat_map (estimates_at s m) us ++ flat_map (alerts_at s m) us)) ws
 
 once_one : (found : Option Railway) → each_once (option_to_list found) ≡ option_to_list found
 once_one None = refl
@@ -44,6 +49,11 @@ one_noticed s m receiver is none =
     append-nil (to_each (each_once (notice_receivers s (journey_after s m) m.by m.body)) m) ∙
     ap (λ rs. to_each (each_once rs) m) is ∙ ap (λ rs. to_each rs m) (once_one receiver))
 
+-- the same where a copy is put
+pub notice_of_one : (s : HubState) (m copy : Message) (receiver : Option Railway) → copy ≡ m → notice_receivers s (journey_after s m) m.by m.body ≡ option_to_list receiver → sub_items m.by m.body ≡ [] →
+    map (λ r. record { to = r; body = item.Notice copy }) (option_to_list receiver) ≡ notices s m
+notice_of_one s m copy receiver same is none = ap (to_each (option_to_list receiver)) same ∙ one_noticed s m receiver is none
+
 -- a wagon's items by its progress are those of the message, if it names no other wagon
 of_one : (s : HubState) (m : Message) (w : ℕ) (p : NextEvent) (f : List Event → List Event → ℕ → List AddressedItem) → named_wagons s.offer m ≡ w ∷ [] →
     p.wagon ≡ w → p.before ≡ s.journey w → after p ≡ journey_after s m w →
@@ -58,7 +68,7 @@ pub items_of_one_wagon : (s : HubState) (m copy : Message) (w : ℕ) (receiver :
     p.wagon ≡ w → p.before ≡ s.journey w → after p ≡ journey_after s m w →
     map (λ r. record { to = r; body = item.Notice copy }) (option_to_list receiver) ++ estimate_items p.before (after p) p.wagon ++ alert_items p.before (after p) p.wagon ≡ all_items s m
 items_of_one_wagon s m copy w receiver p same n is none wagon before behind =
-    ap (λ xs. xs ++ estimate_items p.before (after p) p.wagon ++ alert_items p.before (after p) p.wagon) (ap (to_each (option_to_list receiver)) same ∙ one_noticed s m receiver is none) ∙
+    ap (λ xs. xs ++ estimate_items p.before (after p) p.wagon ++ alert_items p.before (after p) p.wagon) (notice_of_one s m copy receiver same is none) ∙
     ap (λ xs. notices s m ++ xs ++ alert_items p.before (after p) p.wagon) (of_one s m w p estimate_items n wagon before behind) ∙
     ap (λ xs. notices s m ++ flat_map (estimates_at s m) (named_wagons s.offer m) ++ xs) (of_one s m w p alert_items n wagon before behind)
 

@@ -1,5 +1,5 @@
 -- The notices of a message, and the sub notice.
-use Rattle.std.proofs.Common.{◌≡◌, List, [], ◌++◌, ap, ◌∙◌}
+use Rattle.std.proofs.Common.{◌≡◌, List, ◌++◌, ap, ◌∙◌, append_assoc}
 use Rattle.std.specs.Prelude.{map}
 use Rattle.taf_codes.specs.declared.code.Railway.{Railway}
 use Rattle.taf_messages.specs.declared.message.Message.{Message}
@@ -13,9 +13,10 @@ abbrev to_each : List Railway → Message → List AddressedItem
 to_each railways m = map (λ r. record { to = r; body = item.Notice m }) railways
 
 -- they are made of who is notified, each once, and a copy of the message
-pub noticed : (s : HubState) (m copy : Message) (concerned railways : List Railway) (start receiver now : List AddressedItem) →
-    concerned ≡ notice_receivers s (journey_after s m) m.by m.body → railways ≡ each_once concerned → copy ≡ m → start ≡ [] →
-    receiver ≡ start ++ map (λ r. record { to = r; body = item.Notice copy }) railways → now ≡ receiver ++ sub_items m.by m.body → now ≡ notices s m
-noticed s m copy concerned railways start receiver now is once same none t n =
+pub noticed : (s : HubState) (m copy : Message) (concerned : List Railway) (start receiver now : List AddressedItem) →
+    concerned ≡ notice_receivers s (journey_after s m) m.by m.body → copy ≡ m →
+    receiver ≡ start ++ map (λ r. record { to = r; body = item.Notice copy }) (each_once concerned) → now ≡ receiver ++ sub_items m.by m.body → now ≡ start ++ notices s m
+noticed s m copy concerned start receiver now is same t n =
     n ∙ ap (λ ts. ts ++ sub_items m.by m.body)
-    (t ∙ ap (λ is. is ++ to_each railways copy) none ∙ ap (to_each railways) same ∙ ap (λ rs. to_each rs m) (once ∙ ap each_once is))
+    (t ∙ ap (λ xs. start ++ xs) (ap (to_each (each_once concerned)) same ∙ ap (λ rs. to_each (each_once rs) m) is)) ∙
+    append_assoc start (to_each (each_once (notice_receivers s (journey_after s m) m.by m.body)) m) (sub_items m.by m.body)

@@ -73,12 +73,15 @@ once_more (q ∷ rs) r =
     ap (λ ys. q ∷ ys) (filter-append (λ x. not (bytes_eq x q)) (each_once rs) (cond (is_among rs r) [] (r ∷ []))) ∙
     ap (λ ys. q ∷ filter (λ x. not (bytes_eq x q)) (each_once rs) ++ ys) (sieve_one q r (is_among rs r))
 
--- a railway comes at the end of those before it, each once, if it is not among them
-pub once_so_far : (rs : List Railway) (i : ℕ) (r : Railway) (before now : List Railway) → i < length rs → r ≡ get_or rs i r → before ≡ each_once (take i rs) →
-    now ≡ before ++ cond (is_among (take i rs) r) [] (r ∷ []) → now ≡ each_once (take (i + 1) rs)
-once_so_far rs i r before now lt is b n =
-    n ∙ ap (λ ys. ys ++ cond (is_among (take i rs) r) [] (r ∷ [])) b ∙ sym (once_more (take i rs) r) ∙
-    ap (λ y. each_once (take i rs ++ y ∷ [])) is ∙ ap each_once (sym (take_more rs i r lt))
+-- a railway comes at the end of those before it, each once, if it is not among them: what a function gives of each, in a loop
+pub once_so_far : {B : Type 0} (f : Railway → B) (rs : List Railway) (i : ℕ) (r : Railway) (start before now : List B) → i < length rs → r ≡ get_or rs i r →
+    before ≡ start ++ map f (each_once (take i rs)) → now ≡ before ++ map f (cond (is_among (take i rs) r) [] (r ∷ [])) → now ≡ start ++ map f (each_once (take (i + 1) rs))
+once_so_far f rs i r start before now lt is b n =
+    let done : List Railway = take i rs in
+    let new : List Railway = cond (is_among (take i rs) r) [] (r ∷ []) in
+    n ∙ ap (λ ys. ys ++ map f new) b ∙ append_assoc start (map f (each_once done)) (map f new) ∙
+    ap (λ ys. start ++ ys) (sym (map-append f (each_once done) new) ∙ ap (map f) (sym (once_more done r))) ∙
+    ap (λ y. start ++ map f (each_once (done ++ y ∷ []))) is ∙ ap (λ ys. start ++ map f (each_once ys)) (sym (take_more rs i r lt))
 
 pub range_more : (a n j : ℕ) → a + n ≡ j → range_with_len a (suc n) ≡ range_with_len a n ++ j ∷ []
 range_more a zero j e = ap (λ k. k ∷ []) (let here : a ≡ j = omega arith in here)

@@ -56,7 +56,7 @@ none_pass : (p : EstimateAt → Bool) (f : ℕ → Option ℕ) → ((j at : ℕ)
 none_pass p f h [] = refl
 none_pass p f h (j ∷ js) = first_out p j (f j) (filter_map (λ j. option_map (λ at. record { leg = j; at = at }) (f j)) js) (h j) (none_pass p f h js)
 
-same_number : (n : ℕ) → nat_eq n n ≡ true
+pub same_number : (n : ℕ) → nat_eq n n ≡ true
 same_number zero = refl
 same_number (suc n) = eqb-suc-suc n n ∙ same_number n
 

@@ -1,17 +1,29 @@
 -- All items of a message, before those for its sender are taken out.
-use Rattle.std.specs.Prelude.{Bool, true, false, List, ◌++◌, flat_map}
+use Rattle.std.specs.Prelude.{◌≡◌, Bool, true, false, List, ◌++◌, flat_map}
 use Rattle.taf_messages.specs.declared.message.Message.{Message}
 use Rattle.taf_messages.specs.declared.message.Body.{Body}
 use Rattle.taf_messages.specs.declared.message.Body.TheVariants as body
 use Rattle.hub_model.specs.declared.addressed_item.AddressedItem.{AddressedItem}
 use Rattle.hub_model.specs.HubState.{HubState, named_wagons, journey_after}
 use Rattle.hub_model.specs.Items.{notices, estimate_items, alert_items}
+use Rattle.hub_tables.specs.TableStates.{IsAcceptable}
+
+-- the message may be accepted, and the notice carries it
+abbrev pub IsAcceptableWithNotice : HubState → Message → Message → Type 0
+IsAcceptableWithNotice s m notice = IsAcceptable s m × (notice ≡ m)
 
 -- at most one railway gets the notice, and its wagon's journey tells which
 abbrev pub has_one_receiver : Body → Bool
 has_one_receiver (body.Movement m) = true
 has_one_receiver (body.EtiAsk w) = true
 has_one_receiver _ = false
+
+-- several railways may get the notice
+abbrev pub may_have_many_receivers : Body → Bool
+may_have_many_receivers (body.Plan p) = true
+may_have_many_receivers (body.Answer a) = true
+may_have_many_receivers (body.Reroute w route) = true
+may_have_many_receivers _ = false
 
 -- the notices, the estimates that are news, and the alerts
 abbrev pub all_items : HubState → Message → List AddressedItem

@@ -1,19 +1,16 @@
 //! The alerts of wagons that are late.
-ghost use Rattle.std.specs.Prelude.{◌≡◌, ◌++◌, Some, IfOk, OnOk};
+ghost use Rattle.std.specs.Prelude.{◌≡◌, ◌++◌, Some, IfOk, OnOk, map, option_to_list};
 ghost use Rattle.hub_model.specs.Items as of;
 ghost use Rattle.journey.specs.Journey.{after};
+ghost use Rattle.journey.specs.Legs.{lead_of};
 
-use crate::each::put_each;
-use crate::once::each_once;
 use crate::wagon_change::WagonChange;
 use hub_model::AddressedItem;
-use std::alloc::{AllocError, Global};
 use taf_codes::{Memory, Railway};
 use taf_messages::ItemBody;
 
 /// Adds the items of the alert that begins or ends with the event, if one does.
 pub(crate) fn put_alerts(
-    alloc: Global,
     items: &mut Vec<AddressedItem>,
     change: &WagonChange<'_>,
 ) -> Result<(), Memory>
@@ -21,14 +18,13 @@ pub(crate) fn put_alerts(
         ++ of.alert_items change.now.before (after change.now) change.now.wagon) }
 {
     match alert(change) {
-        Some(says) => put_alert(alloc, items, change, &says),
+        Some(says) => put_alert(items, change, &says),
         None => Ok(()),
     }
 }
 
 // Adds the items of the alert that says this.
 fn put_alert(
-    alloc: Global,
     items: &mut Vec<AddressedItem>,
     change: &WagonChange<'_>,
     says: &ItemBody,
@@ -37,9 +33,32 @@ fn put_alert(
     ensures { OnOk result (items.new.items ≡ items.old.items
         ++ of.alert_items change.now.before (after change.now) change.now.wagon) }
 {
-    let railways = alert_receivers(alloc, change)?;
-    put_each(items, says, railways.as_slice())?;
+    put_to(items, says, change.lead())?;
+    put_to(items, says, also_alerted(change))?;
     Ok(())
+}
+
+// Adds the item for the railway, if there is one.
+fn put_to(
+    items: &mut Vec<AddressedItem>,
+    says: &ItemBody,
+    railway: Option<Railway>,
+) -> Result<(), Memory>
+    ensures { OnOk result (items.new.items ≡ items.old.items
+        ++ map (λ r. record { to = r; body = says.now }) (option_to_list railway)) }
+{
+    if let Some(to) = railway {
+        let body = copy_body(says)?;
+        items.push(AddressedItem { to, body })?;
+    }
+    Ok(())
+}
+
+// The same item.
+fn copy_body(says: &ItemBody) -> Result<ItemBody, Memory>
+    ensures { IfOk result (λ copy. copy ≡ says.now) }
+{
+    Ok(says.clone()?)
 }
 
 // An alert begins or ends, or neither.
@@ -57,16 +76,16 @@ fn alert(change: &WagonChange<'_>) -> Option<ItemBody>
     }
 }
 
-// The lead, and the railway that answers for the wagon.
-fn alert_receivers(alloc: Global, change: &WagonChange<'_>) -> Result<Vec<Railway>, AllocError>
-    ensures { IfOk result (λ v. v.items ≡ of.alert_receivers (after change.now)) }
+// Who is alerted beside the lead: the railway that answers for the wagon, if it is another one.
+fn also_alerted(change: &WagonChange<'_>) -> Option<Railway>
+    ensures { option_to_list (lead_of (after change.now)) ++ option_to_list result
+        ≡ of.alert_receivers (after change.now) }
 {
-    let mut railways = Vec::new(alloc);
-    if let Some(lead) = change.lead() {
-        railways.push(lead)?;
+    let lead = change.lead();
+    let responsible = change.responsible();
+    if responsible == lead {
+        None
+    } else {
+        responsible
     }
-    if let Some(responsible) = change.responsible() {
-        railways.push(responsible)?;
-    }
-    each_once(alloc, railways.as_slice())
 }

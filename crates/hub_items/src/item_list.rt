@@ -1,5 +1,5 @@
 //! The items of an accepted message.
-ghost use Rattle.std.specs.Prelude.{◌≡◌, ◌++◌, ◌∷◌, [], IfOk, OnOk, true, false, not, filter, map, flat_map, option_to_list, if◌then◌else◌, bytes_eq};
+ghost use Rattle.std.specs.Prelude.{◌≡◌, ◌++◌, ◌∷◌, [], OnOk, true, false, not, filter, map, flat_map, option_to_list, if◌then◌else◌, bytes_eq};
 ghost use Rattle.trip_plan.specs.Rules.{has};
 ghost use Rattle.eti_chain.specs.Estimates.{is_late};
 ghost use Rattle.taf_messages.specs.declared.message.Body.TheVariants as body;
@@ -7,11 +7,12 @@ ghost use Rattle.hub_model.specs.HubState.{named_wagons, journey_after};
 ghost use Rattle.hub_model.specs.Items as of;
 ghost use Rattle.hub_tables.specs.TableStates.{IsAcceptable, table_state};
 ghost use Rattle.journey.specs.Journey.{after};
-ghost use Rattle.hub_items.specs.MessageItems.{has_one_receiver, all_items};
+ghost use Rattle.hub_items.specs.MessageItems.{IsAcceptableWithNotice, has_one_receiver, all_items};
 
 use crate::alerts::put_alerts;
+use crate::each::put_notice;
 use crate::estimates::put_estimates;
-use crate::notices::notices;
+use crate::notices::put_notices;
 use crate::receivers::movement_receivers;
 use crate::wagon_change::{WagonChange, WagonEvent};
 use hub_model::AddressedItem;
@@ -21,141 +22,114 @@ use taf_codes::{Memory, Railway};
 use taf_messages::{Body, ItemBody, Message, Movement, Shared};
 use wagon_number::WagonNumber;
 
-/// What an acceptable message makes for the railways, in order; nothing goes to its own sender.
-pub fn items(
+/// Puts what an acceptable message makes for the railways into the list, in order; nothing goes to its own sender. What
+/// the list had before is dropped, and its memory is used again.
+pub fn put_items(
     alloc: Global,
+    items: &mut Vec<AddressedItem>,
     tables: &Tables,
     message: &Shared<Message>,
-) -> Result<Vec<AddressedItem>, Memory>
+) -> Result<(), Memory>
     requires { IsAcceptable (table_state tables.now) message.now }
-    ensures { IfOk result (λ v. v.items ≡ of.items_of (table_state tables.now) message.now) }
+    ensures { OnOk result (items.new.items ≡ of.items_of (table_state tables.now) message.now) }
 {
+    items.clear();
     let sent = message.get();
-    let mut items = all_items(alloc, tables, sent, message)?;
-    keep_others(&mut items, sent.by());
-    Ok(items)
+    put_all(alloc, items, tables, sent, message)?;
+    keep_others(items, sent.by());
+    Ok(())
 }
 
-// The items of an acceptable message, with those for its own sender. Its notices share it.
-fn all_items(
+// Adds the items of an acceptable message, with those for its own sender. Its notices share it.
+fn put_all(
     alloc: Global,
+    items: &mut Vec<AddressedItem>,
     tables: &Tables,
     message: &Message,
     notice: &Shared<Message>,
-) -> Result<Vec<AddressedItem>, Memory>
-    requires acceptable { IsAcceptable (table_state tables.now) message.now }
-    requires same { notice.now ≡ message.now }
-    ensures { IfOk result (λ v. v.items ≡ all_items (table_state tables.now) message.now) }
+) -> Result<(), Memory>
+    requires notice { IsAcceptableWithNotice (table_state tables.now) message.now notice.now }
+    ensures { OnOk result (items.new.items ≡ items.old.items
+        ++ all_items (table_state tables.now) message.now) }
 {
     match message.body() {
-        Body::Movement(movement) => items_of_movement(alloc, tables, message, notice, movement),
+        Body::Movement(movement) => put_of_movement(items, tables, message, notice, movement),
         Body::EtiAsk { wagon } => {
             let next = WagonEvent::of(tables, message, *wagon)?;
             let transition = next.transition();
             let change = next.change(&transition);
-            items_of_one(alloc, notice, change.responsible(), &change)
+            put_of_one(items, notice, change.responsible(), &change)
         }
         Body::Plan(_)
         | Body::LegTime { .. }
         | Body::Offer(_)
         | Body::Answer(_)
         | Body::Withdraw { .. }
-        | Body::Reroute { .. } => items_of_many(alloc, tables, message, notice),
+        | Body::Reroute { .. } => put_of_many(alloc, items, tables, message, notice),
     }
 }
 
-// The items of a movement. Where it changes no estimate, there is nothing but the lead's notice.
-fn items_of_movement(
-    alloc: Global,
+// Adds the items of a movement. Where it changes no estimate, there is nothing but the lead's notice.
+fn put_of_movement(
+    items: &mut Vec<AddressedItem>,
     tables: &Tables,
     message: &Message,
     notice: &Shared<Message>,
     movement: &Movement,
-) -> Result<Vec<AddressedItem>, Memory>
-    requires acceptable { IsAcceptable (table_state tables.now) message.now }
-    requires same { notice.now ≡ message.now }
+) -> Result<(), Memory>
+    requires notice { IsAcceptableWithNotice (table_state tables.now) message.now notice.now }
     requires moves { message.now.body ≡ body.Movement movement.now }
-    ensures { IfOk result (λ v. v.items ≡ all_items (table_state tables.now) message.now) }
+    ensures { OnOk result (items.new.items ≡ items.old.items
+        ++ all_items (table_state tables.now) message.now) }
 {
     let next = WagonEvent::of(tables, message, movement.wagon)?;
     if next.keeps_estimates() {
-        return notice_alone(alloc, notice, next.lead());
+        return put_notice(items, notice, next.lead());
     }
     let transition = next.transition();
     let change = next.change(&transition);
     let receiver = movement_receivers(&change, movement.what);
-    items_of_one(alloc, notice, receiver, &change)
+    put_of_one(items, notice, receiver, &change)
 }
 
-// The notice of the message for the railway, if there is one, and nothing else.
-fn notice_alone(
-    alloc: Global,
-    notice: &Shared<Message>,
-    receiver: Option<Railway>,
-) -> Result<Vec<AddressedItem>, Memory>
-    ensures { IfOk result (λ v. v.items
-        ≡ map (λ r. record { to = r; body = ItemBody.Notice notice.now })
-        (option_to_list receiver)) }
-{
-    let mut items = Vec::new(alloc);
-    put_notice(&mut items, notice, receiver)?;
-    Ok(items)
-}
-
-// The items of a message on one wagon, of which at most one railway gets the notice.
-fn items_of_one(
-    alloc: Global,
-    notice: &Shared<Message>,
-    receiver: Option<Railway>,
-    change: &WagonChange<'_>,
-) -> Result<Vec<AddressedItem>, Memory>
-    ensures { IfOk result (λ v. v.items
-        ≡ map (λ r. record { to = r; body = ItemBody.Notice notice.now }) (option_to_list receiver)
-        ++ of.estimate_items change.now.before (after change.now) change.now.wagon
-        ++ of.alert_items change.now.before (after change.now) change.now.wagon) }
-{
-    let mut items = notice_alone(alloc, notice, receiver)?;
-    put_estimates(&mut items, change)?;
-    put_alerts(alloc, &mut items, change)?;
-    Ok(items)
-}
-
-// Adds the notice of the message for the railway, if there is one.
-fn put_notice(
+// Adds the items of a message on one wagon, of which at most one railway gets the notice.
+fn put_of_one(
     items: &mut Vec<AddressedItem>,
     notice: &Shared<Message>,
     receiver: Option<Railway>,
+    change: &WagonChange<'_>,
 ) -> Result<(), Memory>
     ensures { OnOk result (items.new.items ≡ items.old.items
-        ++ map (λ r. record { to = r; body = ItemBody.Notice notice.now })
-        (option_to_list receiver)) }
+        ++ (map (λ r. record { to = r; body = ItemBody.Notice notice.now })
+        (option_to_list receiver)
+        ++ of.estimate_items change.now.before (after change.now) change.now.wagon
+        ++ of.alert_items change.now.before (after change.now) change.now.wagon)) }
 {
-    if let Some(to) = receiver {
-        let body = ItemBody::Notice(notice.clone()?);
-        items.push(AddressedItem { to, body })?;
-    }
-    Ok(())
+    put_notice(items, notice, receiver)?;
+    put_estimates(items, change)?;
+    put_alerts(items, change)
 }
 
-// The items of a message on several wagons, or on one of which several railways get the notice.
-fn items_of_many(
+// Adds the items of a message on several wagons, or on one of which several railways get the notice.
+fn put_of_many(
     alloc: Global,
+    items: &mut Vec<AddressedItem>,
     tables: &Tables,
     message: &Message,
     notice: &Shared<Message>,
-) -> Result<Vec<AddressedItem>, Memory>
-    requires acceptable { IsAcceptable (table_state tables.now) message.now }
-    requires same { notice.now ≡ message.now }
+) -> Result<(), Memory>
+    requires notice { IsAcceptableWithNotice (table_state tables.now) message.now notice.now }
     requires many { has_one_receiver message.now.body ≡ false }
-    ensures { IfOk result (λ v. v.items ≡ all_items (table_state tables.now) message.now) }
+    ensures { OnOk result (items.new.items ≡ items.old.items
+        ++ all_items (table_state tables.now) message.now) }
 {
     let wagons = tables.named_wagons(alloc, message)?;
-    let mut items = notices(alloc, tables, message, notice)?;
+    put_notices(alloc, items, tables, message, notice)?;
     let mut alerts = Vec::new(alloc);
     let from = Acceptable { tables, message };
-    put_of_wagons(alloc, &mut items, &mut alerts, from, wagons.as_slice())?;
+    put_of_wagons(items, &mut alerts, from, wagons.as_slice())?;
     items.append(&mut alerts)?;
-    Ok(items)
+    Ok(())
 }
 
 // Takes the items for the sender out.
@@ -174,7 +148,6 @@ struct Acceptable<'a> {
 
 // Adds the estimates that are news and the alerts, of the wagons that the message names.
 fn put_of_wagons(
-    alloc: Global,
     items: &mut Vec<AddressedItem>,
     alerts: &mut Vec<AddressedItem>,
     from: Acceptable<'_>,
@@ -193,14 +166,13 @@ fn put_of_wagons(
         ++ flat_map (λ w. of.alert_items (before.journey w) (next w) w) wagons.now) }
 {
     for wagon in wagons {
-        put_of_wagon(alloc, items, alerts, from, *wagon)?;
+        put_of_wagon(items, alerts, from, *wagon)?;
     }
     Ok(())
 }
 
 // The same of one wagon. A plan gives no estimate, and ends the alert of the journey before.
 fn put_of_wagon(
-    alloc: Global,
     items: &mut Vec<AddressedItem>,
     alerts: &mut Vec<AddressedItem>,
     from: Acceptable<'_>,
@@ -226,14 +198,13 @@ fn put_of_wagon(
                 return Ok(());
             }
             let transition = next.transition();
-            put_of_change(alloc, items, alerts, &next.change(&transition))
+            put_of_change(items, alerts, &next.change(&transition))
         }
     }
 }
 
 // The same of a wagon with an event.
 fn put_of_change(
-    alloc: Global,
     items: &mut Vec<AddressedItem>,
     alerts: &mut Vec<AddressedItem>,
     change: &WagonChange<'_>,
@@ -244,7 +215,7 @@ fn put_of_change(
         ++ of.alert_items change.now.before (after change.now) change.now.wagon) }
 {
     put_estimates(items, change)?;
-    put_alerts(alloc, alerts, change)
+    put_alerts(alerts, change)
 }
 
 // Adds the end of the wagon's alert for the lead of a plan, where the wagon is late.

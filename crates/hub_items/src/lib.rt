@@ -1,7 +1,7 @@
 //! What an accepted message makes for the railways (4.2.6, 4.2.7, 4.2.8).
 //!
-//! [`items`] lists the items of an accepted message, each with the railway that it goes to, in the order in which they
-//! are put into the outboxes:
+//! [`put_items`] puts the items of an accepted message into a list that is lent, each with the railway that it goes to,
+//! in the order in which they go into the outboxes:
 //!
 //! 1. the notices: the message itself, once to each railway that it concerns;
 //! 2. for an answer that received wagons, the sub notice to the infrastructure manager that it names;
@@ -10,7 +10,8 @@
 //! 4. of each wagon of the message, the alert that begins or ends: to the lead, and to the railway that answers for it.
 //!
 //! None goes to the sender of the message. Nothing is changed: what the message leads to is computed by one transition
-//! from what the tables have of its wagons.
+//! from what the tables have of its wagons. The list is empty before the items are put, and keeps its memory: so one that
+//! is lent again for the next message mostly takes no more.
 #![tactic(auto)]
 
 mod alerts;
@@ -18,8 +19,7 @@ mod each;
 mod estimates;
 mod item_list;
 mod notices;
-mod once;
 mod receivers;
 mod wagon_change;
 
-pub use item_list::items;
+pub use item_list::put_items;

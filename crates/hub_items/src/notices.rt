@@ -1,40 +1,61 @@
 //! The notices of a message, and the sub notice (4.2.8).
-ghost use Rattle.std.specs.Prelude.{◌≡◌, ◌++◌, false, IfOk, OnOk, option_to_list};
+ghost use Rattle.std.specs.Prelude.{◌≡◌, ◌++◌, true, false, IfOk, OnOk, option_to_list};
 ghost use Rattle.hub_model.specs.Items as of;
-ghost use Rattle.hub_tables.specs.TableStates.{IsAcceptable, table_state};
-ghost use Rattle.hub_items.specs.MessageItems.{has_one_receiver};
+ghost use Rattle.hub_tables.specs.TableStates.{table_state};
+ghost use Rattle.hub_items.specs.MessageItems.{IsAcceptableWithNotice, has_one_receiver, may_have_many_receivers};
 
-use crate::each::put_each;
-use crate::once::each_once;
-use crate::receivers::notice_receivers;
+use crate::each::{put_each_once, put_notice};
+use crate::receivers::{notice_receivers, withdrawal_receivers};
 use hub_model::AddressedItem;
 use hub_tables::Tables;
 use std::alloc::Global;
 use taf_codes::{Memory, Railway};
 use taf_messages::{Body, ItemBody, Message, Shared, SubNotice, TrainAnswer};
 
-/// The notices of a message, and the sub notice.
-pub(crate) fn notices(
+/// Adds the notices of a message, and the sub notice.
+pub(crate) fn put_notices(
     alloc: Global,
+    items: &mut Vec<AddressedItem>,
     tables: &Tables,
     message: &Message,
     notice: &Shared<Message>,
-) -> Result<Vec<AddressedItem>, Memory>
-    requires acceptable { IsAcceptable (table_state tables.now) message.now }
-    requires same { notice.now ≡ message.now }
+) -> Result<(), Memory>
+    requires notice { IsAcceptableWithNotice (table_state tables.now) message.now notice.now }
     requires many { has_one_receiver message.now.body ≡ false }
-    ensures { IfOk result (λ v. v.items ≡ of.notices (table_state tables.now) message.now) }
+    ensures { OnOk result (items.new.items ≡ items.old.items
+        ++ of.notices (table_state tables.now) message.now) }
+{
+    match message.body() {
+        Body::LegTime { .. } => Ok(()),
+        Body::Offer(offer) => put_notice(items, notice, Some(offer.get().to)),
+        Body::Withdraw { offer, .. } => {
+            let asked = withdrawal_receivers(tables, message.by(), *offer);
+            put_notice(items, notice, asked)
+        }
+        Body::Plan(_) | Body::Answer(_) | Body::Reroute { .. } => {
+            put_many(alloc, items, tables, message, notice)
+        }
+        Body::Movement(_) | Body::EtiAsk { .. } => unreachable!(),
+    }
+}
+
+// Adds the notices of a message that several railways may get, and the sub notice.
+fn put_many(
+    alloc: Global,
+    items: &mut Vec<AddressedItem>,
+    tables: &Tables,
+    message: &Message,
+    notice: &Shared<Message>,
+) -> Result<(), Memory>
+    requires notice { IsAcceptableWithNotice (table_state tables.now) message.now notice.now }
+    requires many { may_have_many_receivers message.now.body ≡ true }
+    ensures { OnOk result (items.new.items ≡ items.old.items
+        ++ of.notices (table_state tables.now) message.now) }
 {
     let concerned = notice_receivers(alloc, tables, message)?;
-    let railways = each_once(alloc, concerned.as_slice())?;
-    let mut items = Vec::new(alloc);
-    put_each(
-        &mut items,
-        &ItemBody::Notice(notice.clone()?),
-        railways.as_slice(),
-    )?;
-    put_sub_notice(alloc, &mut items, message.by(), message.body())?;
-    Ok(items)
+    put_each_once(items, notice, concerned.as_slice())?;
+    put_sub_notice(alloc, items, message.by(), message.body())?;
+    Ok(())
 }
 
 // Adds the sub notice, if there is one.

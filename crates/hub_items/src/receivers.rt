@@ -1,49 +1,46 @@
 //! Who gets the notice of a message.
-ghost use Rattle.std.specs.Prelude.{◌≡◌, ◌++◌, true, false, IfOk, OnOk, filter_map, option_to_list};
+ghost use Rattle.std.specs.Prelude.{◌≡◌, ℕ, ◌++◌, ◌∷◌, true, IfOk, OnOk, filter_map, option_to_list};
 ghost use Rattle.journey.specs.Legs as legs_of;
-ghost use Rattle.hub_model.specs.HubState.{named_wagons, journey_after};
+ghost use Rattle.hub_model.specs.HubState.{journey_after};
 ghost use Rattle.hub_model.specs.Items as of;
-ghost use Rattle.hub_tables.specs.TableStates.{IsAcceptable, table_state, continues_journeys};
+ghost use Rattle.hub_tables.specs.TableStates.{IsAcceptable, table_state};
 ghost use Rattle.journey.specs.Journey.{after};
-ghost use Rattle.hub_items.specs.MessageItems.{has_one_receiver};
+ghost use Rattle.hub_items.specs.MessageItems.{may_have_many_receivers};
 ghost use Rattle.taf_messages.specs.declared.message.Body.TheVariants as body;
 
-use crate::wagon_change::{WagonChange, WagonEvent};
+use crate::wagon_change::WagonChange;
 use hub_tables::Tables;
 use journey::Track;
 use std::alloc::{AllocError, Global};
 use taf_codes::{Memory, Railway};
-use taf_messages::{Body, Message, MovementKind, TrainAnswer};
+use taf_messages::{Body, Message, MessageNumber, MovementKind, TrainAnswer};
 use trip_plan::Leg;
 use wagon_number::WagonNumber;
 
-/// Who gets the notice of a message, as often as one is concerned. It is no movement and no question for an estimate,
-/// whose notice goes to one railway at most.
+/// Who gets the notice of a plan, an answer or new legs, as often as one is concerned.
 pub(crate) fn notice_receivers(
     alloc: Global,
     tables: &Tables,
     message: &Message,
 ) -> Result<Vec<Railway>, Memory>
     requires acceptable { IsAcceptable (table_state tables.now) message.now }
-    requires many { has_one_receiver message.now.body ≡ false }
+    requires many { may_have_many_receivers message.now.body ≡ true }
     ensures { IfOk result (λ v. v.items
         ≡ of.notice_receivers (table_state tables.now)
         (journey_after (table_state tables.now) message.now) message.now.by message.now.body) }
 {
     match message.body() {
         Body::Plan(plan) => Ok(runners(alloc, plan.legs())?),
-        Body::Movement(_) | Body::EtiAsk { .. } => unreachable!(),
-        Body::LegTime { .. } => Ok(Vec::new(alloc)),
-        Body::Offer(offer) => Ok(listed(alloc, Some(offer.get().to))?),
-        Body::Answer(answer) => answer_receivers(alloc, tables, message, answer.get()),
-        Body::Withdraw { offer, .. } => {
-            let asked = tables.offer(message.by(), *offer).map(|found| found.to);
-            Ok(listed(alloc, asked)?)
-        }
+        Body::Answer(answer) => Ok(answer_receivers(alloc, tables, answer.get())?),
         Body::Reroute { wagon, route } => match tables.wagon(*wagon) {
             Some(found) => Ok(route_receivers(alloc, found.track(), route.legs())?),
             None => unreachable!(),
         },
+        Body::Movement(_)
+        | Body::EtiAsk { .. }
+        | Body::LegTime { .. }
+        | Body::Offer(_)
+        | Body::Withdraw { .. } => unreachable!(),
     }
 }
 
@@ -80,6 +77,19 @@ pub(crate) fn movement_receivers(change: &WagonChange<'_>, what: MovementKind) -
     }
 }
 
+/// Who gets the notice of a withdrawal: the railway that the offer asks.
+pub(crate) fn withdrawal_receivers(
+    tables: &Tables,
+    by: Railway,
+    offer: MessageNumber,
+) -> Option<Railway>
+    ensures { (at : ℕ) → option_to_list result
+        ≡ of.notice_receivers (table_state tables.now) (table_state tables.now).journey by
+        (body.Withdraw at offer) }
+{
+    tables.offer(by, offer).map(|found| found.to)
+}
+
 // Who gets the notice of new legs: the current leg's railway, and those of the legs taken away and set.
 fn route_receivers(alloc: Global, track: &Track, route: &[Leg]) -> Result<Vec<Railway>, AllocError>
     ensures { IfOk result (λ v. v.items ≡ of.route_receivers track.now.events route.now) }
@@ -97,48 +107,50 @@ fn route_receivers(alloc: Global, track: &Track, route: &[Leg]) -> Result<Vec<Ra
 fn answer_receivers(
     alloc: Global,
     tables: &Tables,
-    message: &Message,
     answer: &TrainAnswer,
-) -> Result<Vec<Railway>, Memory>
-    requires acceptable { IsAcceptable (table_state tables.now) message.now }
-    requires is_answer { message.now.body ≡ body.Answer answer.now }
+) -> Result<Vec<Railway>, AllocError>
     ensures { IfOk result (λ v. v.items
-        ≡ of.notice_receivers (table_state tables.now)
-        (journey_after (table_state tables.now) message.now) message.now.by message.now.body) }
+        ≡ answer.now.offerer
+        ∷ filter_map (λ w. legs_of.lead_of ((table_state tables.now).journey w))
+        (answer.now.received ++ answer.now.refused)) }
 {
     let mut railways = listed(alloc, Some(answer.offerer))?;
-    let wagons = tables.named_wagons(alloc, message)?;
-    put_leads(&mut railways, tables, message, wagons.as_slice())?;
+    put_leads(&mut railways, tables, answer.received.as_slice())?;
+    put_leads(&mut railways, tables, answer.refused.as_slice())?;
     Ok(railways)
 }
 
-// Adds the leads of the wagons that the message, which is no plan, names.
+// Adds the leads of the wagons.
 fn put_leads(
     railways: &mut Vec<Railway>,
     tables: &Tables,
-    message: &Message,
     wagons: &[WagonNumber],
-) -> Result<(), Memory>
-    requires acceptable { IsAcceptable (table_state tables.now) message.now }
-    requires no_plan { continues_journeys message.now.body ≡ true }
-    requires are_named { wagons.now ≡ named_wagons (table_state tables.now).offer message.now }
+) -> Result<(), AllocError>
     ensures { OnOk result (railways.new.items ≡ railways.old.items
-        ++ filter_map (λ w. legs_of.lead_of (journey_after (table_state tables.now) message.now w))
-        wagons.now) }
+        ++ filter_map (λ w. legs_of.lead_of ((table_state tables.now).journey w)) wagons.now) }
 {
     for wagon in wagons {
-        put_lead(railways, &WagonEvent::of(tables, message, *wagon)?)?;
+        put_lead(railways, lead_of(tables, *wagon))?;
     }
     Ok(())
 }
 
-// Adds the lead of a wagon.
-fn put_lead(railways: &mut Vec<Railway>, next: &WagonEvent<'_>) -> Result<(), AllocError>
-    ensures { OnOk result (railways.new.items ≡ railways.old.items
-        ++ option_to_list (legs_of.lead_of (after next.now))) }
+// Adds the lead of a wagon, if it has one.
+fn put_lead(railways: &mut Vec<Railway>, lead: Option<Railway>) -> Result<(), AllocError>
+    ensures { OnOk result (railways.new.items ≡ railways.old.items ++ option_to_list lead) }
 {
-    if let Some(lead) = next.lead() {
+    if let Some(lead) = lead {
         railways.push(lead)?;
     }
     Ok(())
+}
+
+// The lead of a wagon, if it was planned.
+fn lead_of(tables: &Tables, wagon: WagonNumber) -> Option<Railway>
+    ensures { result ≡ legs_of.lead_of ((table_state tables.now).journey wagon) }
+{
+    match tables.wagon(wagon) {
+        Some(found) => found.track().journey_state().lead,
+        None => None,
+    }
 }

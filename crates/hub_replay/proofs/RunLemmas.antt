@@ -2,7 +2,7 @@
 use Rattle.std.proofs.Common.{◌≡◌, ℕ, ◌+◌, ◌<◌, ◌≤◌, ◌^◌, nat_lt, true, false, cond, List, [], ◌∷◌, ◌++◌, length, Option, Result, Ok, Err, OnOk, OnErr, refl, ap, ◌∙◌, sym, subst, append_assoc, append-nil, length-append, arith, codes}
 use Rattle.std.proofs.lemmas.Bool.{lt-ltb}
 use Rattle.std.proofs.lemmas.List.Sums.{fold-append}
-use Rattle.std.specs.Prelude.{IfErr}
+use Rattle.std.specs.Prelude.{IfErr, IsErr}
 use Rattle.std.specs.Io.KnownBytes.{Appends, Keeps}
 use Rattle.taf_messages.specs.declared.call.Call.{Call}
 use Rattle.hub_model.specs.declared.entry.Entry.{Entry}
@@ -15,7 +15,8 @@ use Rattle.hub_replay.specs.declared.fault.RunFault.TheVariants.{Read, Write, No
 use Rattle.call_lines.specs.Lines.{reply_text}
 use Rattle.hub_replay.specs.Lines.{parsed_lines}
 use Rattle.hub_replay.specs.Outcomes.{Outcome, outcome, after, with_fault_line, with_reply_line, entry_of, one_fault_more, one_call_more, IsStopped, start_of, Answers}
-use Rattle.hub_replay.specs.Running.{IsUnderway, Advances, StopsWithin, IsLateFault, ExplainsFault}
+use Rattle.hub_replay.specs.Running.{IsUnderway, Advances, StopsWithin, IsLateFault, ExplainsFault, Blames, RunState, AnswersLines}
+use Rattle.hub_replay.proofs.LineLemmas.{false_true}
 use Rattle.hub_replay.proofs.StreamLemmas.{Appends-none, Appends-kept, Appends-append}
 
 pub outcome-append : (o : Outcome) (xs ys : List ParsedLine) → outcome o (xs ++ ys) ≡ outcome (outcome o xs) ys
@@ -214,9 +215,19 @@ on_ok (Ok x) p q f = f p q
 on_ok (Err e) p q f = tt
 
 -- memory that is refused ends a run with no failure of the writer
-pub late_fault : {A : Type 0} (r : Result A RunFault) (failures : ℕ) → IfErr r (λ f. f ≡ Memory) → IfErr r (λ f. IsLateFault f failures failures)
-late_fault (Ok x) failures h = tt
-late_fault (Err f) failures h = subst (λ (f : RunFault). IsLateFault f failures failures) (sym h) refl
+pub blames_memory : {A : Type 0} (r : Result A RunFault) (failures : ℕ) → IfErr r (λ f. f ≡ Memory) → Blames r failures failures
+blames_memory (Ok x) failures h = refl
+blames_memory (Err f) failures h = subst (λ (f : RunFault). IsLateFault f failures failures) (sym h) refl
+
+-- lines that are answered, or among which the run stops
+pub answers-lines : {A : Type 0} (r : Result A RunFault) (old new : RunState) (lines : List ParsedLine) → OnOk r (Advances old.written new.written old.entries old.output new.entries new.output lines) → OnErr r (StopsWithin old.written new.written old.entries old.output new.entries lines) → AnswersLines r old new lines
+answers-lines (Ok x) old new lines advances stops = advances
+answers-lines (Err f) old new lines advances stops = stops
+
+-- with a fault the run stops among them
+pub stops-lines : {A : Type 0} (r : Result A RunFault) (old new : RunState) (lines : List ParsedLine) → IsErr r → StopsWithin old.written new.written old.entries old.output new.entries lines → AnswersLines r old new lines
+stops-lines (Ok x) old new lines e stops = absurd (false_true e)
+stops-lines (Err f) old new lines e stops = stops
 
 pub on_err : {A E : Type 0} (r : Result A E) {R : Type 0} → R → OnErr r R
 on_err (Ok x) h = tt

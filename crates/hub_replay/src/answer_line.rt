@@ -4,7 +4,7 @@ ghost use Rattle.hub_model.specs.declared.entry.Entry.{Entry};
 ghost use Rattle.call_lines.specs.declared.parsed.ParsedLine.TheVariants.{Called};
 ghost use Rattle.call_lines.specs.Lines.{IsNotMemory};
 ghost use Rattle.hub_replay.specs.Outcomes.{IsApplied};
-ghost use Rattle.hub_replay.specs.Running.{Advances, StopsWithin, line_total, IsLateFault};
+ghost use Rattle.hub_replay.specs.Running.{AnswersLines, AnswersNoLine, Blames, line_total, run_state};
 
 use crate::fault::RunFault;
 use crate::output::{Output, write_all};
@@ -25,13 +25,9 @@ pub(crate) fn answer_line<W: Sink>(
 ) -> Result<(), RunFault>
     requires few { line_total output.old.counts < 2 ^ 62 }
     requires reportable { IsNotMemory line }
-    ensures ok { OnOk result (Advances (W.contents writer.old) (W.contents writer.new) hub.old
-        output.old hub.new output.new (line ∷ [])) }
-    ensures err { OnErr result (StopsWithin (W.contents writer.old) (W.contents writer.new) hub.old
-        output.old hub.new (line ∷ [])) }
-    ensures fault { IfErr result (λ f. IsLateFault f (W.failures writer.old)
-        (W.failures writer.new)) }
-    ensures kept { OnOk result (W.failures writer.new ≡ W.failures writer.old) }
+    ensures answers { AnswersLines result (run_state (W.contents writer.old) hub.old output.old)
+        (run_state (W.contents writer.new) hub.new output.new) (line ∷ []) }
+    ensures blames { Blames result (W.failures writer.old) (W.failures writer.new) }
     ensures counted { OnOk result (line_total output.new.counts
         ≤ line_total output.old.counts + 2) }
 {
@@ -52,13 +48,9 @@ fn answer_call<W: Sink>(
     call: Call,
 ) -> Result<(), RunFault>
     requires { line_total output.old.counts < 2 ^ 62 }
-    ensures ok { OnOk result (Advances (W.contents writer.old) (W.contents writer.new) hub.old
-        output.old hub.new output.new (Called call ∷ [])) }
-    ensures err { OnErr result (StopsWithin (W.contents writer.old) (W.contents writer.new) hub.old
-        output.old hub.new (Called call ∷ [])) }
-    ensures fault { IfErr result (λ f. IsLateFault f (W.failures writer.old)
-        (W.failures writer.new)) }
-    ensures kept { OnOk result (W.failures writer.new ≡ W.failures writer.old) }
+    ensures answers { AnswersLines result (run_state (W.contents writer.old) hub.old output.old)
+        (run_state (W.contents writer.new) hub.new output.new) (Called call ∷ []) }
+    ensures blames { Blames result (W.failures writer.old) (W.failures writer.new) }
     ensures counted { OnOk result (line_total output.new.counts
         ≤ line_total output.old.counts + 2) }
 {
@@ -89,13 +81,9 @@ fn apply_call(hub: &mut Hub, call: Call) -> Result<Option<Reply>, Memory>
 
 /// Writes what is pending.
 pub(crate) fn write_pending<W: Sink>(writer: &mut W, output: &mut Output) -> Result<(), RunFault>
-    ensures ok { OnOk result ((e : List Entry) → Advances (W.contents writer.old)
-        (W.contents writer.new) e output.old e output.new []) }
-    ensures err { OnErr result ((e : List Entry) →
-        StopsWithin (W.contents writer.old) (W.contents writer.new) e output.old e []) }
-    ensures fault { IfErr result (λ f. IsLateFault f (W.failures writer.old)
-        (W.failures writer.new)) }
-    ensures kept { OnOk result (W.failures writer.new ≡ W.failures writer.old) }
+    ensures answers { AnswersNoLine result (W.contents writer.old) (W.contents writer.new)
+        output.old output.new }
+    ensures blames { Blames result (W.failures writer.old) (W.failures writer.new) }
     ensures counts { OnOk result (output.new.counts ≡ output.old.counts) }
     ensures empty { OnOk result (output.new.pending.items ≡ []) }
 {
@@ -111,13 +99,9 @@ pub(crate) fn write_past_threshold<W: Sink>(
     writer: &mut W,
     output: &mut Output,
 ) -> Result<(), RunFault>
-    ensures ok { OnOk result ((e : List Entry) → Advances (W.contents writer.old)
-        (W.contents writer.new) e output.old e output.new []) }
-    ensures err { OnErr result ((e : List Entry) →
-        StopsWithin (W.contents writer.old) (W.contents writer.new) e output.old e []) }
-    ensures fault { IfErr result (λ f. IsLateFault f (W.failures writer.old)
-        (W.failures writer.new)) }
-    ensures kept { OnOk result (W.failures writer.new ≡ W.failures writer.old) }
+    ensures answers { AnswersNoLine result (W.contents writer.old) (W.contents writer.new)
+        output.old output.new }
+    ensures blames { Blames result (W.failures writer.old) (W.failures writer.new) }
     ensures counts { OnOk result (output.new.counts ≡ output.old.counts) }
 {
     if output.pending.len() >= WRITE_THRESHOLD {
@@ -128,13 +112,9 @@ pub(crate) fn write_past_threshold<W: Sink>(
 
 /// Writes what is pending, and has the writer send it on.
 pub(crate) fn flush<W: Sink>(writer: &mut W, output: &mut Output) -> Result<(), RunFault>
-    ensures ok { OnOk result ((e : List Entry) → Advances (W.contents writer.old)
-        (W.contents writer.new) e output.old e output.new []) }
-    ensures err { OnErr result ((e : List Entry) →
-        StopsWithin (W.contents writer.old) (W.contents writer.new) e output.old e []) }
-    ensures fault { IfErr result (λ f. IsLateFault f (W.failures writer.old)
-        (W.failures writer.new)) }
-    ensures kept { OnOk result (W.failures writer.new ≡ W.failures writer.old) }
+    ensures answers { AnswersNoLine result (W.contents writer.old) (W.contents writer.new)
+        output.old output.new }
+    ensures blames { Blames result (W.failures writer.old) (W.failures writer.new) }
     ensures counts { OnOk result (output.new.counts ≡ output.old.counts) }
     ensures empty { OnOk result (output.new.pending.items ≡ []) }
 {

@@ -1,7 +1,7 @@
 //! Lines are answered while the next ones are parsed.
 ghost use Rattle.std.specs.Prelude.{◌≡◌, ◌+◌, ◌*◌, ◌<◌, ◌≤◌, ◌^◌, length, All, OnOk, OnErr, IfOk, IfErr};
 ghost use Rattle.call_lines.specs.Lines.{IsNotMemory};
-ghost use Rattle.hub_replay.specs.Running.{Advances, StopsWithin, line_total, IsLateFault};
+ghost use Rattle.hub_replay.specs.Running.{AnswersLines, Blames, line_total, run_state};
 ghost use Rattle.hub_replay.specs.Batches.{IsBatch};
 
 use crate::answer_line::{answer_line, write_past_threshold};
@@ -27,13 +27,9 @@ fn answer_batch<W: Sink>(
 ) -> Result<(), RunFault>
     requires few { line_total output.old.counts + 2 * length lines.old.items < 2 ^ 62 }
     requires reportable { All IsNotMemory lines.old.items }
-    ensures ok { OnOk result (Advances (W.contents writer.old) (W.contents writer.new) hub.old
-        output.old hub.new output.new lines.old.items) }
-    ensures err { OnErr result (StopsWithin (W.contents writer.old) (W.contents writer.new) hub.old
-        output.old hub.new lines.old.items) }
-    ensures fault { IfErr result (λ f. IsLateFault f (W.failures writer.old)
-        (W.failures writer.new)) }
-    ensures kept { OnOk result (W.failures writer.new ≡ W.failures writer.old) }
+    ensures answers { AnswersLines result (run_state (W.contents writer.old) hub.old output.old)
+        (run_state (W.contents writer.new) hub.new output.new) lines.old.items }
+    ensures blames { Blames result (W.failures writer.old) (W.failures writer.new) }
     ensures counted { OnOk result (line_total output.new.counts
         ≤ line_total output.old.counts + 2 * length lines.old.items) }
 {
@@ -58,13 +54,9 @@ pub(crate) fn answer_and_parse_next<W: Sink>(
     requires few { line_total output.old.counts + 2 * length lines.old.items < 2 ^ 62 }
     requires some { 0 < most }
     requires reportable { All IsNotMemory lines.old.items }
-    ensures ok { OnOk result.0 (Advances (W.contents writer.old) (W.contents writer.new) hub.old
-        output.old hub.new output.new lines.old.items) }
-    ensures err { OnErr result.0 (StopsWithin (W.contents writer.old) (W.contents writer.new)
-        hub.old output.old hub.new lines.old.items) }
-    ensures fault { IfErr result.0 (λ f. IsLateFault f (W.failures writer.old)
-        (W.failures writer.new)) }
-    ensures kept { OnOk result.0 (W.failures writer.new ≡ W.failures writer.old) }
+    ensures answers { AnswersLines result.0 (run_state (W.contents writer.old) hub.old output.old)
+        (run_state (W.contents writer.new) hub.new output.new) lines.old.items }
+    ensures blames { Blames result.0 (W.failures writer.old) (W.failures writer.new) }
     ensures counted { OnOk result.0 (line_total output.new.counts
         ≤ line_total output.old.counts + 2 * length lines.old.items) }
     ensures next { IfOk result.1 (λ batch. IsBatch next.now batch) }

@@ -1,7 +1,6 @@
 //! What lines in a row say.
-ghost use Rattle.std.specs.Prelude.{◌≡◌, ◌<◌, ◌≤◌, true, length, take, IfOk};
-ghost use Rattle.call_lines.specs.Lines.{has_no_newline};
-ghost use Rattle.hub_replay.specs.Batches.{IsBatch};
+ghost use Rattle.std.specs.Prelude.{◌<◌, IfOk};
+ghost use Rattle.hub_replay.specs.Batches.{IsBatch, IsScanned};
 
 use call_lines::{ParsedLine, next_newline, parse_line};
 use call_reader::CallReader;
@@ -27,9 +26,8 @@ pub(crate) fn parse_batch(
     scanned: usize,
     most: usize,
 ) -> Result<Batch, Memory>
-    requires order { scanned ≤ length bytes.now }
     requires some { 0 < most }
-    requires scanned { has_no_newline (take scanned bytes.now) ≡ true }
+    requires scanned { IsScanned bytes.now scanned }
     ensures { IfOk result (λ batch. IsBatch bytes.now batch) }
 {
     let mut reader = CallReader::new(alloc);

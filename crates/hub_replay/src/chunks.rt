@@ -3,7 +3,8 @@ ghost use Rattle.std.specs.Prelude.{◌≡◌, ◌+◌, ◌*◌, ◌-◌, ◌<�
 ghost use Rattle.call_lines.specs.declared.parsed.ParsedLine.{ParsedLine};
 ghost use Rattle.call_lines.specs.Lines.{has_no_newline};
 ghost use Rattle.hub_replay.specs.Lines.{IsCut, IsTaken, parsed_lines, after_skipping, after_newline};
-ghost use Rattle.hub_replay.specs.Running.{Advances, StopsWithin, line_total, IsLateFault};
+ghost use Rattle.hub_replay.specs.Batches.{IsScanned};
+ghost use Rattle.hub_replay.specs.Running.{Advances, AnswersLines, Blames, StopsWithin, line_total, run_state};
 
 use crate::answer_line::{answer_line, flush};
 use crate::answering::answer_and_parse_next;
@@ -84,9 +85,7 @@ pub(crate) fn answer_lines<W: Sink>(
         output.new lines) }
     ensures err { OnErr result (StopsWithin (W.contents writer.old) (W.contents writer.new) hub.old
         output.old hub.new (parsed_lines (drop part.entry.start part.entry.chunk.now))) }
-    ensures fault { IfErr result (λ f. IsLateFault f (W.failures writer.old)
-        (W.failures writer.new)) }
-    ensures kept { OnOk result (W.failures writer.new ≡ W.failures writer.old) }
+    ensures blames { Blames result (W.failures writer.old) (W.failures writer.new) }
     ensures counted { IfOk result (λ end. line_total output.new.counts + 2 * part.entry.start
         ≤ line_total output.old.counts + 2 * end) }
 {
@@ -134,8 +133,7 @@ pub(crate) fn answer_chunk<W: Sink>(
     output: &mut Output,
     input: Chunk<'_>,
 ) -> Result<Rest, RunFault>
-    requires order { input.scanned ≤ length input.chunk.now }
-    requires scanned { has_no_newline (take input.scanned input.chunk.now) ≡ true }
+    requires scanned { IsScanned input.chunk.now input.scanned }
     requires bare { input.skipping ≡ true → input.scanned ≡ 0 }
     requires few { line_total output.old.counts + 2 * length input.chunk.now < 2 ^ 62 }
     ensures bounds { IfOk result (λ rest. (rest.start ≤ length input.entry.chunk.now)
@@ -148,9 +146,7 @@ pub(crate) fn answer_chunk<W: Sink>(
     ensures err { OnErr result (StopsWithin (W.contents writer.old) (W.contents writer.new) hub.old
         output.old hub.new
         (parsed_lines (after_skipping input.entry.skipping input.entry.chunk.now))) }
-    ensures fault { IfErr result (λ f. IsLateFault f (W.failures writer.old)
-        (W.failures writer.new)) }
-    ensures kept { OnOk result (W.failures writer.new ≡ W.failures writer.old) }
+    ensures blames { Blames result (W.failures writer.old) (W.failures writer.new) }
     ensures counted { IfOk result (λ rest. line_total output.new.counts
         ≤ line_total output.old.counts + 2 * rest.start) }
 {
@@ -194,15 +190,11 @@ pub(crate) fn finish<W: Sink>(
 ) -> Result<Counts, RunFault>
     requires whole { has_no_newline line.now ≡ true }
     requires few { line_total output.old.counts < 2 ^ 62 }
-    ensures ok { OnOk result (Advances (W.contents writer.old) (W.contents writer.new) hub.old
-        output.old hub.new output.new (parsed_lines line.now)) }
+    ensures answers { AnswersLines result (run_state (W.contents writer.old) hub.old output.old)
+        (run_state (W.contents writer.new) hub.new output.new) (parsed_lines line.now) }
     ensures counts { IfOk result (λ counts. counts ≡ output.new.counts) }
     ensures empty { OnOk result (output.new.pending.items ≡ []) }
-    ensures err { OnErr result (StopsWithin (W.contents writer.old) (W.contents writer.new) hub.old
-        output.old hub.new (parsed_lines line.now)) }
-    ensures fault { IfErr result (λ f. IsLateFault f (W.failures writer.old)
-        (W.failures writer.new)) }
-    ensures kept { OnOk result (W.failures writer.new ≡ W.failures writer.old) }
+    ensures blames { Blames result (W.failures writer.old) (W.failures writer.new) }
 {
     last_line(writer, hub, output, line)?;
     flush(writer, output)?;
@@ -217,13 +209,9 @@ fn last_line<W: Sink>(
 ) -> Result<(), RunFault>
     requires whole { has_no_newline line.now ≡ true }
     requires few { line_total output.old.counts < 2 ^ 62 }
-    ensures ok { OnOk result (Advances (W.contents writer.old) (W.contents writer.new) hub.old
-        output.old hub.new output.new (parsed_lines line.now)) }
-    ensures err { OnErr result (StopsWithin (W.contents writer.old) (W.contents writer.new) hub.old
-        output.old hub.new (parsed_lines line.now)) }
-    ensures fault { IfErr result (λ f. IsLateFault f (W.failures writer.old)
-        (W.failures writer.new)) }
-    ensures kept { OnOk result (W.failures writer.new ≡ W.failures writer.old) }
+    ensures answers { AnswersLines result (run_state (W.contents writer.old) hub.old output.old)
+        (run_state (W.contents writer.new) hub.new output.new) (parsed_lines line.now) }
+    ensures blames { Blames result (W.failures writer.old) (W.failures writer.new) }
 {
     if line.is_empty() {
         return Ok(());

@@ -1,7 +1,6 @@
 //! Lines parsed, with the memory of earlier lists.
-ghost use Rattle.std.specs.Prelude.{◌≡◌, ◌<◌, ◌≤◌, true, length, take, IfOk};
-ghost use Rattle.call_lines.specs.Lines.{has_no_newline};
-ghost use Rattle.hub_replay.specs.Batches.{IsBatch};
+ghost use Rattle.std.specs.Prelude.{◌<◌, IfOk};
+ghost use Rattle.hub_replay.specs.Batches.{IsBatch, IsScanned};
 
 use crate::batch::{Batch, parse_batch};
 use call_lines::ParsedLine;
@@ -49,9 +48,8 @@ impl<'a, T> LineParser<'a, T> {
         scanned: usize,
         most: usize,
     ) -> Result<Batch, Memory>
-        requires order { scanned ≤ length bytes.now }
         requires some { 0 < most }
-        requires scanned { has_no_newline (take scanned bytes.now) ≡ true }
+        requires scanned { IsScanned bytes.now scanned }
         ensures { IfOk result (λ batch. IsBatch bytes.now batch) }
     {
         let mut list = self.take();

@@ -9,10 +9,10 @@ use Rattle.std.proofs.lemmas.Option.{slice_get_within, get_or_from_slice_get}
 use mathlib.Core.Logic.{dite}
 use native.Mathlib.Decide.{ℕ_discrete}
 use Rattle.hub_model.specs.declared.entry.Entry.{Entry}
-use Rattle.hub_shared.specs.declared.tally.Told.{Told}
+use Rattle.tallies.specs.declared.tally.Told.{Told}
 use Rattle.hub_shared.specs.declared.settling.SettleFault.{SettleFault}
 use Rattle.hub_shared.specs.declared.settling.SettleFault.TheVariants.{CountDiffers, Foreign, Twice, OutOfOrder, Memory}
-use Rattle.hub_shared.specs.Tallies.{TallyState}
+use Rattle.tallies.specs.Tallies.{TallyState}
 use Rattle.hub_shared.specs.Settling.{StandsIn, times_told, IsRising, IsTold, IsSettleFault}
 use Rattle.hub_shared.specs.Marks.{mark, mark_count, MarksTally, IsTallyFault, MarksTallies}
 

@@ -7,8 +7,8 @@ use Rattle.std.proofs.lemmas.List.Sums.{sum_by-cons}
 use mathlib.Core.Logic.{dite}
 use native.Mathlib.Decide.{ℕ_discrete}
 use Rattle.hub_model.specs.declared.entry.Entry.{Entry}
-use Rattle.hub_shared.specs.declared.tally.Told.{Told}
-use Rattle.hub_shared.specs.Tallies.{TallyState}
+use Rattle.tallies.specs.declared.tally.Told.{Told}
+use Rattle.tallies.specs.Tallies.{TallyState}
 use Rattle.hub_shared.specs.Settling.{entry_of, StandsIn, times_told, IsRising, IsTold}
 use Rattle.hub_shared.specs.Orders.{items_of_label, Interleaves, entries_of}
 

@@ -1,5 +1,4 @@
 pub mod Seats
-pub mod Tallies
 pub mod Settling
 pub mod Marks
 pub mod Orders

@@ -2,10 +2,10 @@
 use Rattle.std.specs.Prelude.{◌≡◌, ℕ, ◌+◌, ◌<◌, if◌then◌else◌, Bool, false, List, length, slice_index_or}
 use Rattle.std.specs.List.{All, count_by}
 use Rattle.hub_model.specs.declared.entry.Entry.{Entry}
-use Rattle.hub_shared.specs.declared.tally.Told.{Told}
+use Rattle.tallies.specs.declared.tally.Told.{Told}
 use Rattle.hub_shared.specs.declared.settling.SettleFault.{SettleFault}
 use Rattle.hub_shared.specs.declared.settling.SettleFault.TheVariants.{CountDiffers, Foreign, Twice, OutOfOrder, Memory}
-use Rattle.hub_shared.specs.Tallies.{TallyState}
+use Rattle.tallies.specs.Tallies.{TallyState}
 use Rattle.hub_shared.specs.Settling.{StandsIn, times_told, times_told_in, entry_count, IsRising, HasForeign, HasFall}
 
 -- 1 at a position that is marked, else 0

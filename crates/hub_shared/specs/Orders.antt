@@ -1,7 +1,7 @@
 -- Interleavings, and that a history that is told is one.
 use Rattle.std.specs.Prelude.{◌≡◌, ℕ, ◌==◌, if◌then◌else◌, List, [], ◌∷◌, length, map, slice_index_or}
 use Rattle.hub_model.specs.declared.entry.Entry.{Entry}
-use Rattle.hub_shared.specs.Tallies.{TallyState}
+use Rattle.tallies.specs.Tallies.{TallyState}
 use Rattle.hub_shared.specs.Settling.{entry_of, IsTold}
 
 -- the items of a list that have this label, in their order; the first list has the labels

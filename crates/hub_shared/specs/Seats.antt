@@ -4,7 +4,7 @@ use Rattle.taf_messages.specs.declared.call.Call.{Call}
 use Rattle.taf_messages.specs.declared.reply.Reply.{Reply}
 use Rattle.hub_model.specs.declared.entry.Entry.{Entry}
 use Rattle.hub_model.specs.Histories.{answer, run}
-use Rattle.hub_core.specs.declared.fault.HubFault.{HubFault}
+use Rattle.tallies.specs.declared.fault.HubFault.{HubFault}
 use Rattle.hub_core.specs.Faults.{IsFault}
 
 -- the hub's history, and the book's number

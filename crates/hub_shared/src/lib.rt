@@ -16,7 +16,6 @@
 //! | `booked` | the value behind the lock, and one call on it |
 //! | `seat` | the right to call, with its counts |
 //! | `shared` | the lock |
-//! | `tally` | what one session was told |
 //! | `settling` | the comparison of tallies and history |
 //! | `law` | the order of a session's entries in a history that is told |
 #![tactic(auto)]
@@ -26,11 +25,10 @@ mod law;
 mod seat;
 mod settling;
 mod shared;
-mod tally;
 
 pub use booked::{Booked, serve_one};
 pub use law::told_sessions_interleave;
 pub use seat::{Seat, split_seat};
 pub use settling::{SettleFault, Settled, settle};
 pub use shared::SharedHub;
-pub use tally::{Tally, Told};
+pub use tallies::{Tally, Told};

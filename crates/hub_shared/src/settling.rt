@@ -3,11 +3,11 @@ ghost use Rattle.std.specs.Prelude.{◌≡◌, ◌<◌, ◌↔◌, length, IsTru
 ghost use Rattle.hub_shared.specs.Settling.{entry_of, StandsIn, IsTold, IsSettleFault};
 ghost use Rattle.hub_shared.specs.Marks.{MarksTally, IsTallyFault};
 
-use crate::tally::{Tally, Told};
 use hub_core::Hub;
 use hub_model::Entry;
 use std::alloc::Global;
 use taf_messages::{same_call, same_reply};
+use tallies::{Tally, Told};
 use thiserror::Error;
 
 /// That the history is told by the tallies.

@@ -4,7 +4,7 @@ use Rattle.std.specs.List.{All}
 use Rattle.inbox.specs.declared.rule.Job.{Job}
 use Rattle.inbox.specs.Interleavings.{IsKept}
 use Rattle.hub_shared.specs.Seats.{SeatState, IsRun}
-use Rattle.hub_shared.specs.Tallies.{TallyState}
+use Rattle.tallies.specs.Tallies.{TallyState}
 use Rattle.hub_workers.specs.declared.ends.SessionEnd.{SessionEnd}
 use Rattle.hub_shifts.specs.declared.shift.Shift.{Shift}
 use Rattle.hub_workers.specs.Lanes.{EachAt, of_lane}

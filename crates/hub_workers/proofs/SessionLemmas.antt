@@ -1,7 +1,7 @@
 -- What a session left that was served.
 use Rattle.std.proofs.Common.{◌≡◌, ℕ, ◌+◌, Bool, true, false, List, [], ◌++◌, length, Result, Ok, Err, is_ok, refl, sym, ap, ◌∙◌, subst, rules, tests, arith, append-nil}
 use Rattle.inbox.specs.declared.rule.Job.{Job}
-use Rattle.hub_shared.specs.declared.tally.Told.{Told}
+use Rattle.tallies.specs.declared.tally.Told.{Told}
 use Rattle.session_lines.specs.declared.session.Slot.{Slot}
 use Rattle.session_lines.specs.States.{State, new_state}
 use Rattle.session_serving.specs.declared.fault.SessionFault.{SessionFault}

@@ -4,7 +4,7 @@ use Rattle.std.specs.List.{All}
 use Rattle.inbox.specs.declared.rule.Job.{Job}
 use Rattle.inbox.specs.States.{PassState}
 use Rattle.hub_shared.specs.Seats.{SeatState}
-use Rattle.hub_shared.specs.declared.tally.Told.{Told}
+use Rattle.tallies.specs.declared.tally.Told.{Told}
 use Rattle.session_lines.specs.States.{State, new_state}
 use Rattle.session_serving.specs.declared.fault.SessionFault.{SessionFault}
 use Rattle.session_serving.specs.Advances.{Advances}

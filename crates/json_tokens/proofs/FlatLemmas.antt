@@ -1,11 +1,9 @@
 -- Records without lists, read without a tree.
-use Rattle.std.proofs.Common.{◌≡◌, ℕ, ◌+◌, ◌<◌, ◌≤◌, ◌==◌, ◌^◌, Bool, true, false, cond, List, [], ◌∷◌, ◌++◌, length, take, get_or, Option, Some, None, option_map, option_and_then, bytes_eq, refl, sym, ap, ◌∙◌, arith, append-nil, true≢false, ne_eqb, subst}
-use Rattle.std.specs.Prelude.{slice_index, nat_lt, SomeIff, IfSome, unwrap_or}
+use Rattle.std.proofs.Common.{◌≡◌, ℕ, ◌+◌, ◌<◌, ◌≤◌, Bool, true, false, cond, List, [], ◌∷◌, ◌++◌, length, take, get_or, Option, Some, None, option_map, option_and_then, bytes_eq, refl, sym, ap, ◌∙◌, arith, append-nil, true≢false, subst}
+use Rattle.std.specs.Prelude.{unwrap_or}
 use Rattle.std.specs.Option.{option_or}
 use Rattle.std.proofs.lemmas.Slice.Eq.{bytes_eq-Decides}
-use Rattle.std.proofs.lemmas.Bool.Decides.{Decides-ltb}
 use Rattle.std.proofs.lemmas.List.{take_more}
-use Rattle.fast_float.specs.Text.{Parts, scan, digits_of, IsInteger}
 use Rattle.json.specs.Token.{Token}
 use Rattle.json.specs.Token as token
 use Rattle.json.specs.Json as json
@@ -14,33 +12,14 @@ use Rattle.json.specs.Reads.{token_of, Yields}
 use Rattle.json.specs.declared.token.Token.{Token as TokenRead}
 use Rattle.json.specs.Lex.{tokens}
 use Rattle.json.proofs.Printed.Trees.{value-json_tokens}
-use Rattle.serde_json.specs.Data.{Members, no_members, unsigned, object, put}
+use Rattle.serde_json.specs.Data.{Members, no_members, object, put}
 use Rattle.serde_json.specs.Find.{get_member}
-use Rattle.serde_json.specs.Read.{number_of, is_integer, of_json, of_members, read, max_depth}
+use Rattle.serde_json.specs.Read.{of_json, of_members, read, max_depth}
 use Rattle.serde_json.proofs.Views.{get_member-put, get_member-put_other}
 use Rattle.json_tokens.specs.Flat.{Member, scalar_token, scalar_json, scalar_data, IsSpelt, AreSpelt, member_tokens, member_json, put_all, flat_data, under, last_under}
 use Rattle.json_tokens.specs.declared.flat.Scalar.{Scalar}
 use Rattle.json_tokens.specs.declared.flat.Scalar.TheVariants.{Text, Whole}
 use Rattle.json_tokens.proofs.ReadLemmas.{whole_of}
-
--- ---- whole numbers
-
-is_whole : (p : Parts) → IsInteger p → is_integer p ≡ true
-is_whole p i =
-    let some : nat_lt 0 (length p.whole) ≡ true = (Decides-ltb 0 (length p.whole)).1 i.0 in
-    rw (some, i.1, i.2) refl
-
--- digits without a sign say their number
-pub whole_spelt : (s : List ℕ) → (slice_index s 0 == 45) ≡ false → IsInteger (scan s) → digits_of (scan s) < 2 ^ 64 → number_of s ≡ Some (unsigned (digits_of (scan s)))
-unfolding number_of
-whole_spelt s sign i small = rw (sign, is_whole (scan s) i, (Decides-ltb (digits_of (scan s)) (2 ^ 64)).1 small) refl
-
-pub whole_found : (s bytes : List ℕ) (p : Parts) (found : Option ℕ) → bytes ≡ s → p ≡ scan bytes → (get_or bytes 0 0 ≡ 45 → ⊥) →
-    SomeIff found (IsInteger p × (digits_of p < 2 ^ 64)) (digits_of p) → IfSome found (λ n. number_of s ≡ Some (unsigned n))
-whole_found s bytes p None b e sign h = tt
-whole_found s bytes p (Some n) b e sign h =
-    ap number_of (sym b) ∙ whole_spelt bytes (ne_eqb (get_or bytes 0 0) 45 sign) (subst IsInteger e h.0.0) (subst (λ (q : Parts). digits_of q < 2 ^ 64) e h.0.1) ∙
-    ap (λ (q : Parts). Some (unsigned (digits_of q))) (sym e) ∙ ap (λ k. Some (unsigned k)) (sym h.1)
 
 -- ---- the members of a text
 
@@ -153,7 +132,7 @@ found_later : {A B : Type 0} (f : A → B) (last : Option A) (before : Option B)
 found_later f None before = refl
 found_later f (Some x) before = refl
 
-apart : (k name : List ℕ) → bytes_eq k name ≡ false → name ≡ k → ⊥
+pub apart : (k name : List ℕ) → bytes_eq k name ≡ false → name ≡ k → ⊥
 apart k name other same = true≢false (sym ((bytes_eq-Decides k name).1 (sym same)) ∙ other)
 
 put_member : (name : List ℕ) (m : Member) (before : Members) (last : Option Scalar) (b : Bool) → bytes_eq m.0.now name ≡ b →

@@ -5,3 +5,6 @@ pub mod NumberLemmas
 pub mod FlatLemmas
 pub mod WritingLemmas
 pub mod ScanLemmas
+pub mod WholeLemmas
+pub mod TapeReadLemmas
+pub mod TapeFindLemmas

@@ -2,13 +2,13 @@
 //!
 //! A record in the form in which it is written is read by a scan of its bytes (`scan.rt`). Any other, as one with blanks
 //! or escapes, is read token by token.
-ghost use Rattle.std.specs.Prelude.{◌≡◌, ◌∷◌, [], ◌++◌, true, Some, IfOk, IfSome, option_map};
+ghost use Rattle.std.specs.Prelude.{◌≡◌, ◌==◌, ◌∷◌, [], ◌++◌, true, Some, IfOk, IfSome, option_map, option_and_then, slice_index};
 ghost use Rattle.std.specs.Option.{option_or};
 ghost use Rattle.json.specs.Token.{end_object};
 ghost use Rattle.json.specs.Reads.{token_of};
 ghost use Rattle.serde_json.specs.Read.{number_of, read as read_text};
 ghost use Rattle.serde_json.specs.Data.{unsigned};
-ghost use Rattle.serde_json.specs.Find.{get};
+ghost use Rattle.serde_json.specs.Find.{as_u64, get};
 ghost use Rattle.json_tokens.specs.Flat.{AreSpelt, IsSpelt, flat_data, last_under, member_tokens, scalar_data, scalar_token, under};
 
 use crate::scan::{Form, scan_members};
@@ -122,14 +122,22 @@ fn value_of(token: Option<Token<'_>>) -> Option<Scalar<'_>>
 }
 
 // The whole number of a token's text, if it is one that is not below 0 and has 64 bits at most.
-fn whole(digits: &str) -> Option<u64>
-    ensures { IfSome result (λ n. number_of digits.now ≡ Some (unsigned n)) }
+pub(crate) fn whole(digits: &str) -> Option<u64>
+    ensures spelt { IfSome result (λ n. number_of digits.now ≡ Some (unsigned n)) }
+    ensures exact { result ≡ option_and_then as_u64 (number_of digits.now) }
 {
     let bytes = digits.as_bytes();
-    if bytes.is_empty() || bytes[0] == b'-' {
+    if has_minus(bytes) {
         return None;
     }
     Numeral::scan(bytes).to_u64()
+}
+
+#[inline(always)]
+fn has_minus(digits: &[u8]) -> bool
+    ensures { result ≡ (slice_index digits.now 0 == 45) }
+{
+    !digits.is_empty() && digits[0] == b'-'
 }
 
 // The last value under a name.

@@ -1,4 +1,4 @@
-//! Tokens of JSON: a writer whose texts need no escape, and a reader of records without lists.
+//! Tokens of JSON: a writer whose texts need no escape, and readers of records without a tree.
 //!
 //! - [`Writer`] appends JSON to a buffer, a token at a time. Each text is plain (nothing in it that JSON escapes), so it
 //!   is copied as it is, and each number is a whole one of 64 bits. What is written is read by `serde_json` as the tree
@@ -6,19 +6,23 @@
 //! - [`FlatRecord`] reads an object of texts and whole numbers without a tree: by a scan where it is written without blanks
 //!   and escapes (`specs/FlatText.antt`), else token by token. It is proved to be the data that `serde_json` reads of the
 //!   text (`specs/Flat.antt`).
-//! - [`JsonValue`] is what is found in a line: a text, a number, such a record, or any tree of `serde_json`. Contracts see its
-//!   data, so that what reads fields is written once.
+//! - [`JsonTape`] reads any JSON whose numbers are whole ones, as a record with lists, into a flat list of its tokens. It too
+//!   is proved to be the data that `serde_json` reads of the text (`specs/Tapes.antt`).
+//! - [`JsonValue`] is what is found in a line: a text, a number, such a record, a value on such a tape, or any tree of
+//!   `serde_json`. Contracts see its data, so that what reads fields is written once.
 //!
-//! The writer takes memory for its buffer, and the reader for the members of a record. Where it is refused, what a buffer
-//! held stays.
+//! The writer takes memory for its buffer, and the readers for the members or the tokens of a record. Where it is refused, what
+//! a buffer held stays.
 #![tactic(auto)]
 
 mod buffer;
 mod flat;
 mod json_value;
 mod scan;
+mod tape;
 mod writer;
 
 pub use flat::{FlatRecord, Scalar};
-pub use json_value::JsonValue;
+pub use json_value::{JsonItems, JsonValue};
+pub use tape::{JsonTape, TapeItems, TapeValue};
 pub use writer::Writer;

@@ -10,6 +10,7 @@
 //! Writing takes memory. Where it is refused, the answer is `Memory`, and what a buffer held stays.
 #![tactic(auto)]
 
+mod accepted;
 mod laws;
 mod put;
 mod put_message;

@@ -8,6 +8,7 @@ ghost use Rattle.reply_writer.specs.ReplyShapes.{reply_data, item_data, fault_da
 ghost use Rattle.reply_writer.specs.RecordShapes.{record_data};
 ghost use Rattle.taf_messages.specs.declared.fault.RecordFault.TheVariants.{Memory as NoMemory};
 
+use crate::accepted::append_accepted;
 use crate::put::Json;
 use json_tokens::Writer;
 use std::alloc::Global;
@@ -56,7 +57,10 @@ pub fn append_reply(alloc: Global, out: &mut Vec<u8>, reply: &Reply) -> Result<(
         ≡ Some (reply_data reply.now)) }
     ensures err { OnErr result (out.new.items ≡ out.old.items) }
 {
-    append(alloc, out, reply)
+    match reply {
+        Reply::Accepted { no } => append_accepted(out, *no),
+        _ => append(alloc, out, reply),
+    }
 }
 
 /// Appends the text of a record's fault. Where memory is refused, nothing is appended.

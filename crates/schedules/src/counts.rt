@@ -1,6 +1,6 @@
 //! How much was tried.
 
-use crate::player::Player;
+use crate::scheduled_session::ScheduledSession;
 use std::fmt::{self, Display, Formatter, Write};
 
 /// How much of each came in schedules.
@@ -23,9 +23,9 @@ pub struct Counts {
 
 impl Counts {
     /// Counts a session and its lines.
-    pub(crate) fn add_session(&mut self, player: &Player) {
+    pub(crate) fn add_session(&mut self, scheduled: &ScheduledSession) {
         self.sessions = self.sessions.saturating_add(1);
-        self.lines = self.lines.saturating_add(player.readings.len() as u64);
+        self.lines = self.lines.saturating_add(scheduled.readings.len() as u64);
     }
 
     /// Adds those of another schedule.

@@ -14,7 +14,7 @@
 //! | part | what it has |
 //! |---|---|
 //! | `draws`, `lines`, `scarcity` | what is drawn: numbers, the lines of sessions, when memory is scarce |
-//! | `lane`, `answer`, `player` | the lane of a worker, the answers that a session took, a session |
+//! | `lane`, `answer`, `scheduled_session` | the lane of a worker, the answers that a session took, a session |
 //! | `schedule` | one schedule |
 //! | `lock_step` | the same lines in lock step |
 //! | `counts`, `fault` | how much was tried, and what is found wrong |
@@ -28,11 +28,11 @@ mod fault;
 mod lane;
 mod lines;
 mod lock_step;
-mod player;
 mod scarcity;
 mod schedule;
+mod scheduled_session;
 mod seeds;
 
 pub use counts::Counts;
 pub use fault::{ScheduleFault, SeedFault};
-pub use seeds::play_seeds;
+pub use seeds::run_seeds;

@@ -1,7 +1,7 @@
 //! The same lines in lock step: each answer comes directly after its job.
 
 use crate::fault::ScheduleFault;
-use crate::player::{Came, Player, Reading, SessionState};
+use crate::scheduled_session::{Came, Reading, ScheduledSession, SessionState};
 use hub_shared::Tally;
 use session_lines::{Line, Session, Step};
 use std::alloc::Global;
@@ -11,10 +11,10 @@ const NO_MEMORY: &[u8] = b"{\"fault\":\"no_memory\"}";
 
 const STRANGER: &[u8] = b"{\"fault\":\"stranger\"}";
 
-// A session in lock step beside the one that was played.
+// A session in lock step beside the one of the schedule.
 #[derive(Drop)]
 struct LockStepSession<'p> {
-    played: &'p Player,
+    scheduled: &'p ScheduledSession,
     session: Box<Session>,
     /// How many bytes of what was said are compared.
     compared: usize,
@@ -27,7 +27,7 @@ struct LockStepSession<'p> {
 impl<'p> LockStepSession<'p> {
     // The next line that was said.
     fn next_said(&mut self) -> Option<&'p [u8]> {
-        let rest = self.played.said.get(self.compared..)?;
+        let rest = self.scheduled.said.get(self.compared..)?;
         let size = rest.iter().position(|byte| *byte == b'\n')?;
         self.compared = self.compared.saturating_add(size).saturating_add(1);
         rest.get(..size)
@@ -73,7 +73,7 @@ impl<'p> LockStepSession<'p> {
         let Step::Ask(job) = self.step(reading.line) else {
             return Ok(Some(false));
         };
-        let Some(answer) = self.played.answers.get(self.answered) else {
+        let Some(answer) = self.scheduled.answers.get(self.answered) else {
             return Ok(None);
         };
         self.answered = self.answered.saturating_add(1);
@@ -96,10 +96,10 @@ impl<'p> LockStepSession<'p> {
 
     // Whether all lines mean the same up to the first job that was not answered. Whether there is such a job.
     fn is_cut(&mut self) -> Result<bool, ScheduleFault> {
-        for reading in &self.played.readings {
+        for reading in &self.scheduled.readings {
             match self.is_same(*reading)? {
                 Some(true) => {}
-                Some(false) => return Err(ScheduleFault::Line(self.played.id)),
+                Some(false) => return Err(ScheduleFault::Line(self.scheduled.id)),
                 None => return Ok(true),
             }
         }
@@ -108,7 +108,7 @@ impl<'p> LockStepSession<'p> {
 
     // Fails unless what is left of what was said is the line of a stranger where one came, and else nothing.
     fn check_rest(&mut self, is_cut: bool) -> Result<(), ScheduleFault> {
-        let is_right = match self.played.state {
+        let is_right = match self.scheduled.state {
             SessionState::Open => !is_cut && self.next_said().is_none(),
             SessionState::Broken => self.next_said().is_none(),
             SessionState::Failed => is_cut
@@ -118,7 +118,7 @@ impl<'p> LockStepSession<'p> {
         if is_right {
             Ok(())
         } else {
-            Err(ScheduleFault::Line(self.played.id))
+            Err(ScheduleFault::Line(self.scheduled.id))
         }
     }
 }
@@ -131,11 +131,14 @@ pub(crate) struct LockStep {
     pub(crate) refusals: usize,
 }
 
-/// Gives the lines that were played to a session in lock step. Fails unless it says the same.
-pub(crate) fn lock_step(alloc: Global, played: &Player) -> Result<LockStep, ScheduleFault> {
+/// Gives the lines of a scheduled session to one in lock step. Fails unless it says the same.
+pub(crate) fn lock_step(
+    alloc: Global,
+    scheduled: &ScheduledSession,
+) -> Result<LockStep, ScheduleFault> {
     let mut lock_step_session = LockStepSession {
-        played,
-        session: Box::new(alloc, Session::new(alloc, played.id)).map_err(Memory::from)?,
+        scheduled,
+        session: Box::new(alloc, Session::new(alloc, scheduled.id)).map_err(Memory::from)?,
         compared: 0,
         answered: 0,
         refusals: 0,

@@ -6,8 +6,8 @@ use crate::fault::ScheduleFault;
 use crate::lane::Lane;
 use crate::lines::draw_lines;
 use crate::lock_step::lock_step;
-use crate::player::Player;
 use crate::scarcity::Scarcity;
+use crate::scheduled_session::ScheduledSession;
 use hub_core::Hub;
 use hub_shared::{SettleFault, Tally, settle};
 use inbox::Job;
@@ -35,7 +35,7 @@ pub(crate) struct Schedule<'b> {
     draws: Draws,
     scarcity: Scarcity<'b>,
     hub: Box<Hub>,
-    players: Vec<Player>,
+    sessions: Vec<ScheduledSession>,
     lanes: Vec<Lane>,
     /// So many turns of four are those of workers.
     worker_turns: usize,
@@ -52,10 +52,10 @@ impl<'b> Schedule<'b> {
         scarcity: Scarcity<'b>,
     ) -> Result<Schedule<'b>, Memory> {
         let mut draws = draws;
-        let mut players = Vec::new(alloc);
+        let mut sessions = Vec::new(alloc);
         for id in 0..draws.below(MOST_SESSIONS) + 1 {
             let lines = draw_lines(alloc, &mut draws)?;
-            players.push(Player::new(alloc, id as u32, lines)?)?;
+            sessions.push(ScheduledSession::new(alloc, id as u32, lines)?)?;
         }
         let mut lanes = Vec::new(alloc);
         for _ in 0..draws.below(MOST_WORKERS) + 1 {
@@ -65,7 +65,7 @@ impl<'b> Schedule<'b> {
             alloc,
             scarcity,
             hub: Box::new(alloc, Hub::new(alloc))?,
-            players,
+            sessions,
             lanes,
             worker_turns: 1 + draws.below(3),
             ending_odds: 100 * draws.below(4),
@@ -80,35 +80,37 @@ impl<'b> Schedule<'b> {
             0 => 0,
             lanes => session % lanes,
         };
-        let (Some(player), Some(lane)) = (self.players.get_mut(session), self.lanes.get_mut(lane))
-        else {
+        let (Some(scheduled), Some(lane)) = (
+            self.sessions.get_mut(session),
+            self.lanes.get_mut(lane),
+        ) else {
             return Ok(None);
         };
-        if !player.is_waiting() {
+        if !scheduled.is_waiting() {
             return Ok(None);
         }
-        let is_put = player.put(lane)?;
+        let is_put = scheduled.put(lane)?;
         raise(&mut self.counts.full_lanes, !is_put);
         Ok(Some(is_put))
     }
 
     // A session ends before its lines do: it reads no more, it breaks off, or a stranger's answer comes.
     fn end_early(&mut self, session: usize) -> Result<bool, Memory> {
-        let Some(player) = self.players.get_mut(session) else {
+        let Some(scheduled) = self.sessions.get_mut(session) else {
             return Ok(false);
         };
         match self.draws.below(4) {
             0 => {
-                player.stop_reading();
+                scheduled.stop_reading();
                 Ok(true)
             }
             1 => {
-                let is_broken = player.break_off();
+                let is_broken = scheduled.break_off();
                 raise(&mut self.counts.broken, is_broken);
                 Ok(is_broken)
             }
             other => {
-                let is_stranger = player.take_stranger(other == 2)?;
+                let is_stranger = scheduled.take_stranger(other == 2)?;
                 raise(&mut self.counts.strangers, is_stranger);
                 Ok(is_stranger)
             }
@@ -123,13 +125,13 @@ impl<'b> Schedule<'b> {
         if self.ending_odds > 0 && self.draws.once_in(self.ending_odds) {
             return self.end_early(session);
         }
-        let Some(player) = self.players.get_mut(session) else {
+        let Some(scheduled) = self.sessions.get_mut(session) else {
             return Ok(false);
         };
         match self.draws.below(4) {
-            0 | 1 => player.read(&mut self.draws, &mut self.scarcity),
-            2 => player.take(&mut self.draws, &mut self.scarcity),
-            _ => player.say_held(),
+            0 | 1 => scheduled.read(&mut self.draws, &mut self.scarcity),
+            2 => scheduled.take(&mut self.draws, &mut self.scarcity),
+            _ => scheduled.say_held(),
         }
     }
 
@@ -138,13 +140,13 @@ impl<'b> Schedule<'b> {
         if let Some(is_put) = self.put(session)? {
             return Ok(is_put);
         }
-        let Some(player) = self.players.get_mut(session) else {
+        let Some(scheduled) = self.sessions.get_mut(session) else {
             return Ok(false);
         };
         Ok(
-            player.say_held()?
-                || player.take(&mut self.draws, &mut self.scarcity)?
-                || player.read(&mut self.draws, &mut self.scarcity)?,
+            scheduled.say_held()?
+                || scheduled.take(&mut self.draws, &mut self.scarcity)?
+                || scheduled.read(&mut self.draws, &mut self.scarcity)?,
         )
     }
 
@@ -172,15 +174,15 @@ impl<'b> Schedule<'b> {
             return Ok(false);
         };
         let done = self.answer(job);
-        if let Some(player) = self.players.get_mut(done.session as usize) {
-            player.arrive(done)?;
+        if let Some(scheduled) = self.sessions.get_mut(done.session as usize) {
+            scheduled.arrive(done)?;
         }
         Ok(true)
     }
 
     // Sessions and workers take turns that are drawn.
     fn take_turns(&mut self) -> Result<(), Memory> {
-        let (sessions, workers) = (self.players.len(), self.lanes.len());
+        let (sessions, workers) = (self.sessions.len(), self.lanes.len());
         if sessions == 0 || workers == 0 {
             return Ok(());
         }
@@ -197,9 +199,9 @@ impl<'b> Schedule<'b> {
     }
 
     // All sessions go on as they can, and all workers. Whether any did anything.
-    fn play_round(&mut self) -> Result<bool, Memory> {
+    fn run_round(&mut self) -> Result<bool, Memory> {
         let mut has_done = false;
-        for session in 0..self.players.len() {
+        for session in 0..self.sessions.len() {
             has_done |= self.go_on(session)?;
         }
         for worker in 0..self.lanes.len() {
@@ -208,15 +210,15 @@ impl<'b> Schedule<'b> {
         Ok(has_done)
     }
 
-    /// Plays it: turns that are drawn, and then rounds until nothing is left to be done.
-    pub(crate) fn play(&mut self) -> Result<(), ScheduleFault> {
+    /// Runs it: turns that are drawn, and then rounds until nothing is left to be done.
+    pub(crate) fn run(&mut self) -> Result<(), ScheduleFault> {
         self.take_turns()?;
         for _ in 0..MOST_ROUNDS {
-            if !self.play_round()? {
+            if !self.run_round()? {
                 break;
             }
         }
-        if self.players.iter().all(Player::has_ended) {
+        if self.sessions.iter().all(ScheduledSession::has_ended) {
             Ok(())
         } else {
             Err(ScheduleFault::Stuck)
@@ -228,19 +230,19 @@ impl<'b> Schedule<'b> {
         let Schedule {
             alloc,
             hub,
-            players,
+            sessions,
             mut counts,
             ..
         } = self;
         let mut tallies = Vec::new(alloc);
         let mut is_told = true;
-        for player in players {
-            counts.add_session(&player);
-            let beside = lock_step(alloc, &player)?;
+        for scheduled in sessions {
+            counts.add_session(&scheduled);
+            let beside = lock_step(alloc, &scheduled)?;
             counts.refusals = counts.refusals.saturating_add(beside.refusals as u64);
-            let (id, taken) = (player.id, player.taken);
-            is_told &= taken == player.replied;
-            let tally = player.end();
+            let (id, taken) = (scheduled.id, scheduled.taken);
+            is_told &= taken == scheduled.replied;
+            let tally = scheduled.end();
             if tally.entries().len() != taken || tally.entries() != beside.tally.entries() {
                 return Err(ScheduleFault::Tally(id));
             }

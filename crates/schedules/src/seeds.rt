@@ -8,15 +8,15 @@ use crate::schedule::Schedule;
 use memory_limit::MemoryLimit;
 use std::alloc::Global;
 
-// Plays the schedule of a seed.
-fn play(alloc: Global, draws: Draws, scarcity: Scarcity<'_>) -> Result<Counts, ScheduleFault> {
+// Runs the schedule of a seed.
+fn run(alloc: Global, draws: Draws, scarcity: Scarcity<'_>) -> Result<Counts, ScheduleFault> {
     let mut schedule = Schedule::new(alloc, draws, scarcity)?;
-    schedule.play()?;
+    schedule.run()?;
     schedule.check()
 }
 
-// Plays the schedule of a seed. Memory is scarce now and then in two schedules of three.
-fn play_seed(
+// Runs the schedule of a seed. Memory is scarce now and then in two schedules of three.
+fn run_seed(
     alloc: Global,
     memory_limit: &mut MemoryLimit,
     seed: u64,
@@ -26,15 +26,15 @@ fn play_seed(
         0 => Scarcity::Never,
         times => Scarcity::OnceIn(10 * times, memory_limit),
     };
-    play(alloc, draws, scarcity)
+    run(alloc, draws, scarcity)
 }
 
-/// Plays the schedules of so many seeds, from the first one on, and gives how much was tried. Ends at the first seed in whose
-/// schedule something is wrong. The first one is played twice, at first with ample memory: then the stack has its depth, which
+/// Runs the schedules of so many seeds, from the first one on, and gives how much was tried. Ends at the first seed in whose
+/// schedule something is wrong. The first one is scheduled twice, at first with ample memory: then the stack has its depth, which
 /// can't grow where no address space is left.
-pub fn play_seeds(alloc: Global, first: u64, count: u64) -> Result<Counts, SeedFault> {
+pub fn run_seeds(alloc: Global, first: u64, count: u64) -> Result<Counts, SeedFault> {
     let found = |seed: u64, fault: ScheduleFault| SeedFault { seed, fault };
-    if let Err(fault) = play(alloc, Draws::new(first), Scarcity::Never) {
+    if let Err(fault) = run(alloc, Draws::new(first), Scarcity::Never) {
         return Err(found(first, fault));
     }
     let Ok(mut memory_limit) = MemoryLimit::new(alloc) else {
@@ -43,7 +43,7 @@ pub fn play_seeds(alloc: Global, first: u64, count: u64) -> Result<Counts, SeedF
     let mut counts = Counts::default();
     for place in 0..count {
         let seed = first.wrapping_add(place);
-        match play_seed(alloc, &mut memory_limit, seed) {
+        match run_seed(alloc, &mut memory_limit, seed) {
             Ok(more) => counts.add(more),
             Err(fault) => return Err(found(seed, fault)),
         }

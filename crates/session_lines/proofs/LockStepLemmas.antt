@@ -3,7 +3,7 @@ use Rattle.std.proofs.Common.{◌≡◌, ℕ, ◌+◌, ◌-◌, ◌≤◌, ◌==
 use Rattle.std.proofs.lemmas.List.Sums.{fold-append}
 use Rattle.taf_codes.specs.declared.code.Railway.{Railway}
 use Rattle.taf_messages.specs.declared.call.Call.{Call}
-use Rattle.hub_shared.specs.declared.tally.Told.{Told}
+use Rattle.tallies.specs.declared.tally.Told.{Told}
 use Rattle.inbox.specs.declared.rule.Job.{Job}
 use Rattle.session_lines.specs.declared.fault.LineFault.TheVariants.{Stranger}
 use Rattle.session_lines.specs.declared.meaning.Meaning.{Meaning}

@@ -2,8 +2,8 @@
 use Rattle.std.specs.Prelude.{ℕ, List, [], ◌∷◌, ◌++◌, Result, Option, Some, None, length, fold}
 use Rattle.taf_codes.specs.declared.code.Railway.{Railway}
 use Rattle.taf_messages.specs.declared.reply.Reply.{Reply}
-use Rattle.hub_core.specs.declared.fault.HubFault.{HubFault}
-use Rattle.hub_shared.specs.declared.tally.Told.{Told}
+use Rattle.tallies.specs.declared.fault.HubFault.{HubFault}
+use Rattle.tallies.specs.declared.tally.Told.{Told}
 use Rattle.inbox.specs.declared.rule.Job.{Job}
 use Rattle.session_lines.specs.declared.meaning.Meaning.{Meaning}
 use Rattle.session_lines.specs.declared.meaning.Meaning.TheVariants.{Blank, Hello, Wrong, Calls}

@@ -1,7 +1,7 @@
 -- What contracts see of a session.
 use Rattle.std.specs.Prelude.{ℕ, ◌+◌, Bool, false, List, [], ◌∷◌, Option, None}
 use Rattle.taf_codes.specs.declared.code.Railway.{Railway}
-use Rattle.hub_shared.specs.declared.tally.Told.{Told}
+use Rattle.tallies.specs.declared.tally.Told.{Told}
 use Rattle.session_lines.specs.declared.session.Slot.{Slot}
 use Rattle.session_lines.specs.declared.session.Slot.TheVariants.{JobOut, HeldLine}
 

@@ -1,6 +1,6 @@
 -- What the tally of a session has.
 use Rattle.std.specs.Prelude.{◌≡◌, ℕ, ◌+◌, if◌then◌else◌, List, [], ◌∷◌, ◌++◌}
-use Rattle.hub_shared.specs.declared.tally.Told.{Told}
+use Rattle.tallies.specs.declared.tally.Told.{Told}
 use Rattle.inbox.specs.declared.rule.Job.{Job}
 use Rattle.session_lines.specs.declared.session.Done.{Done}
 use Rattle.session_lines.specs.States.{State}

@@ -2,8 +2,8 @@
 use Rattle.std.specs.Prelude.{ℕ, List, ◌++◌, Result, Ok, Err, codes}
 use Rattle.taf_codes.specs.declared.code.Railway.{Railway}
 use Rattle.taf_messages.specs.declared.reply.Reply.{Reply}
-use Rattle.hub_core.specs.declared.fault.HubFault.{HubFault}
-use Rattle.hub_core.specs.declared.fault.HubFault.TheVariants.{Full, Memory}
+use Rattle.tallies.specs.declared.fault.HubFault.{HubFault}
+use Rattle.tallies.specs.declared.fault.HubFault.TheVariants.{Full, Memory}
 use Rattle.call_lines.specs.Lines.{reply_text}
 use Rattle.session_lines.specs.declared.fault.LineFault.{LineFault}
 use Rattle.session_lines.specs.declared.fault.LineFault.TheVariants.{LineTooLong, NoHello, WrongSender, HubFull, NoMemory, Stranger}

@@ -5,12 +5,12 @@ ghost use Rattle.call_lines.specs.Lines.{fault_text, reply_text};
 ghost use Rattle.session_lines.specs.Texts.{line_fault_text, hello_text, answer_text};
 
 use crate::fault::LineFault;
-use hub_core::HubFault;
 use reply_writer::{write_fault, write_reply};
 use std::alloc::Global;
 use std::marker::Model;
 use taf_codes::{Memory, Railway};
 use taf_messages::{RecordFault, Reply};
+use tallies::HubFault;
 
 // The text of a line: a fixed one, or one that was written.
 #[derive(Drop)]

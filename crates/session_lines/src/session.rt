@@ -12,13 +12,12 @@ use crate::meaning::{Meaning, meaning_of};
 use arrayvec::ArrayVec;
 use call_lines::{LONGEST, is_blank_line};
 use call_reader::CallReader;
-use hub_core::HubFault;
-use hub_shared::{Tally, Told};
 use inbox::Job;
 use std::alloc::Global;
 use std::marker::Model;
 use taf_codes::Railway;
 use taf_messages::{Call, Reply, copy_call};
+use tallies::{HubFault, Tally, Told};
 
 /// How many slots a session has.
 pub const WINDOW: usize = 16;

@@ -39,20 +39,22 @@ sends-then a b c all j1 j2 f g =
 -- ---- what is said with nothing read
 
 pub says_none : (s : State) (a : Output) (full : Bool) → Says s a s a full
-says_none s a full = record { said = []; advances = advances-none s; writes = writes_none a full }
+says_none s a full = record { said = []; advances = advances-none s; writes = writes_none a full; id = refl; count = refl }
 
 -- nothing is said, and something written
 pub says_put : (s : State) (a b : Output) (full : Bool) → Writes a b full [] → Says s a s b full
-says_put s a b full w = record { said = []; advances = advances-none s; writes = w }
+says_put s a b full w = record { said = []; advances = advances-none s; writes = w; id = refl; count = refl }
 
-pub says-line : (s n : State) (a b : Output) (line : List ℕ) (full : Bool) → Advances s [] [] (line ∷ []) n → Writes a b full (line ++ 10 ∷ []) → Says s a n b full
-says-line s n a b line full g w = record { said = line ∷ []; advances = g; writes = subst (λ t. Writes a b full t) (sym (append-nil (line ++ 10 ∷ []))) w }
+pub says-line : (s n : State) (a b : Output) (line : List ℕ) (full : Bool) → Advances s [] [] (line ∷ []) n → n.id ≡ s.id → n.job_count ≡ s.job_count → Writes a b full (line ++ 10 ∷ []) → Says s a n b full
+says-line s n a b line full g id count w = record { said = line ∷ []; advances = g; writes = subst (λ t. Writes a b full t) (sym (append-nil (line ++ 10 ∷ []))) w; id = id; count = count }
 
 pub says-then : (s m n : State) (a b c : Output) (full : Bool) → Says s a m b true → Says m b n c full → Says s a n c full
 says-then s m n a b c full f g = record {
   said = f.said ++ g.said;
   advances = advances-then s m n [] [] [] [] f.said g.said f.advances g.advances;
   writes = subst (λ t. Writes a c full t) (sym (text-append f.said g.said)) (writes-then a b c full (text f.said) (text g.said) f.writes g.writes);
+  id = g.id ∙ f.id;
+  count = g.count ∙ f.count;
 }
 
 -- ---- what is served

@@ -30,7 +30,3 @@ pub record Advances (old : State) (reads : List (List ℕ)) (jobs : List Job)
 -- it goes on without reading a line or giving out a job, and what it says is not written
 abbrev pub Discards : State → State → Type 0
 Discards old new = (said : List (List ℕ)) × Advances old [] [] said new
-
--- the same session, which gave out no job more
-abbrev pub GivesNoJob : State → State → Type 0
-GivesNoJob old new = (new.id ≡ old.id) × (new.job_count ≡ old.job_count)

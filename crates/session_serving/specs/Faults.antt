@@ -1,5 +1,5 @@
 -- Why serving ended, by the failures of the reader, the writer and the port.
-use Rattle.std.specs.Prelude.{◌≡◌, ◌⊎◌, ℕ, ◌+◌, Bool, true, false, List, [], Result, Ok, Err}
+use Rattle.std.specs.Prelude.{◌≡◌, ◌⊎◌, ℕ, ◌+◌, Bool, true, false, List, [], Result, Ok, Err, OnOk, OnErr}
 use Rattle.session_lines.specs.declared.session.Slot.{Slot}
 use Rattle.session_serving.specs.declared.fault.SessionFault.{SessionFault}
 use Rattle.session_serving.specs.declared.fault.SessionFault.TheVariants.{Read, Write, NoEnd, Port, Memory}
@@ -26,6 +26,10 @@ sends_all (Err Write) = true
 sends_all (Err NoEnd) = true
 sends_all (Err Port) = false
 sends_all (Err Memory) = true
+
+-- the failures of a reader or a writer before and after a call: one more where it fails
+abbrev pub CountsFailure : {T E : Type 0} → Result T E → ℕ → ℕ → Type 0
+CountsFailure result old new = OnOk result (new ≡ old) × OnErr result (new ≡ old + 1)
 
 -- the failures of a writer and of a port, before and after: each fault comes with one of its own
 abbrev pub Blames : {T : Type 0} → Result T SessionFault → ℕ → ℕ → ℕ → ℕ → Type 0

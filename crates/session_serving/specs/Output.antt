@@ -5,6 +5,7 @@ use Rattle.std.specs.declared.alloc.Global.{Global}
 use Rattle.session_lines.specs.States.{State}
 use Rattle.session_serving.specs.Bytes.{text, max_kept}
 use Rattle.session_serving.specs.Advances.{Advances}
+use Rattle.session_serving.specs.declared.chunk.Buffers.{Buffers}
 
 -- the bytes that a writer took, where they are known, and those that are still to be written
 pub record Output : Type 0 where
@@ -22,6 +23,10 @@ HasRoom out = (vec_len out ≤ 65536) × (65536 ≤ vec_capacity out)
 abbrev pub HasLineRoom : Vec ℕ Global → Type 0
 HasLineRoom line = (vec_len line ≤ max_kept) × (max_kept ≤ vec_capacity line)
 
+-- both buffers of a session have their room
+abbrev pub HaveRoom : Buffers → Type 0
+HaveRoom buffers = HasLineRoom buffers.line × HasRoom buffers.out
+
 -- a front of what was pending and of these bytes was written; where `full`, the rest is pending
 pub record Writes (old new : Output) (full : Bool) (bytes : List ℕ) : Type 0 where
   pub front : List ℕ
@@ -37,3 +42,5 @@ pub record Says (old : State) (before : Output) (new : State) (after : Output)
   pub said : List (List ℕ)
   pub advances : Advances old [] [] said new
   pub writes : Writes before after full (text said)
+  pub id : new.id ≡ old.id
+  pub count : new.job_count ≡ old.job_count

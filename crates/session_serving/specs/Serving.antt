@@ -1,14 +1,30 @@
 -- What a session does between a reader, a writer and a port.
-use Rattle.std.specs.Prelude.{◌≡◌, ℕ, ◌≤◌, Bool, true, false, List, [], ◌++◌, length, Option, Result, Err, is_ok}
+use Rattle.std.specs.Prelude.{◌≡◌, ℕ, ◌≤◌, Bool, true, false, List, [], ◌++◌, length, Option, None, Result, Err, is_ok, OnOk, IfOk}
 use Rattle.std.specs.Io.KnownBytes.{Appends, Consumes, IsAtEnd}
 use Rattle.inbox.specs.declared.rule.Job.{Job}
 use Rattle.session_lines.specs.States.{State}
+use Rattle.session_lines.specs.Steps.{front_line}
 use Rattle.session_serving.specs.Bytes.{text, whole_lines}
 use Rattle.session_serving.specs.Advances.{Advances}
 use Rattle.session_serving.specs.Output.{output_of, Writes}
-use Rattle.session_serving.specs.Faults.{sends_all, writes_all}
+use Rattle.session_serving.specs.Faults.{goes_on, sends_all, writes_all}
 use Rattle.session_serving.specs.declared.fault.SessionFault.{SessionFault}
 use Rattle.session_serving.specs.declared.fault.SessionFault.TheVariants.{NoEnd}
+
+-- the session may be given a line: it has not failed, and no line that was held is in front
+abbrev pub IsReady : State → Type 0
+IsReady s = (front_line s.slots ≡ None) × (s.has_failed ≡ false)
+
+-- it is ready, or it is over: it has failed, and no slot is taken
+abbrev pub IsReadyOrOver : Result Bool SessionFault → State → Type 0
+IsReadyOrOver result s =
+    (goes_on result ≡ true → IsReady s) × IfOk result (λ on. on ≡ false → (s.has_failed ≡ true) × (s.slots ≡ []))
+
+-- no slot is taken, and it goes on unless it has failed
+abbrev pub IsIdleOrOver : Result Bool SessionFault → State → Type 0
+IsIdleOrOver result s =
+    OnOk result (s.slots ≡ []) × (goes_on result ≡ true → s.has_failed ≡ false)
+    × IfOk result (λ on. on ≡ false → s.has_failed ≡ true)
 
 -- these jobs were sent behind those before, in order; the last may be lost, unless `all` were sent
 pub record Sends (old new : List Job) (all : Bool) (jobs : List Job) : Type 0 where

@@ -1,9 +1,9 @@
 //! Answers taken from a port.
-ghost use Rattle.std.specs.Prelude.{◌≡◌, ◌<◌, ◌≤◌, ◌+◌, [], None, true, false, length, OnOk, IfOk, OnErr, is_ok};
+ghost use Rattle.std.specs.Prelude.{◌≡◌, ◌<◌, ◌≤◌, [], None, true, length, OnOk, is_ok};
 ghost use Rattle.session_lines.specs.Steps.{is_job_in_front, front_line};
 ghost use Rattle.session_serving.specs.Output.{output_of, Writes, Says, HasRoom};
-ghost use Rattle.session_serving.specs.Advances.{GivesNoJob};
-ghost use Rattle.session_serving.specs.Faults.{Blames, goes_on, writes_all};
+ghost use Rattle.session_serving.specs.Serving.{IsReady, IsReadyOrOver, IsIdleOrOver};
+ghost use Rattle.session_serving.specs.Faults.{Blames, CountsFailure, goes_on, writes_all};
 
 use crate::fault::SessionFault;
 use crate::output::{put_line, write_out};
@@ -22,9 +22,7 @@ fn answer<K: Sink>(
     requires fits { HasRoom out.old }
     ensures says { Says session.old (output_of (K.contents writer.old) out.old.items)
         session.new (output_of (K.contents writer.new) out.new.items) (is_ok result) }
-    ensures failed { OnErr result (K.failures writer.new ≡ K.failures writer.old + 1) }
-    ensures kept { OnOk result (K.failures writer.new ≡ K.failures writer.old) }
-    ensures same { GivesNoJob session.old session.new }
+    ensures failures { CountsFailure result (K.failures writer.old) (K.failures writer.new) }
     ensures fewer { length session.new.slots < length session.old.slots }
     ensures fits { HasRoom out.new }
 {
@@ -38,9 +36,7 @@ fn put_held<K: Sink>(writer: &mut K, out: &mut Vec<u8>, session: &mut Session) -
     ensures says { Says session.old (output_of (K.contents writer.old) out.old.items)
         session.new (output_of (K.contents writer.new) out.new.items) (is_ok result) }
     ensures front { OnOk result (front_line session.new.slots ≡ None) }
-    ensures failed { OnErr result (K.failures writer.new ≡ K.failures writer.old + 1) }
-    ensures kept { OnOk result (K.failures writer.new ≡ K.failures writer.old) }
-    ensures same { GivesNoJob session.old session.new }
+    ensures failures { CountsFailure result (K.failures writer.old) (K.failures writer.new) }
     ensures sound { session.new.has_failed ≡ session.old.has_failed }
     ensures fewer { length session.new.slots ≤ length session.old.slots }
     ensures fits { HasRoom out.new }
@@ -64,8 +60,7 @@ fn write_unless_ready<K: Sink, P: Port>(
     requires fits { HasRoom out.old }
     ensures writes { Writes (output_of (K.contents writer.old) out.old.items)
         (output_of (K.contents writer.new) out.new.items) (is_ok result) [] }
-    ensures failed { OnErr result (K.failures writer.new ≡ K.failures writer.old + 1) }
-    ensures kept { OnOk result (K.failures writer.new ≡ K.failures writer.old) }
+    ensures failures { CountsFailure result (K.failures writer.old) (K.failures writer.new) }
     ensures fits { HasRoom out.new }
 {
     if port.is_ready() {
@@ -88,13 +83,9 @@ pub(crate) fn take_next<K: Sink, P: Port>(
         session.new (output_of (K.contents writer.new) out.new.items) (writes_all result) }
     ensures blames { Blames result (K.failures writer.old) (K.failures writer.new)
         (P.failures port.old) (P.failures port.new) }
-    ensures same { GivesNoJob session.old session.new }
     ensures port { (P.session port.new ≡ P.session port.old) × (P.sent port.new ≡ P.sent port.old) }
     ensures fewer { OnOk result (length session.new.slots < length session.old.slots) }
-    ensures on { goes_on result ≡ true → (front_line session.new.slots ≡ None)
-        × (session.new.has_failed ≡ false) }
-    ensures over { IfOk result (λ on. on ≡ false
-        → (session.new.has_failed ≡ true) × (session.new.slots ≡ [])) }
+    ensures ready { IsReadyOrOver result session.new }
     ensures fits { HasRoom out.new }
 {
     let Ok(()) = write_unless_ready(writer, out, port) else {
@@ -123,19 +114,15 @@ pub(crate) fn make_room<K: Sink, P: Port>(
     port: &mut P,
     session: &mut Session,
 ) -> Result<bool, SessionFault>
-    requires front { front_line session.old.slots ≡ None }
-    requires sound { session.old.has_failed ≡ false }
+    requires ready { IsReady session.old }
     requires fits { HasRoom out.old }
     ensures says { Says session.old (output_of (K.contents writer.old) out.old.items)
         session.new (output_of (K.contents writer.new) out.new.items) (writes_all result) }
     ensures blames { Blames result (K.failures writer.old) (K.failures writer.new)
         (P.failures port.old) (P.failures port.new) }
-    ensures same { GivesNoJob session.old session.new }
     ensures port { (P.session port.new ≡ P.session port.old) × (P.sent port.new ≡ P.sent port.old) }
-    ensures on { goes_on result ≡ true → (front_line session.new.slots ≡ None)
-        × (session.new.has_failed ≡ false) × (length session.new.slots < 16) }
-    ensures over { IfOk result (λ on. on ≡ false
-        → (session.new.has_failed ≡ true) × (session.new.slots ≡ [])) }
+    ensures ready { IsReadyOrOver result session.new }
+    ensures free { goes_on result ≡ true → length session.new.slots < 16 }
     ensures fits { HasRoom out.new }
 {
     if !session.busy() {
@@ -152,18 +139,14 @@ pub(crate) fn take_all<K: Sink, P: Port>(
     port: &mut P,
     session: &mut Session,
 ) -> Result<bool, SessionFault>
-    requires front { front_line session.old.slots ≡ None }
-    requires sound { session.old.has_failed ≡ false }
+    requires ready { IsReady session.old }
     requires fits { HasRoom out.old }
     ensures says { Says session.old (output_of (K.contents writer.old) out.old.items)
         session.new (output_of (K.contents writer.new) out.new.items) (writes_all result) }
     ensures blames { Blames result (K.failures writer.old) (K.failures writer.new)
         (P.failures port.old) (P.failures port.new) }
-    ensures same { GivesNoJob session.old session.new }
     ensures port { (P.session port.new ≡ P.session port.old) × (P.sent port.new ≡ P.sent port.old) }
-    ensures none { OnOk result (session.new.slots ≡ []) }
-    ensures on { goes_on result ≡ true → session.new.has_failed ≡ false }
-    ensures over { IfOk result (λ on. on ≡ false → session.new.has_failed ≡ true) }
+    ensures idle { IsIdleOrOver result session.new }
     ensures fits { HasRoom out.new }
 {
     while session.has_job_in_front() {

@@ -1,13 +1,13 @@
 //! What was read at once.
-ghost use Rattle.std.specs.Prelude.{◌≡◌, ◌<◌, ◌≤◌, ◌+◌, ◌^◌, ◌∷◌, [], None, true, false, length, OnOk, IfOk};
+ghost use Rattle.std.specs.Prelude.{◌≡◌, ◌<◌, ◌≤◌, ◌+◌, ◌^◌, ◌∷◌, [], None, true, false, length, OnOk};
 ghost use Rattle.inbox.specs.declared.rule.Job.{Job};
 ghost use Rattle.session_lines.specs.declared.session.Step.TheVariants.{Ask, Ended};
 ghost use Rattle.session_lines.specs.Steps.{front_line};
 ghost use Rattle.session_lines.specs.Runs.{step_jobs, step_lines};
 ghost use Rattle.session_serving.specs.Bytes.{cut_after};
 ghost use Rattle.session_serving.specs.Advances.{Advances};
-ghost use Rattle.session_serving.specs.Output.{HasRoom, HasLineRoom};
-ghost use Rattle.session_serving.specs.Serving.{exchange_of, Serves, ServesFirst};
+ghost use Rattle.session_serving.specs.Output.{HasRoom, HaveRoom};
+ghost use Rattle.session_serving.specs.Serving.{exchange_of, IsReady, IsReadyOrOver, IsIdleOrOver, Serves, ServesFirst};
 ghost use Rattle.session_serving.specs.Faults.{Blames, goes_on, sends_all, writes_all};
 
 use crate::answers::{make_room, take_all};
@@ -49,9 +49,8 @@ fn give_line<K: Sink, P: Port>(
     line: &[u8],
 ) -> Result<(), SessionFault>
     requires free { length session.old.slots < 16 }
-    requires sound { session.old.has_failed ≡ false }
+    requires ready { IsReady session.old }
     requires room { session.old.job_count < 2 ^ 62 }
-    requires front { front_line session.old.slots ≡ None }
     requires mine { session.old.id ≡ P.session port.old }
     requires fits { HasRoom out.old }
     ensures serves { Serves
@@ -88,12 +87,10 @@ fn end_line<K: Sink, P: Port>(
     session: &mut Session,
     buffers: &mut Buffers,
 ) -> Result<bool, SessionFault>
-    requires front { front_line session.old.slots ≡ None }
-    requires sound { session.old.has_failed ≡ false }
+    requires ready { IsReady session.old }
     requires room { session.old.job_count < 2 ^ 62 }
     requires mine { session.old.id ≡ P.session port.old }
-    requires short { HasLineRoom buffers.old.line }
-    requires fits { HasRoom buffers.old.out }
+    requires fits { HaveRoom buffers.old }
     ensures serves { ServesFirst
         (exchange_of session.old (K.contents writer.old) buffers.old.out.items (P.sent port.old))
         (buffers.old.line.items ∷ [])
@@ -104,12 +101,8 @@ fn end_line<K: Sink, P: Port>(
     ensures rest { goes_on result ≡ true → buffers.new.line.items ≡ [] }
     ensures count { session.new.job_count ≤ session.old.job_count + 1 }
     ensures mine { (session.new.id ≡ session.old.id) × (P.session port.new ≡ P.session port.old) }
-    ensures on { goes_on result ≡ true → (front_line session.new.slots ≡ None)
-        × (session.new.has_failed ≡ false) }
-    ensures over { IfOk result (λ on. on ≡ false
-        → (session.new.has_failed ≡ true) × (session.new.slots ≡ [])) }
-    ensures short { HasLineRoom buffers.new.line }
-    ensures fits { HasRoom buffers.new.out }
+    ensures ready { IsReadyOrOver result session.new }
+    ensures fits { HaveRoom buffers.new }
 {
     match make_room(writer, &mut buffers.out, port, session) {
         Ok(true) => {}
@@ -138,12 +131,10 @@ fn serve_lines<K: Sink, P: Port>(
     buffers: &mut Buffers,
     chunk: &[u8],
 ) -> Result<bool, SessionFault>
-    requires front { front_line session.old.slots ≡ None }
-    requires sound { session.old.has_failed ≡ false }
+    requires ready { IsReady session.old }
     requires room { session.old.job_count + length chunk.now < 2 ^ 62 }
     requires mine { session.old.id ≡ P.session port.old }
-    requires short { HasLineRoom buffers.old.line }
-    requires fits { HasRoom buffers.old.out }
+    requires fits { HaveRoom buffers.old }
     ensures serves { ServesFirst
         (exchange_of session.old (K.contents writer.old) buffers.old.out.items (P.sent port.old))
         (cut_after buffers.old.line.items chunk.now).whole
@@ -155,11 +146,8 @@ fn serve_lines<K: Sink, P: Port>(
         → buffers.new.line.items ≡ (cut_after buffers.old.line.items chunk.now).rest }
     ensures count { session.new.job_count ≤ session.old.job_count + length chunk.now }
     ensures mine { (session.new.id ≡ session.old.id) × (P.session port.new ≡ P.session port.old) }
-    ensures none { OnOk result (session.new.slots ≡ []) }
-    ensures on { goes_on result ≡ true → session.new.has_failed ≡ false }
-    ensures over { IfOk result (λ on. on ≡ false → session.new.has_failed ≡ true) }
-    ensures short { HasLineRoom buffers.new.line }
-    ensures fits { HasRoom buffers.new.out }
+    ensures idle { IsIdleOrOver result session.new }
+    ensures fits { HaveRoom buffers.new }
 {
     let mut from = 0;
     while let Some(end) = next_line(&mut buffers.line, chunk, from) {
@@ -182,12 +170,10 @@ pub(crate) fn serve_chunk<K: Sink, P: Port>(
     buffers: &mut Buffers,
     chunk: &[u8],
 ) -> Result<bool, SessionFault>
-    requires front { front_line session.old.slots ≡ None }
-    requires sound { session.old.has_failed ≡ false }
+    requires ready { IsReady session.old }
     requires room { session.old.job_count + length chunk.now < 2 ^ 62 }
     requires mine { session.old.id ≡ P.session port.old }
-    requires short { HasLineRoom buffers.old.line }
-    requires fits { HasRoom buffers.old.out }
+    requires fits { HaveRoom buffers.old }
     ensures serves { ServesFirst
         (exchange_of session.old (K.contents writer.old) buffers.old.out.items (P.sent port.old))
         (cut_after buffers.old.line.items chunk.now).whole
@@ -199,12 +185,9 @@ pub(crate) fn serve_chunk<K: Sink, P: Port>(
         → buffers.new.line.items ≡ (cut_after buffers.old.line.items chunk.now).rest }
     ensures count { session.new.job_count ≤ session.old.job_count + length chunk.now }
     ensures mine { (session.new.id ≡ session.old.id) × (P.session port.new ≡ P.session port.old) }
-    ensures none { OnOk result (session.new.slots ≡ []) }
+    ensures idle { IsIdleOrOver result session.new }
     ensures written { OnOk result (buffers.new.out.items ≡ []) }
-    ensures on { goes_on result ≡ true → session.new.has_failed ≡ false }
-    ensures over { IfOk result (λ on. on ≡ false → session.new.has_failed ≡ true) }
-    ensures short { HasLineRoom buffers.new.line }
-    ensures fits { HasRoom buffers.new.out }
+    ensures fits { HaveRoom buffers.new }
 {
     let on = match serve_lines(writer, port, session, buffers, chunk) {
         Ok(on) => on,

@@ -1,7 +1,8 @@
 //! Lines on their way to a writer.
-ghost use Rattle.std.specs.Prelude.{◌≡◌, ◌+◌, ◌≤◌, ◌++◌, ◌∷◌, [], ℕ, List, length, take, vec_len, vec_capacity, is_ok, OnOk, OnErr};
+ghost use Rattle.std.specs.Prelude.{◌≡◌, ◌+◌, ◌≤◌, ◌++◌, ◌∷◌, [], ℕ, List, length, vec_len, is_ok, OnOk, OnErr};
 ghost use Rattle.std.specs.Io.KnownBytes.{Appends};
 ghost use Rattle.session_serving.specs.Output.{output_of, Writes, HasRoom};
+ghost use Rattle.session_serving.specs.Faults.{CountsFailure};
 
 use session_lines::Line;
 use taf_codes::{Failed, Sink};
@@ -14,8 +15,7 @@ fn write_all<K: Sink>(writer: &mut K, bytes: &[u8]) -> Result<(), Failed>
     ensures ok { OnOk result (Appends (K.contents writer.old) (K.contents writer.new) bytes.now) }
     ensures err { OnErr result ((front rest : List ℕ) × (bytes.now ≡ front ++ rest)
         × Appends (K.contents writer.old) (K.contents writer.new) front) }
-    ensures failed { OnErr result (K.failures writer.new ≡ K.failures writer.old + 1) }
-    ensures kept { OnOk result (K.failures writer.new ≡ K.failures writer.old) }
+    ensures failures { CountsFailure result (K.failures writer.old) (K.failures writer.new) }
 {
     let mut rest = bytes;
     while !rest.is_empty() {
@@ -32,8 +32,7 @@ fn write_pending<K: Sink>(writer: &mut K, out: &mut Vec<u8>) -> Result<(), Faile
         (output_of (K.contents writer.new) out.new.items) (is_ok result) [] }
     ensures empty { OnOk result (out.new.items ≡ []) }
     ensures fits { HasRoom out.new }
-    ensures failed { OnErr result (K.failures writer.new ≡ K.failures writer.old + 1) }
-    ensures kept { OnOk result (K.failures writer.new ≡ K.failures writer.old) }
+    ensures failures { CountsFailure result (K.failures writer.old) (K.failures writer.new) }
 {
     match write_all(writer, out.as_slice()) {
         Ok(()) => {
@@ -51,8 +50,7 @@ pub(crate) fn write_out<K: Sink>(writer: &mut K, out: &mut Vec<u8>) -> Result<()
         (output_of (K.contents writer.new) out.new.items) (is_ok result) [] }
     ensures empty { OnOk result (out.new.items ≡ []) }
     ensures fits { HasRoom out.new }
-    ensures failed { OnErr result (K.failures writer.new ≡ K.failures writer.old + 1) }
-    ensures kept { OnOk result (K.failures writer.new ≡ K.failures writer.old) }
+    ensures failures { CountsFailure result (K.failures writer.old) (K.failures writer.new) }
 {
     match write_pending(writer, out) {
         Ok(()) => writer.flush(),
@@ -76,8 +74,7 @@ fn put<K: Sink>(writer: &mut K, out: &mut Vec<u8>, bytes: &[u8]) -> Result<(), F
     ensures writes { Writes (output_of (K.contents writer.old) out.old.items)
         (output_of (K.contents writer.new) out.new.items) (is_ok result) bytes.now }
     ensures fits { HasRoom out.new }
-    ensures failed { OnErr result (K.failures writer.new ≡ K.failures writer.old + 1) }
-    ensures kept { OnOk result (K.failures writer.new ≡ K.failures writer.old) }
+    ensures failures { CountsFailure result (K.failures writer.old) (K.failures writer.new) }
 {
     if bytes.len() <= MAX_PENDING - out.len() {
         hold(out, bytes);
@@ -96,8 +93,7 @@ fn put_apart<K: Sink>(writer: &mut K, out: &mut Vec<u8>, bytes: &[u8]) -> Result
     ensures writes { Writes (output_of (K.contents writer.old) out.old.items)
         (output_of (K.contents writer.new) out.new.items) (is_ok result) bytes.now }
     ensures fits { HasRoom out.new }
-    ensures failed { OnErr result (K.failures writer.new ≡ K.failures writer.old + 1) }
-    ensures kept { OnOk result (K.failures writer.new ≡ K.failures writer.old) }
+    ensures failures { CountsFailure result (K.failures writer.old) (K.failures writer.new) }
 {
     if bytes.len() <= MAX_PENDING - out.len() {
         hold(out, bytes);
@@ -116,8 +112,7 @@ pub(crate) fn put_line<K: Sink>(
     ensures writes { Writes (output_of (K.contents writer.old) out.old.items)
         (output_of (K.contents writer.new) out.new.items) (is_ok result) (line.now ++ 10 ∷ []) }
     ensures fits { HasRoom out.new }
-    ensures failed { OnErr result (K.failures writer.new ≡ K.failures writer.old + 1) }
-    ensures kept { OnOk result (K.failures writer.new ≡ K.failures writer.old) }
+    ensures failures { CountsFailure result (K.failures writer.old) (K.failures writer.new) }
 {
     match put(writer, out, line.bytes()) {
         Ok(()) => put(writer, out, b"\n"),

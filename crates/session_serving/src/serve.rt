@@ -1,10 +1,10 @@
 //! A session from its reader's first byte to the end.
-ghost use Rattle.std.specs.Prelude.{◌≡◌, ◌≢◌, ◌<◌, ◌≤◌, ◌+◌, [], false, length, vec_capacity, Err, IfOk, OnOk, OnErr};
+ghost use Rattle.std.specs.Prelude.{◌≡◌, ◌≢◌, ◌<◌, ◌≤◌, ◌+◌, [], false, length, vec_capacity, Err, IfOk, OnOk};
 ghost use Rattle.std.specs.Io.KnownBytes.{ReadConsumes, IsAtEnd};
 ghost use Rattle.session_serving.specs.Bytes.{max_kept};
 ghost use Rattle.session_serving.specs.Output.{HasRoom};
 ghost use Rattle.session_serving.specs.Serving.{exchange_of, traffic_of, IsServed, ReadsLines};
-ghost use Rattle.session_serving.specs.Faults.{FirstFails, Explains, failures_of};
+ghost use Rattle.session_serving.specs.Faults.{CountsFailure, FirstFails, Explains, failures_of};
 
 use crate::chunk::{Buffers, serve_chunk};
 use crate::ending::end_with;
@@ -46,8 +46,7 @@ fn read_more<S: Source>(reader: &mut S, session: &Session, room: &mut [u8]) -> R
     ensures bytes { ReadConsumes (S.remaining reader.old) (S.remaining reader.new) result room.new }
     ensures end { IfOk result (λ n. n ≡ 0 → 0 < length room.new
         → IsAtEnd (S.remaining reader.new)) }
-    ensures kept { OnOk result (S.failures reader.new ≡ S.failures reader.old) }
-    ensures failed { OnErr result (S.failures reader.new ≡ S.failures reader.old + 1) }
+    ensures failures { CountsFailure result (S.failures reader.old) (S.failures reader.new) }
 {
     let _session = session;
     reader.pull(room)

@@ -6,7 +6,7 @@
 //!
 //! | part | tests of |
 //! |---|---|
-//! | `player` | none: plays scripts |
+//! | `script_runner` | none: runs scripts |
 //! | `scripts` | single lines before and after the hello, sixteen jobs, held lines, answers that are not the session's |
 //! | `orders` | lines and answers mixed in every order |
 //! | `scarcity` | each growth refused in turn |
@@ -18,8 +18,8 @@
 #[cfg(test)]
 mod orders;
 #[cfg(test)]
-mod player;
-#[cfg(test)]
 mod scarcity;
+#[cfg(test)]
+mod script_runner;
 #[cfg(test)]
 mod scripts;

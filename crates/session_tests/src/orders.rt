@@ -1,6 +1,6 @@
 //! Lines and answers mixed in every order.
 
-use crate::player::{HELLO, Played, Player, add_line, wanted};
+use crate::script_runner::{HELLO, ScriptResult, ScriptRunner, add_line, wanted};
 use std::alloc::Global;
 use std::test::Fail;
 
@@ -87,22 +87,22 @@ fn advance(order: &mut [Turn]) {
 }
 
 // Gives the session lines and answers in an order.
-fn take_turns(player: &mut Player, lines: &str, order: &[Turn]) -> Result<(), Fail> {
+fn take_turns(runner: &mut ScriptRunner, lines: &str, order: &[Turn]) -> Result<(), Fail> {
     for turn in order {
         match turn {
-            Turn::Line => player.read_next(lines)?,
-            Turn::Answer => player.take_own()?,
+            Turn::Line => runner.read_next(lines)?,
+            Turn::Answer => runner.take_own()?,
         }
     }
     Ok(())
 }
 
 // What a session says, and the replies in its tally, where lines and answers come in an order behind its hello.
-fn play_in(player: &mut Player, lines: &str, order: &[Turn]) -> Result<Played, Fail> {
-    player.read_line(HELLO.as_bytes())?;
-    take_turns(player, lines, order)?;
-    take_turns(player, lines, &REST)?;
-    player.end()
+fn run_in(runner: &mut ScriptRunner, lines: &str, order: &[Turn]) -> Result<ScriptResult, Fail> {
+    runner.read_line(HELLO.as_bytes())?;
+    take_turns(runner, lines, order)?;
+    take_turns(runner, lines, &REST)?;
+    runner.end()
 }
 
 // What a session says to its hello and to the lines.
@@ -115,15 +115,15 @@ fn wanted_lines(alloc: Global, lines: &str) -> Result<Vec<u8>, Fail> {
 
 // Whether a session says these lines and has these replies in its tally in every order.
 fn is_same_in_all_orders(
-    player: &mut Player,
+    runner: &mut ScriptRunner,
     lines: &str,
     said: &[u8],
     tally: &[u8],
 ) -> Result<bool, Fail> {
     let mut order = [Turn::Line; 8];
     for _ in 0..ORDERS {
-        let played = play_in(player, lines, &order)?;
-        if played.said.as_slice() != said || played.tally.as_slice() != tally {
+        let result = run_in(runner, lines, &order)?;
+        if result.said.as_slice() != said || result.tally.as_slice() != tally {
             return Ok(false);
         }
         advance(&mut order);
@@ -132,17 +132,17 @@ fn is_same_in_all_orders(
 }
 
 // Whether a session says what is to come of the lines in lock-step, and the same in every other order.
-fn means_lock_step(player: &mut Player, alloc: Global, lines: &str) -> Result<bool, Fail> {
+fn means_lock_step(runner: &mut ScriptRunner, alloc: Global, lines: &str) -> Result<bool, Fail> {
     let said = wanted_lines(alloc, lines)?;
-    let played = play_in(player, lines, &LOCK_STEP)?;
-    Ok(played.said == said && is_same_in_all_orders(player, lines, &said, &played.tally)?)
+    let result = run_in(runner, lines, &LOCK_STEP)?;
+    Ok(result.said == said && is_same_in_all_orders(runner, lines, &said, &result.tally)?)
 }
 
 #[test]
 fn every_order_means_lock_step(rt: HostRuntime) -> Result<(), Fail> {
-    let mut player = Player::new(rt.alloc())?;
+    let mut runner = ScriptRunner::new(rt.alloc())?;
     for lines in &SCRIPTS {
-        if !means_lock_step(&mut player, rt.alloc(), lines)? {
+        if !means_lock_step(&mut runner, rt.alloc(), lines)? {
             return Err(Fail::new(*lines));
         }
     }

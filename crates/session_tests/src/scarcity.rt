@@ -1,6 +1,6 @@
 //! Each growth of a session refused in turn.
 
-use crate::player::{HELLO, ID, add_line, replies_of};
+use crate::script_runner::{HELLO, ID, add_line, replies_of};
 use hub_core::Hub;
 use inbox::Job;
 use memory_limit::MemoryLimit;

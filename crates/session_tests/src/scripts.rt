@@ -1,6 +1,6 @@
 //! Scripts of single lines, of sixteen jobs, of held lines and of answers that are not the session's.
 
-use crate::player::{HELLO, Player, wanted};
+use crate::script_runner::{HELLO, ScriptRunner, wanted};
 use std::alloc::Global;
 use std::str;
 use std::test::Fail;
@@ -310,28 +310,33 @@ fn shown(bytes: &[u8]) -> &str {
 }
 
 // Fails unless just this comes of the script, and its tally has so many entries.
-fn check_script(player: &mut Player, script: &str, wanted: &[u8], told: usize) -> Result<(), Fail> {
-    player.play(script)?;
-    let played = player.end()?;
-    if played.log.as_slice() != wanted || count_lines(&played.tally) != told {
-        return Err(Fail::new(shown(&played.log)));
+fn check_script(
+    runner: &mut ScriptRunner,
+    script: &str,
+    wanted: &[u8],
+    told: usize,
+) -> Result<(), Fail> {
+    runner.run(script)?;
+    let result = runner.end()?;
+    if result.log.as_slice() != wanted || count_lines(&result.tally) != told {
+        return Err(Fail::new(shown(&result.log)));
     }
     Ok(())
 }
 
 // Fails unless each script is answered.
-fn check_scripts(player: &mut Player, alloc: Global) -> Result<(), Fail> {
+fn check_scripts(runner: &mut ScriptRunner, alloc: Global) -> Result<(), Fail> {
     for (script, told) in &SCRIPTS {
         let wanted = wanted(alloc, script)?;
-        check_script(player, script, &wanted, *told)?;
+        check_script(runner, script, &wanted, *told)?;
     }
     Ok(())
 }
 
 #[test]
 fn scripts_are_answered(rt: HostRuntime) -> Result<(), Fail> {
-    let mut player = Player::new(rt.alloc())?;
-    check_scripts(&mut player, rt.alloc())
+    let mut runner = ScriptRunner::new(rt.alloc())?;
+    check_scripts(&mut runner, rt.alloc())
 }
 
 // A call of each kind, of another railway than the session's.
@@ -359,17 +364,17 @@ static OF_ANOTHER: &str =
 {"kind":"ack","from":"R101","item":1}"#;
 
 // What comes of a line behind these commands.
-fn log_of(player: &mut Player, first: &str, line: &[u8]) -> Result<Vec<u8>, Fail> {
-    player.play(first)?;
-    player.read_line(line)?;
-    Ok(player.end()?.log)
+fn log_of(runner: &mut ScriptRunner, first: &str, line: &[u8]) -> Result<Vec<u8>, Fail> {
+    runner.run(first)?;
+    runner.read_line(line)?;
+    Ok(runner.end()?.log)
 }
 
 #[test]
 fn calls_of_another_railway(rt: HostRuntime) -> Result<(), Fail> {
-    let mut player = Player::new(rt.alloc())?;
+    let mut runner = ScriptRunner::new(rt.alloc())?;
     for line in OF_ANOTHER.lines() {
-        let log = log_of(&mut player, HELLO, line.as_bytes())?;
+        let log = log_of(&mut runner, HELLO, line.as_bytes())?;
         if log.as_slice() != WRONG_SENDER.as_bytes() {
             return Err(Fail::new(line));
         }
@@ -434,10 +439,10 @@ fn filled(alloc: Global, line: &str, fill: u8, size: usize) -> Result<Vec<u8>, F
 }
 
 // Fails unless this comes of a line that is filled so.
-fn check_filled(player: &mut Player, alloc: Global, case: &Filled) -> Result<(), Fail> {
+fn check_filled(runner: &mut ScriptRunner, alloc: Global, case: &Filled) -> Result<(), Fail> {
     let (first, line, fill, size, wanted) = *case;
     let line = filled(alloc, line, fill, size)?;
-    let log = log_of(player, first, &line)?;
+    let log = log_of(runner, first, &line)?;
     if log.as_slice() == wanted.as_bytes() {
         return Ok(());
     }
@@ -445,15 +450,15 @@ fn check_filled(player: &mut Player, alloc: Global, case: &Filled) -> Result<(),
 }
 
 // Fails unless each line is taken as it should be.
-fn check_all_filled(player: &mut Player, alloc: Global) -> Result<(), Fail> {
+fn check_all_filled(runner: &mut ScriptRunner, alloc: Global) -> Result<(), Fail> {
     for case in &FILLED {
-        check_filled(player, alloc, case)?;
+        check_filled(runner, alloc, case)?;
     }
     Ok(())
 }
 
 #[test]
 fn long_lines_and_blank_ones(rt: HostRuntime) -> Result<(), Fail> {
-    let mut player = Player::new(rt.alloc())?;
-    check_all_filled(&mut player, rt.alloc())
+    let mut runner = ScriptRunner::new(rt.alloc())?;
+    check_all_filled(&mut runner, rt.alloc())
 }

@@ -1,6 +1,6 @@
 //! Sessions and workers that take turns in an order that is drawn.
 
-use schedules::{Counts, play_seeds};
+use schedules::{Counts, run_seeds};
 use std::test::Fail;
 
 // The seeds are those from 1 to this.
@@ -13,7 +13,7 @@ fn has_all(counts: Counts) -> bool {
 
 #[test]
 fn drawn_orders_mean_lock_step(rt: HostRuntime) -> Result<(), Fail> {
-    let counts = play_seeds(rt.alloc(), 1, SEEDS)?;
+    let counts = run_seeds(rt.alloc(), 1, SEEDS)?;
     assert!(rt; has_all(counts), "{counts}");
     Ok(())
 }

@@ -13,18 +13,15 @@ use std::thread::Threads;
 // How many bytes more each budget has.
 const STEP: usize = 64;
 
-// Why a shift of one session is refused with so much memory left. None where it is not.
+// Why a shift of this session is refused with so much memory left. None where it is not.
 fn refusal<R: Threads + Wait + Sync>(
     rt: &R,
     alloc: Global,
     memory_limit: &mut MemoryLimit,
     left: usize,
-    lines: &[u8],
-    written: &Written,
+    session: (Script<'_>, Writer<'_, '_, R>),
 ) -> Result<Option<ShiftFault>, Fail> {
-    let reader = Script::new(lines, false);
-    let writer = Writer::new(rt, written, usize::MAX);
-    let sessions = Vec::from_array(alloc, [(reader, writer)])?;
+    let sessions = Vec::from_array(alloc, [session])?;
     memory_limit.limit_to(left)?;
     let fault = run_shift(rt, alloc, &OpenGate, sessions, 1).err();
     memory_limit.release();
@@ -38,15 +35,10 @@ fn count_refused<R: Threads + Wait + Sync>(rt: &R, alloc: Global) -> Result<u32,
     let mut memory_limit = MemoryLimit::new(alloc)?;
     let mut refused = 0u32;
     for step in 0..10_000usize {
-        let left = step * STEP;
-        match refusal(
-            rt,
-            alloc,
-            &mut memory_limit,
-            left,
-            lines.as_slice(),
-            &written,
-        )? {
+        let reader = Script::new(lines.as_slice(), false);
+        let writer = Writer::new(rt, &written, usize::MAX);
+        let session = (reader, writer);
+        match refusal(rt, alloc, &mut memory_limit, step * STEP, session)? {
             Some(ShiftFault::Memory) if written.lines() == 0 => refused = refused.saturating_add(1),
             Some(ShiftFault::Thread) if written.lines() == 0 => return Ok(refused),
             _ => return Err(Fail::new("a line was said")),

@@ -59,22 +59,28 @@ fn check_said(rt: &impl Wait, alloc: Global, written: &Written, session: &str) -
     }
 }
 
+// A session alone, and how many workers serve it.
+#[derive(Clone, Copy)]
+struct Alone {
+    session: &'static str,
+    workers: usize,
+}
+
 // Runs one session.
 fn run_one<G: Gate + Sync, R: Threads + Wait + Sync>(
     rt: &R,
     alloc: Global,
     gate: &G,
-    session: &str,
     written: &Written,
-    workers: usize,
+    alone: Alone,
 ) -> Result<Box<Shift>, Fail>
-    requires { (1 ≤ workers) × (workers ≤ 8) }
+    requires { (1 ≤ alone.workers) × (alone.workers ≤ 8) }
 {
-    let lines = sent_lines(alloc, session)?;
+    let lines = sent_lines(alloc, alone.session)?;
     let reader = Script::new(lines.as_slice(), false);
     let writer = Writer::new(rt, written, usize::MAX);
     let sessions = Vec::from_array(alloc, [(reader, writer)])?;
-    boxed(alloc, run_shift(rt, alloc, gate, sessions, workers))
+    boxed(alloc, run_shift(rt, alloc, gate, sessions, alone.workers))
 }
 
 // How two sessions are read, written and served: whether a read gives one line, how many writes of the second are taken, and
@@ -157,7 +163,11 @@ fn two_sessions_share_a_lane(rt: HostRuntime) -> Result<(), Fail> {
 fn one_worker_keeps_the_order_of_lines(rt: HostRuntime) -> Result<(), Fail> {
     let alloc = rt.alloc();
     let written = Written::new(alloc);
-    let mut shift = run_one(&rt, alloc, &OpenGate, WITH_A_BAD_LINE, &written, 1)?;
+    let alone = Alone {
+        session: WITH_A_BAD_LINE,
+        workers: 1,
+    };
+    let mut shift = run_one(&rt, alloc, &OpenGate, &written, alone)?;
     assert!(rt; shift.ends.as_slice() == [SessionEnd::Complete].as_slice());
     check_said(&rt, alloc, &written, WITH_A_BAD_LINE)?;
     check(&rt, alloc, &mut shift, 20)
@@ -168,7 +178,11 @@ fn no_job_overtakes_the_first(rt: HostRuntime) -> Result<(), Fail> {
     let alloc = rt.alloc();
     let written = Written::new(alloc);
     let gate = Holding::new();
-    let mut shift = run_one(&rt, alloc, &gate, SIXTEEN, &written, 2)?;
+    let alone = Alone {
+        session: SIXTEEN,
+        workers: 2,
+    };
+    let mut shift = run_one(&rt, alloc, &gate, &written, alone)?;
     assert!(rt; gate.is_in_order() && shift.left.len() == 2);
     check_said(&rt, alloc, &written, SIXTEEN)?;
     check(&rt, alloc, &mut shift, 16)

@@ -1,13 +1,7 @@
 -- Letters of a moment's text, and the digits that they show.
-use Rattle.std.proofs.Common.{◌≡◌, ◌≢◌, ℕ, ◌+◌, ◌-◌, ◌*◌, ◌/◌, ◌%◌, ◌^◌, ◌<◌, ◌≤◌, zero, suc, true, List, [], ◌∷◌, ◌++◌, length, get_or, take, map, refl, ap, ◌∙◌, arith}
+use Rattle.std.proofs.Common.{◌≡◌, ◌≢◌, ℕ, ◌+◌, ◌*◌, ◌/◌, ◌%◌, ◌<◌, true, [], ◌∷◌, ◌++◌, map, refl, ap, ◌∙◌, arith}
 use Rattle.std.specs.Char.{is_ascii_digit, digit_char, digit_value}
-use Rattle.std.specs.Str.Parse.{digits_value, AllDigits}
-use Rattle.std.specs.List.{list_all}
-use Rattle.std.proofs.lemmas.Bool.{and_parts}
-use Rattle.std.proofs.lemmas.List.{length-take}
-use Rattle.std.proofs.lemmas.List.Sums.{AllPass-from_list_all}
-use Rattle.std.proofs.lemmas.Int.Digits.{digits_value-lt}
-use Rattle.std.proofs.Math.Nat.{pow-le-pow_right}
+use Rattle.std.specs.Str.Parse.{digits_value}
 use Rattle.std.proofs.lemmas.Bool.Decides.{nat_tests}
 use Rattle.taf_moment.specs.Calendar.{digit_as_zero, two_digits, four_digits}
 
@@ -21,6 +15,9 @@ digit_as_zero-digit_char d small = grind (arith, nat_tests)
 -- a digit of ASCII shows a digit, whose letter it is
 pub digit_value-small : (c : ℕ) → is_ascii_digit c ≡ true → digit_value c < 10
 digit_value-small c digit = grind (arith, nat_tests)
+
+pub digit_value-is : (c : ℕ) → is_ascii_digit c ≡ true → digit_value c + 48 ≡ c
+digit_value-is c digit = grind (arith, nat_tests)
 
 digit_char-digit_value : (c : ℕ) → is_ascii_digit c ≡ true → digit_char (digit_value c) ≡ c
 digit_char-digit_value c digit = grind (arith, nat_tests)
@@ -71,32 +68,3 @@ pub four_digits-digits_value : (a b c d : ℕ) → is_ascii_digit a ≡ true →
     → four_digits (digits_value 10 (a ∷ b ∷ c ∷ d ∷ [])) ≡ a ∷ b ∷ c ∷ d ∷ []
 four_digits-digits_value a b c d first second third fourth =
     four_letters a b c d (digits_value 10 (a ∷ b ∷ c ∷ d ∷ [])) first second third fourth (omega arith)
-
--- digits of ASCII show digits, and so does a front of them
-all_digits : (letters : List ℕ) → list_all is_ascii_digit letters ≡ true → AllDigits 10 letters
-all_digits [] digits = tt
-all_digits (c ∷ letters) digits =
-    let parts = and_parts (is_ascii_digit c) (list_all is_ascii_digit letters) digits in
-    (digit_value-small c parts.0, all_digits letters parts.1)
-
-front_digits : (count : ℕ) (letters : List ℕ) → AllDigits 10 letters → AllDigits 10 (take count letters)
-front_digits zero letters digits = tt
-front_digits (suc count) [] digits = tt
-front_digits (suc count) (c ∷ letters) digits = (digits.0, front_digits count letters digits.1)
-
--- the digit at a place among digits of ASCII
-pub digit_value-here : (letters : List ℕ) (place : ℕ) → list_all is_ascii_digit letters ≡ true → place < length letters
-    → digit_value (get_or letters place 0) ≡ get_or letters place 0 - 48
-digit_value-here letters place digits in_letters =
-    let digit = AllPass-from_list_all is_ascii_digit letters digits place 0 in_letters in
-    grind (arith, nat_tests, digit)
-
--- digits show a number of no more digits
-pub digits_value-small : (letters : List ℕ) → list_all is_ascii_digit letters ≡ true → digits_value 10 letters < 10 ^ length letters
-digits_value-small letters digits = digits_value-lt 10 letters (all_digits letters digits)
-
--- and so do at most three in front
-pub digits_value-front : (letters : List ℕ) (count : ℕ) → list_all is_ascii_digit letters ≡ true → count ≤ 3 → digits_value 10 (take count letters) < 10 ^ 3
-digits_value-front letters count digits few =
-    let long : length (take count letters) ≤ 3 = omega (arith, length-take count letters, few) in
-    omega (arith, digits_value-lt 10 (take count letters) (front_digits count letters (all_digits letters digits)), pow-le-pow_right {n = 10} (omega arith) long)

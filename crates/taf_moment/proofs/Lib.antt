@@ -1,4 +1,5 @@
 pub mod PartLemmas
 pub mod DateLemmas
 pub mod LetterLemmas
+pub mod TableLemmas
 pub mod TextLemmas

@@ -1,11 +1,11 @@
 -- Texts are read as the moments whose texts they are.
-use Rattle.std.proofs.Common.{◌≡◌, ℕ, ◌+◌, ◌*◌, ◌/◌, ◌%◌, ◌<◌, ◌≤◌, Bool, true, false, List, [], ◌∷◌, ◌++◌, length, get_or, map, pos, Ok, Err, refl, sym, ap, ◌∙◌, arith}
-use Rattle.std.specs.Prelude.{codes, nat_le, slice_range, ◌==◌, ◌&&◌, if◌then◌else◌}
+use Rattle.std.proofs.Common.{◌≡◌, ℕ, ◌+◌, ◌*◌, ◌/◌, ◌%◌, ◌<◌, ◌≤◌, Bool, true, false, List, [], ◌∷◌, ◌++◌, length, get_or, drop, map, pos, Ok, Err, refl, sym, ap, ◌∙◌, arith}
+use Rattle.std.specs.Prelude.{codes, nat_le, ◌==◌, ◌&&◌, if◌then◌else◌}
 use Rattle.std.specs.Char.{is_ascii_digit}
 use Rattle.std.specs.Str.{bytes_eq}
-use Rattle.std.specs.List.{list_all, zip}
+use Rattle.std.specs.Str.Parse.{digits_value}
 use Rattle.std.proofs.lemmas.Bool.{cond-true, and_parts, and_from, leb-true, le-leb}
-use Rattle.std.proofs.lemmas.List.{length-map, get_or-map}
+use Rattle.std.proofs.lemmas.List.{length-map, get_or-map, drop_more}
 use Rattle.std.proofs.lemmas.List.FromFn.{fill_by_all}
 use Rattle.std.proofs.lemmas.Slice.Eq.{bytes_eq-Decides}
 use Rattle.jiff_core.proofs.CalendarLemmas.{days_in_month_bounds}
@@ -64,36 +64,20 @@ formed_from_test text passed =
       mark_16 = mark_from_form (get_or text 16 0) 90 (omega arith) (at 16 (omega arith));
     }
 
--- letter by letter
-pub fits-form : (text form : List ℕ) → length text ≡ length form
-    → list_all (λ (letter, mark). digit_as_zero letter == mark) (zip text form) ≡ bytes_eq (map digit_as_zero text) form
-fits-form [] [] long = refl
-fits-form [] (mark ∷ form) long = absurd (omega (arith, long))
-fits-form (letter ∷ text) [] long = absurd (omega (arith, long))
-fits-form (letter ∷ text) (mark ∷ form) long = ap (λ b. (digit_as_zero letter == mark) && b) (fits-form text form (omega (arith, long)))
+-- one letter more
+pub fits_more : (fits : Bool) (text form : List ℕ) (place : ℕ) → place < length text → place < length form
+    → (fits && bytes_eq (map digit_as_zero (drop place text)) (drop place form)) ≡ ((fits && (digit_as_zero (get_or text place 0) == get_or form place 0)) && bytes_eq (map digit_as_zero (drop (place + 1) text)) (drop (place + 1) form))
+fits_more true text form place in_text in_form = rw (drop_more text place 0 in_text, drop_more form place 0 in_form) refl
+fits_more false text form place in_text in_form = refl
 
 -- the letters of such a text, one by one
-letters_are : (text : List ℕ) → length text ≡ 17 → text ≡ get_or text 0 0 ∷ get_or text 1 0 ∷ get_or text 2 0 ∷ get_or text 3 0 ∷ get_or text 4 0 ∷ get_or text 5 0 ∷ get_or text 6 0 ∷ get_or text 7 0 ∷ get_or text 8 0 ∷ get_or text 9 0 ∷ get_or text 10 0 ∷ get_or text 11 0 ∷ get_or text 12 0 ∷ get_or text 13 0 ∷ get_or text 14 0 ∷ get_or text 15 0 ∷ get_or text 16 0 ∷ []
+pub letters_are : (text : List ℕ) → length text ≡ 17 → text ≡ get_or text 0 0 ∷ get_or text 1 0 ∷ get_or text 2 0 ∷ get_or text 3 0 ∷ get_or text 4 0 ∷ get_or text 5 0 ∷ get_or text 6 0 ∷ get_or text 7 0 ∷ get_or text 8 0 ∷ get_or text 9 0 ∷ get_or text 10 0 ∷ get_or text 11 0 ∷ get_or text 12 0 ∷ get_or text 13 0 ∷ get_or text 14 0 ∷ get_or text 15 0 ∷ get_or text 16 0 ∷ []
 letters_are text long = fill_by_all (λ k. get_or text k 0) text 17 0 long (λ k h. refl)
 
--- its digits stand together
-pub record HasDigits (text : List ℕ) : Type 0 where
-  pub year : list_all is_ascii_digit (slice_range text 0 4) ≡ true
-  pub month : list_all is_ascii_digit (slice_range text 5 7) ≡ true
-  pub day : list_all is_ascii_digit (slice_range text 8 10) ≡ true
-  pub hour : list_all is_ascii_digit (slice_range text 11 13) ≡ true
-  pub minute : list_all is_ascii_digit (slice_range text 14 16) ≡ true
-
-pub has_digits : (text : List ℕ) → IsFormed text → HasDigits text
-has_digits text is =
-    let letters = letters_are text is.long in
-    record {
-      year = ap (λ l. list_all is_ascii_digit (slice_range l 0 4)) letters ∙ rw (is.digit_0, is.digit_1, is.digit_2, is.digit_3) refl;
-      month = ap (λ l. list_all is_ascii_digit (slice_range l 5 7)) letters ∙ rw (is.digit_5, is.digit_6) refl;
-      day = ap (λ l. list_all is_ascii_digit (slice_range l 8 10)) letters ∙ rw (is.digit_8, is.digit_9) refl;
-      hour = ap (λ l. list_all is_ascii_digit (slice_range l 11 13)) letters ∙ rw (is.digit_11, is.digit_12) refl;
-      minute = ap (λ l. list_all is_ascii_digit (slice_range l 14 16)) letters ∙ rw (is.digit_14, is.digit_15) refl;
-    }
+-- its year, by pairs of digits
+pub year_from_pairs : (text : List ℕ) → length text ≡ 17
+    → number_in_letters text 0 4 ≡ 100 * digits_value 10 (get_or text 0 0 ∷ get_or text 1 0 ∷ []) + digits_value 10 (get_or text 2 0 ∷ get_or text 3 0 ∷ [])
+year_from_pairs text long = ap (λ l. number_in_letters l 0 4) (letters_are text long) ∙ omega arith
 
 -- such a text is that of the date, the hour and the minute that it shows
 pub text_at-number_in_letters : (text : List ℕ) → IsFormed text → text_at (date_shown text) (number_in_letters text 11 13) (number_in_letters text 14 16) ≡ text

@@ -15,6 +15,14 @@ const MINUTES_A_DAY: u32 = 1440;
 // The minute 2199-12-31T23:59Z, counted from 1970-01-01T00:00Z.
 const LAST_MINUTE: u32 = 120_968_639;
 
+// The two digits of each number below 100, one number after another.
+static PAIRS: [u8; 200] = *b"\
+    0001020304050607080910111213141516171819\
+    2021222324252627282930313233343536373839\
+    4041424344454647484950515253545556575859\
+    6061626364656667686970717273747576777879\
+    8081828384858687888990919293949596979899";
+
 /// A minute of the Gregorian calendar from `1970-01-01T00:00Z` to `2199-12-31T23:59Z`. It is seen
 /// as the number of minutes since the first.
 #[derive(Clone, Copy, Debug, PartialEq, Eq, PartialOrd, Ord, Hash)]
@@ -99,8 +107,9 @@ impl Moment {
         let year = two_letters((date.year % 100) as u8);
         let month = two_letters(date.month);
         let day = two_letters(date.day);
-        let hour = two_letters((self.minutes % MINUTES_A_DAY / 60) as u8);
-        let minute = two_letters((self.minutes % 60) as u8);
+        let minute_of_day = self.minutes % MINUTES_A_DAY;
+        let hour = two_letters((minute_of_day / 60) as u8);
+        let minute = two_letters((minute_of_day % 60) as u8);
         [
             century[0], century[1], year[0], year[1], b'-', month[0], month[1], b'-', day[0],
             day[1], b'T', hour[0], hour[1], b':', minute[0], minute[1], b'Z',
@@ -114,7 +123,8 @@ fn two_letters(number: u8) -> [u8; 2]
     ensures value { result ≡ two_digits number }
     ensures ascii { IsAscii result }
 {
-    [b'0' + number / 10, b'0' + number % 10]
+    let place = 2 * usize::from(number);
+    [PAIRS[place], PAIRS[place + 1]]
 }
 
 /// Prints the text that denotes the moment.

@@ -1,6 +1,5 @@
-ghost use Rattle.std.specs.Prelude.{◌≡◌, ◌==◌, ◌<◌, ◌≤◌, ◌^◌, IsTrue, length};
+ghost use Rattle.std.specs.Prelude.{◌≡◌, ◌<◌, IsTrue, [], ◌∷◌};
 ghost use Rattle.std.specs.Char.{is_ascii_digit};
-ghost use Rattle.std.specs.List.{list_all, zip};
 ghost use Rattle.std.specs.Str.Parse.{digits_value};
 ghost use Rattle.taf_moment.specs.Calendar.{digit_as_zero, has_form, number_in_letters, date_shown};
 
@@ -13,18 +12,14 @@ const FORM: &[u8; 17] = b"0000-00-00T00:00Z";
 pub(crate) fn is_formed(letters: &[u8]) -> bool
     ensures { result ≡ has_form letters.now }
 {
-    letters.len() == FORM.len() && fits(letters)
-}
-
-// Whether each letter is what the form has at its place.
-fn fits(letters: &[u8]) -> bool
-    ensures { result
-        ≡ list_all (λ (letter, form). digit_as_zero letter == form) (zip letters.now FORM.now) }
-{
-    letters
-        .iter()
-        .zip(FORM)
-        .all(|(letter, form)| zero_for_digit(*letter) == *form)
+    if letters.len() != FORM.len() {
+        return false;
+    }
+    let mut fits = true;
+    for (place, letter) in letters.iter().enumerate() {
+        fits &= zero_for_digit(*letter) == FORM[place];
+    }
+    fits
 }
 
 // The letter, or `0` for a digit.
@@ -45,35 +40,33 @@ pub(crate) fn date_shown(letters: &[u8]) -> CalendarDate
     ensures month { result.month < 100 }
     ensures day { result.day < 100 }
 {
+    let century = two_shown(letters[0], letters[1]);
+    let year = two_shown(letters[2], letters[3]);
     CalendarDate {
-        year: number_shown(&letters[..4]),
-        month: number_shown(&letters[5..7]) as u8,
-        day: number_shown(&letters[8..10]) as u8,
+        year: 100 * u16::from(century) + u16::from(year),
+        month: two_shown(letters[5], letters[6]),
+        day: two_shown(letters[8], letters[9]),
     }
 }
 
 /// The hour and the minute that a text of the form shows.
-pub(crate) fn time_shown(letters: &[u8]) -> (u16, u16)
+pub(crate) fn time_shown(letters: &[u8]) -> (u8, u8)
     requires { IsTrue (has_form letters.now) }
     ensures hour { result.0 ≡ number_in_letters letters.now 11 13 }
     ensures minute { result.1 ≡ number_in_letters letters.now 14 16 }
 {
     (
-        number_shown(&letters[11..13]),
-        number_shown(&letters[14..16]),
+        two_shown(letters[11], letters[12]),
+        two_shown(letters[14], letters[15]),
     )
 }
 
-// The number that at most four digits show.
-fn number_shown(letters: &[u8]) -> u16
-    requires digits { IsTrue (list_all is_ascii_digit letters.now) }
-    requires short { length letters.now ≤ 4 }
-    ensures value { result ≡ digits_value 10 letters.now }
-    ensures bound { result < 10 ^ length letters.now }
+// The number that two digits show.
+fn two_shown(tens: u8, ones: u8) -> u8
+    requires tens { IsTrue (is_ascii_digit tens) }
+    requires ones { IsTrue (is_ascii_digit ones) }
+    ensures value { result ≡ digits_value 10 (tens ∷ ones ∷ []) }
+    ensures bound { result < 100 }
 {
-    let mut number = 0;
-    for letter in letters {
-        number = 10 * number + u16::from(letter - b'0');
-    }
-    number
+    10 * (tens - b'0') + (ones - b'0')
 }

@@ -1,31 +1,32 @@
--- The sum behind the check digit, product by product.
-use Rattle.std.proofs.Common.{◌≡◌, ℕ, ◌+◌, ◌*◌, ◌<◌, ◌≤◌, List, length, take, get_or, All, ◌∙◌, ap, lit≤, arith}
-use Rattle.std.specs.Prelude.{sum_by, min}
-use Rattle.std.specs.List.{zip}
-use Rattle.std.proofs.lemmas.List.{length-map, get_or-map}
-use Rattle.std.proofs.lemmas.List.Elements.{All-from_recursion, All-get_or}
-use Rattle.std.proofs.lemmas.List.Sums.{sum_by_more}
-use Rattle.std.proofs.lemmas.Slice.Zip.{length-zip, get_or-zip}
-use Rattle.std.proofs.Math.Nat.{mul-le-mul}
-use Rattle.wagon_number.specs.Digits.{factors, products, digit_sum}
+-- The sum behind the check digit.
+use Rattle.std.proofs.Common.{◌≡◌, ℕ, ◌+◌, ◌*◌, ◌<◌, ◌≤◌, Bool, true, List, [], ◌∷◌, length, get_or, All, refl, ◌∙◌, ap, arith}
+use Rattle.std.specs.Prelude.{sum_by, ◌==◌}
+use Rattle.std.proofs.lemmas.Bool.{eqb-true, agree_below_at}
+use Rattle.std.proofs.lemmas.List.Elements.{All-get_or}
+use Rattle.std.proofs.lemmas.List.FromFn.{fill_by_all}
+use Rattle.wagon_number.specs.declared.digits.TheConstants.{DOUBLED}
+use Rattle.wagon_number.specs.Digits.{products, digit_sum}
 
--- no factor is above 2
-pub factors-small : (i : ℕ) → i < 11 → get_or factors i 0 ≤ 2
-factors-small i small = All-get_or (λ factor. factor ≤ 2) factors i 0 small (All-from_recursion (λ factor. factor ≤ 2) factors (lit≤ tt, (lit≤ tt, (lit≤ tt, (lit≤ tt, (lit≤ tt, (lit≤ tt, (lit≤ tt, (lit≤ tt, (lit≤ tt, (lit≤ tt, (lit≤ tt, tt))))))))))))
+-- the table has the sum of the digits of a digit's double
+abbrev has_sum : ℕ → Bool
+has_sum d = get_or DOUBLED d 0 == digit_sum (2 * d)
 
--- so no product is above 18
-pub product-small : (ds : List ℕ) (i : ℕ) → All (λ d. d ≤ 9) ds → i < 11 → i < length ds → get_or factors i 0 * get_or ds i 0 ≤ 18
-product-small ds i below small in_digits = mul-le-mul (factors-small i small) (All-get_or (λ d. d ≤ 9) ds i 0 in_digits below)
+pub doubled_at : (d : ℕ) → d ≤ 9 → get_or DOUBLED d 0 ≡ digit_sum (2 * d)
+doubled_at d small = eqb-true _ _ (agree_below_at has_sum (λ _. true) 10 d refl (omega (arith, small)))
 
--- eleven digits have eleven products
-pub length-products : (ds : List ℕ) → length ds ≡ 11 → length (products ds) ≡ 11
-length-products ds long = length-map (zip factors ds) (λ p. p.0 * p.1) ∙ length-zip factors ds ∙ ap (min 11) long
+-- a digit is the sum of its digits
+digit_sum-digit : (d : ℕ) → d ≤ 9 → digit_sum (1 * d) ≡ d
+digit_sum-digit d small = omega (arith, small)
 
--- one product more in the sum
-pub sum_by_products_more : (ds : List ℕ) (i : ℕ) → length ds ≡ 11 → i < 11
-    → sum_by digit_sum (take (i + 1) (products ds)) ≡ sum_by digit_sum (take i (products ds)) + digit_sum (get_or factors i 0 * get_or ds i 0)
-sum_by_products_more ds i long small =
-    let pairs : i < length (zip factors ds) = omega (arith, length-zip factors ds, long) in
-    let product : get_or (products ds) i 0 ≡ get_or factors i 0 * get_or ds i 0 =
-    get_or-map (λ p. p.0 * p.1) (zip factors ds) i (0, 0) 0 pairs ∙ ap (λ p. p.0 * p.1) (get_or-zip factors ds i (0, 0) small (omega (arith, long))) in
-    sum_by_more digit_sum (products ds) i 0 (omega (arith, length-products ds long)) ∙ ap (λ d. sum_by digit_sum (take i (products ds)) + digit_sum d) product
+-- eleven digits, one by one
+eleven_are : (ds : List ℕ) → length ds ≡ 11 → ds ≡ get_or ds 0 0 ∷ get_or ds 1 0 ∷ get_or ds 2 0 ∷ get_or ds 3 0 ∷ get_or ds 4 0 ∷ get_or ds 5 0 ∷ get_or ds 6 0 ∷ get_or ds 7 0 ∷ get_or ds 8 0 ∷ get_or ds 9 0 ∷ get_or ds 10 0 ∷ []
+eleven_are ds long = fill_by_all (λ k. get_or ds k 0) ds 11 0 long (λ k h. refl)
+
+-- the sum of the digits of the products: every other digit counts by its double
+pub sum_of_products : (ds : List ℕ) → length ds ≡ 11 → All (λ d. d ≤ 9) ds
+    → sum_by digit_sum (products ds) ≡ digit_sum (2 * get_or ds 0 0) + get_or ds 1 0 + digit_sum (2 * get_or ds 2 0) + get_or ds 3 0 + digit_sum (2 * get_or ds 4 0) + get_or ds 5 0 + digit_sum (2 * get_or ds 6 0) + get_or ds 7 0 + digit_sum (2 * get_or ds 8 0) + get_or ds 9 0 + digit_sum (2 * get_or ds 10 0)
+sum_of_products ds long below =
+    let same : (k : ℕ) → k < 11 → digit_sum (1 * get_or ds k 0) ≡ get_or ds k 0 =
+    λ k small. digit_sum-digit (get_or ds k 0) (All-get_or (λ d. d ≤ 9) ds k 0 (omega (arith, long, small)) below) in
+    ap (λ l. sum_by digit_sum (products l)) (eleven_are ds long)
+    ∙ rw (same 1 (omega arith), same 3 (omega arith), same 5 (omega arith), same 7 (omega arith), same 9 (omega arith)) (omega arith)

@@ -1,10 +1,10 @@
 -- Digits, and the number that they show.
-use Rattle.std.proofs.Common.{◌≡◌, ℕ, zero, suc, ◌+◌, ◌*◌, ◌/◌, ◌%◌, ◌^◌, ◌<◌, ◌≤◌, List, [], ◌∷◌, ◌++◌, length, take, drop, get_or, set, All, refl, sym, ◌∙◌, ap, arith, length-append, append_assoc}
+use Rattle.std.proofs.Common.{◌≡◌, ℕ, zero, suc, ◌+◌, ◌*◌, ◌/◌, ◌%◌, ◌^◌, ◌<◌, ◌≤◌, List, [], ◌∷◌, ◌++◌, length, take, get_or, All, refl, sym, ◌∙◌, ap, arith, length-append}
 use Rattle.std.proofs.Math.Nat.{pow-suc, pow-le-pow_right}
-use Rattle.std.proofs.lemmas.List.{take_all, take_more, length-take, length-take-le, drop-set}
+use Rattle.std.proofs.lemmas.List.{take_all, take_more, length-take, length-take-le}
 use Rattle.std.proofs.lemmas.List.Elements.{All-nil, All-push, All-take, All-get_or, All-weaker, recursion_from_All}
 use Rattle.std.proofs.lemmas.Int.Digits.{number_push, number_lt}
-use Rattle.wagon_number.specs.Digits.{last_digits, number_in, digits_of, IsValid, IsVehicleNumber}
+use Rattle.wagon_number.specs.Digits.{last_digits, number_in, digits_of}
 use Rattle.wagon_number.specs.Laws.{DigitsGiveTheNumber, NumberGivesTheDigits}
 
 -- there are as many last digits as were asked for
@@ -56,20 +56,6 @@ number_in-front ds place below small =
     let long : length (take place ds) ≤ 11 = omega (arith, length-take place ds) in
     omega (arith, number_in-small (length (take place ds)) (take place ds) refl digits, pow-le-pow_right {n = 10} (omega arith) long)
 
--- the last digit of what is left goes to its place
-pub last_digits-placed : (count place rest : ℕ) (digits : List ℕ) → place + 1 ≡ count → place < length digits
-    → last_digits count rest ++ drop count digits ≡ last_digits place (rest / 10) ++ drop place (set digits place (rest % 10))
-unfolding last_digits
-last_digits-placed zero place rest digits next in_digits = absurd (omega arith)
-last_digits-placed (suc count) place rest digits next in_digits =
-    let here : count ≡ place = omega arith in
-    rw (append_assoc, ← next, here, drop-set digits place (rest % 10) in_digits) refl
-
--- no digits are asked for
-pub last_digits-none : (n : ℕ) → last_digits 0 n ≡ []
-unfolding last_digits
-last_digits-none n = refl
-
 pub digits_give_the_number : DigitsGiveTheNumber
 digits_give_the_number ds valid =
     let back : digits_of (number_in ds) ≡ ds = last_digits-number_in 12 ds valid.twelve valid.digits in
@@ -77,7 +63,3 @@ digits_give_the_number ds valid =
 
 pub number_gives_the_digits : NumberGivesTheDigits
 number_gives_the_digits n vehicle = number_in-last_digits 12 n vehicle.small
-
--- valid digits that show the number make it a vehicle number
-pub vehicle_from_digits : (n : ℕ) → IsValid (digits_of n) → number_in (digits_of n) ≡ n → IsVehicleNumber n
-vehicle_from_digits n valid shown = rw shown at (digits_give_the_number (digits_of n) valid).0

@@ -1,4 +1,5 @@
 pub mod DigitLemmas
+pub mod PairLemmas
 pub mod TextLemmas
 pub mod MarkLemmas
 pub mod ValidityLemmas

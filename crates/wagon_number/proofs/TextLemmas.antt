@@ -1,12 +1,11 @@
 -- Letters, and the digits that they show.
-use Rattle.std.proofs.Common.{◌≡◌, ℕ, ◌<◌, Bool, true, false, List, [], ◌∷◌, length, get_or, map, All, Result, Ok, Err, refl, sym, ◌∙◌, ap, arith, eq-eqb}
+use Rattle.std.proofs.Common.{◌≡◌, ℕ, ◌<◌, Bool, true, false, List, [], ◌∷◌, length, map, All, Result, Ok, Err, refl, sym, ◌∙◌, ap, arith, eq-eqb}
 use Rattle.std.specs.Prelude.{if◌then◌else◌, ◌==◌}
 use Rattle.std.specs.Char.{digit_value, digit_char, is_ascii_digit}
 use Rattle.std.specs.List.{list_all}
 use Rattle.std.proofs.lemmas.Bool.{cond-true, and_parts, and_from, eqb-true}
 use Rattle.std.proofs.lemmas.Bool.Decides.{nat_tests}
-use Rattle.std.proofs.lemmas.List.{length-map, get_or-map}
-use Rattle.std.proofs.lemmas.Grind.{same_number_lists}
+use Rattle.std.proofs.lemmas.List.{length-map}
 use Rattle.std.specs.Str.{IsAscii}
 use Rattle.std.proofs.lemmas.Str.Ascii.{IsAscii-nil, IsAscii-cons}
 use Rattle.std.proofs.lemmas.List.Elements.{All-nil, All-cons, All-head, All-tail}
@@ -69,12 +68,6 @@ shown_digits-below_ten [] digits = All-nil (λ d. d < 10)
 shown_digits-below_ten (c ∷ text) digits =
     let parts = and_parts (is_ascii_digit c) (list_all is_ascii_digit text) digits in
     All-cons (λ d. d < 10) (digit_value c) (shown_digits text) (digit_value-small c parts.0) (shown_digits-below_ten text parts.1)
-
--- letters that are those of digits, place by place
-pub letters_are : (ds ls : List ℕ) → length ls ≡ length ds → ((k : ℕ) → k < length ds → get_or ls k 0 ≡ digit_char (get_or ds k 0)) → ls ≡ map digit_char ds
-letters_are ds ls long each =
-    same_number_lists ls (map digit_char ds) (long ∙ sym (length-map ds digit_char))
-    (λ k h. let there : k < length ds = omega (arith, long) in rw (get_or-map digit_char ds k 0 0 there) (each k there))
 
 -- the letters of digits are ASCII
 pub IsAscii-letters : (ds : List ℕ) → All (λ d. d < 10) ds → IsAscii (map digit_char ds)

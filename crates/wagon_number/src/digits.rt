@@ -1,10 +1,10 @@
-ghost use Rattle.std.specs.Prelude.{◌≡◌, ◌≤◌, All, IsTrue, length};
+ghost use Rattle.std.specs.Prelude.{◌≡◌, ◌*◌, ◌≤◌, All, IsTrue, length};
 ghost use Rattle.std.specs.Char.{is_ascii_digit};
 ghost use Rattle.std.specs.List.{list_all};
-ghost use Rattle.wagon_number.specs.Digits.{last_digits, number_in, digit_sum, check_digit_of, shown_digits};
+ghost use Rattle.wagon_number.specs.Digits.{number_in, digit_sum, check_digit_of, shown_digits};
 
-// What the first eleven digits are multiplied by.
-const FACTORS: [u8; 11] = [2, 1, 2, 1, 2, 1, 2, 1, 2, 1, 2];
+// What each digit adds to the sum where it is multiplied by 2: the digits of its double.
+static DOUBLED: [u8; 10] = [0, 2, 4, 6, 8, 1, 3, 5, 7, 9];
 
 /// The check digit that goes behind eleven digits: what the digits of their products with 2 and 1
 /// in turn lack to a multiple of ten.
@@ -21,19 +21,24 @@ pub(crate) fn digit_behind(digits: &[u8]) -> u8
     requires eleven { length digits.now ≡ 11 }
     ensures { result ≡ check_digit_of digits.now }
 {
-    let mut sum = 0;
-    for (factor, digit) in FACTORS.iter().zip(digits) {
-        sum += sum_of_digits(factor * digit);
-    }
+    let doubled = doubled(digits[0])
+        + doubled(digits[2])
+        + doubled(digits[4])
+        + doubled(digits[6])
+        + doubled(digits[8])
+        + doubled(digits[10]);
+    let others = digits[1] + digits[3] + digits[5] + digits[7] + digits[9];
+    let sum = doubled + others;
     (10 - sum % 10) % 10
 }
 
-fn sum_of_digits(number: u8) -> u8
-    requires { number ≤ 18 }
-    ensures value { result ≡ digit_sum number }
+// What a digit adds to the sum where it is multiplied by 2.
+fn doubled(digit: u8) -> u8
+    requires { digit ≤ 9 }
+    ensures value { result ≡ digit_sum (2 * digit) }
     ensures bound { result ≤ 9 }
 {
-    number / 10 + number % 10
+    DOUBLED[usize::from(digit)]
 }
 
 /// The number that twelve digits show.
@@ -48,24 +53,15 @@ pub(crate) fn number_shown(digits: [u8; 12]) -> u64
     number
 }
 
-/// The last twelve decimal digits of a number, the first first.
-pub(crate) fn digits_behind(number: u64) -> [u8; 12]
-    ensures { result ≡ last_digits 12 number }
-{
-    let mut digits = [0; 12];
-    let mut rest = number;
-    for place in (0..12).rev() {
-        digits[place] = (rest % 10) as u8;
-        rest /= 10;
-    }
-    digits
-}
-
 /// Whether each letter is a digit of ASCII.
 pub(crate) fn are_digits(letters: &[u8]) -> bool
     ensures { result ≡ list_all is_ascii_digit letters.now }
 {
-    letters.iter().all(|letter| letter.is_ascii_digit())
+    let mut all = true;
+    for letter in letters {
+        all &= letter.is_ascii_digit();
+    }
+    all
 }
 
 /// The digits that letters show.

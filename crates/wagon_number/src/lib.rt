@@ -22,6 +22,7 @@ mod digits;
 mod fault;
 mod laws;
 mod number;
+mod pairs;
 mod text;
 
 pub use digits::check_digit;

@@ -2,8 +2,9 @@ ghost use Rattle.std.specs.Prelude.{◌≡◌, ℕ, Some, Ok};
 ghost use Rattle.std.specs.Str.{IsAscii};
 ghost use Rattle.wagon_number.specs.Digits.{IsValid, IsVehicleNumber, digits_of, number_in, number_of, text_of, has_marks, marked_number_of, marked_text};
 
-use crate::digits::{are_digits, digit_behind, digits_behind, digits_shown, number_shown};
+use crate::digits::{are_digits, digit_behind, digits_shown, number_shown};
 use crate::fault::NumberFault;
+use crate::pairs::twelve_letters;
 use crate::text::NumberText;
 use std::marker::Model;
 use std::{fmt, str};
@@ -77,7 +78,7 @@ impl WagonNumber {
         ensures valid { IsValid result }
         ensures number { number_in result ≡ self }
     {
-        digits_behind(self.number)
+        digits_shown(self.letters())
     }
 
     /// The twelve digits as a text, which `read` reads as this number.
@@ -93,11 +94,7 @@ impl WagonNumber {
         ensures ascii { IsAscii result }
         ensures number { IsVehicleNumber self }
     {
-        let mut letters = self.digits();
-        for letter in letters.iter_mut() {
-            *letter += b'0';
-        }
-        letters
+        twelve_letters(self.number)
     }
 
     fn marked_letters(self) -> [u8; 16]

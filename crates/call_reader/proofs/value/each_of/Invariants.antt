@@ -1,8 +1,12 @@
-use Rattle.std.proofs.Common.{◌≡◌, drop}
-use Rattle.serde_json.specs.View.{items_view}
+use Rattle.std.proofs.Common.{◌≡◌}
+use Rattle.serde_json.specs.Events.{items_len}
+use Rattle.json_tokens.specs.JsonValues.{json_items_data}
 use Rattle.call_reader.specs.Values.{each}
 use Rattle.call_reader.proofs.EachLemmas.{with_front}
 use Rattle.call_reader.proofs.value.each_of.Given as goal
 
 abbrev pub invariant-loop-value : goal.invariant-loop-value
-invariant-loop-value g l = with_front l.items.items (each g.T.FromJson.good (items_view (drop l.value-index l.values))) ≡ each g.T.FromJson.good (items_view l.values)
+invariant-loop-value g l = with_front l.items.items (each g.T.FromJson.good (json_items_data l.values)) ≡ each g.T.FromJson.good (json_items_data l.initial.values)
+
+abbrev pub decreases-loop-value : goal.decreases-loop-value
+decreases-loop-value g l = items_len (json_items_data l.values)

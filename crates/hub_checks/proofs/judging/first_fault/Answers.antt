@@ -10,11 +10,11 @@ use Rattle.hub_tables.specs.TableStates.{table_state}
 use Rattle.hub_tables.proofs.NextEventLemmas.{has_at}
 use Rattle.hub_checks.proofs.judging.first_fault.Goals as goal
 
-pub wagon_fault-requires-clause-is_named : goal.wagon_fault-requires-clause-is_named
-wagon_fault-requires-clause-is_named c =
+pub wagon_fault-requires-clause-named : goal.wagon_fault-requires-clause-named
+wagon_fault-requires-clause-named c =
     let wagons = c.args.wagons.now in
     let w = c.wagon-item.result in
-    ap (λ (ws : List ℕ). has ws w) (sym c.requires.are_named) ∙ has_at wagons c.loop-wagon.wagon-index w c.loop-wagon-test.true c.wagon-item.is
+    (c.requires.whole, ap (λ (ws : List ℕ). has ws w) (sym c.requires.are_named) ∙ has_at wagons c.loop-wagon.wagon-index w c.loop-wagon-test.true c.wagon-item.is)
 
 pub returns-in-Some : goal.returns-in-Some
 returns-in-Some c =

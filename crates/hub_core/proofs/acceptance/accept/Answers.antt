@@ -25,7 +25,7 @@ returns-in_err-make_room c = record {
       let r = c.in_err-make_room.ensures in
       subst (λ (es : List Entry). Represents es (table_state n.tables) (position_of n.seen) (outbox_state_of n.outboxes)) (sym r.entries)
       (kept_same b.history.entries (table_state b.tables) (table_state n.tables) (position_of b.seen) (position_of n.seen) (outbox_state_of b.outboxes) (outbox_state_of n.outboxes)
-      (ap table_state r.tables) (λ by k i. r.positions i by k) r.boxes c.requires.kept);
+      (ap table_state r.tables) (λ by k i. r.positions i by k) r.boxes c.requires.ready.0);
   answered = search rules;
   grows = search rules;
   err = search rules;
@@ -38,7 +38,7 @@ returns-in_err-accept c = record {
       let r = c.in_ok-make_room.ensures in
       subst (λ (es : List Entry). Represents es (table_state c.accept.new.self) (position_of n.seen) (outbox_state_of n.outboxes)) (sym r.entries)
       (kept_same b.history.entries (table_state b.tables) (table_state c.accept.new.self) (position_of b.seen) (position_of n.seen) (outbox_state_of b.outboxes) (outbox_state_of n.outboxes)
-      (c.in_err-accept.ensures.err ∙ ap table_state r.tables) (λ by k i. r.positions i by k) r.boxes c.requires.kept);
+      (c.in_err-accept.ensures.err ∙ ap table_state r.tables) (λ by k i. r.positions i by k) r.boxes c.requires.ready.0);
   answered = search rules;
   grows = search rules;
   err = search rules;
@@ -59,7 +59,7 @@ returns c = record {
       ap (λ (es : List Entry). es ++ entry (Accepted m.no) ∷ []) r.entries in
       let len : c.len-position.result ≡ length b.history.entries = c.len-position.ensures.value ∙ ap length r.entries in
       subst (λ (es : List Entry). Represents es (table_state c.accept.new.self) (position_of c.note_reserved.new.self) (outbox_state_of c.deliver.new.outboxes)) (sym entered)
-      (kept_accepted b.history.entries m (table_state b.tables) (position_of b.seen) (outbox_state_of b.outboxes) c.requires.kept c.requires.room c.requires.limits c.requires.new
+      (kept_accepted b.history.entries m (table_state b.tables) (position_of b.seen) (outbox_state_of b.outboxes) c.requires.ready.0 c.requires.ready.1 c.requires.new.1 c.requires.new.0
       c.boxes_keep_the_lists.ensures.push (table_state c.accept.new.self) (position_of c.note_reserved.new.self) (outbox_state_of c.deliver.new.outboxes) c.requires.acceptable.sound
       (c.in_ok-accept.ensures.ok ∙ ap (λ (x : Message). table_part (after_acceptance (table_state n.tables) x)) sent ∙ ap (λ (t : TableEntries). table_part (after_acceptance (table_state t) m)) r.tables)
       (λ by k. c.note_reserved.ensures by k ∙
@@ -67,11 +67,11 @@ returns c = record {
       ap (λ (p : ℕ). cond (same_name m.by m.no by k) (Some p) (position_of n.seen by k)) len ∙
       ap (λ (o : Option ℕ). cond (same_name m.by m.no by k) (Some (length b.history.entries)) o) (λ i. r.positions i by k))
       (λ q. c.deliver.ensures q ∙
-      ap (λ (k : OutboxState). with_items k (items_to q c.in_ok-items.items.items)) (r.boxes q) ∙
-      ap (λ (is : List AddressedItem). with_items (outbox_state_of b.outboxes q) (items_to q is)) c.in_ok-items.ensures));
+      ap (λ (k : OutboxState). with_items k (items_to q c.make_room.new.state.items.items)) (r.boxes q) ∙
+      ap (λ (is : List AddressedItem). with_items (outbox_state_of b.outboxes q) (items_to q is)) (r.items ∙ c.in_ok-put_items.ensures)));
   answered = let b = c.args.state.now in
       c.verdict-2.ensures ∙ ap (λ (x : Message). Accepted x.no) (c.content-content.ensures.value ∙ c.get-sent.ensures) ∙
-      new_answer b.history.entries c.args.message (table_state b.tables) (position_of b.seen) (outbox_state_of b.outboxes) c.requires.kept c.requires.room c.requires.limits c.requires.new None c.requires.acceptable.sound;
+      new_answer b.history.entries c.args.message (table_state b.tables) (position_of b.seen) (outbox_state_of b.outboxes) c.requires.ready.0 c.requires.ready.1 c.requires.new.1 c.requires.new.0 None c.requires.acceptable.sound;
   grows = search rules;
   err = search rules;
 }
@@ -79,10 +79,10 @@ returns c = record {
 pub note_reserved-requires-clause-new : goal.note_reserved-requires-clause-new
 note_reserved-requires-clause-new c =
     let sent = c.content-content.result.now in
-    ap (λ (found : Railway → ℕ → Option ℕ). found sent.by sent.no) c.in_ok-make_room.ensures.positions ∙ ap (λ (x : Message). position_of c.args.state.now.seen x.by x.no) (c.content-content.ensures.value ∙ c.get-sent.ensures) ∙ c.requires.new
+    ap (λ (found : Railway → ℕ → Option ℕ). found sent.by sent.no) c.in_ok-make_room.ensures.positions ∙ ap (λ (x : Message). position_of c.args.state.now.seen x.by x.no) (c.content-content.ensures.value ∙ c.get-sent.ensures) ∙ c.requires.new.0
 
 pub deliver-requires-clause-few : goal.deliver-requires-clause-few
 deliver-requires-clause-few c =
     let b = c.args.state.now in
-    subst (λ (is : List AddressedItem). length is < 2 ^ 62) (sym c.in_ok-items.ensures)
-    (few_items c.items_and_events_are_bounded.ensures.items b.history.entries c.args.message (table_state b.tables) (position_of b.seen) (outbox_state_of b.outboxes) c.requires.kept c.requires.limits c.requires.acceptable.sound)
+    subst (λ (is : List AddressedItem). length is < 2 ^ 62) (sym (c.in_ok-make_room.ensures.items ∙ c.in_ok-put_items.ensures))
+    (few_items c.items_and_events_are_bounded.ensures.items b.history.entries c.args.message (table_state b.tables) (position_of b.seen) (outbox_state_of b.outboxes) c.requires.ready.0 c.requires.new.1 c.requires.acceptable.sound)

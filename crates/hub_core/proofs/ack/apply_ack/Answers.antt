@@ -21,13 +21,13 @@ returns c = record {
       ap (λ (p : Paged Entry). p.entries) c.push_reserved.ensures ∙ ap (λ (es : List Entry). es ++ entry c.reply_of.result ∷ []) c.in_ok-reserve.ensures.entries ∙ ap (λ (r : Reply). b.history.entries ++ entry r ∷ []) c.reply_of.ensures in
       subst (λ (es : List Entry). Represents es (table_state b.tables) (position_of b.seen) (outbox_state_of c.ack-outcome.new.self)) (sym entered)
       (subst (λ (n : ℕ). Represents (b.history.entries ++ record { call = Ack c.args.by n; reply = ack_outcome_reply c.ack-outcome.result } ∷ []) (table_state b.tables) (position_of b.seen) (outbox_state_of c.ack-outcome.new.self)) c.get.ensures.value
-      (kept_ack laws.last laws.acknowledgement b.history.entries c.args.by c.get.result (table_state b.tables) (position_of b.seen) b.outboxes c.ack-outcome.new.self c.requires.kept c.requires.room
+      (kept_ack laws.last laws.acknowledgement b.history.entries c.args.by c.get.result (table_state b.tables) (position_of b.seen) b.outboxes c.ack-outcome.new.self c.requires.ready.0 c.requires.ready.1
       c.ack-outcome.result o.when o.stands o.ahead o.kept o.err));
   answered = let b = c.args.state.now in
       let laws = c.boxes_keep_the_lists.ensures in
       let o = c.ack-outcome.ensures in
       c.reply_of-2.ensures ∙
-      ack_answer laws.last laws.acknowledgement b.history.entries c.args.by c.get.result (table_state b.tables) (position_of b.seen) b.outboxes c.ack-outcome.new.self c.requires.kept c.requires.room
+      ack_answer laws.last laws.acknowledgement b.history.entries c.args.by c.get.result (table_state b.tables) (position_of b.seen) b.outboxes c.ack-outcome.new.self c.requires.ready.0 c.requires.ready.1
       c.ack-outcome.result o.when o.stands o.ahead ∙
       ap (λ (n : ℕ). answer b.history.entries (Ack c.args.by n)) c.get.ensures.value;
   grows = search rules;

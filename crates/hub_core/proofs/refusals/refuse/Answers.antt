@@ -25,14 +25,14 @@ returns c = record {
       ap (λ (es : List Entry). es ++ entry (verdict m.no (Some c.args.found)) ∷ []) c.in_ok-reserve-2.ensures.entries in
       let len : c.len-position.result ≡ length b.history.entries = c.len-position.ensures.value ∙ ap length c.in_ok-reserve-2.ensures.entries in
       subst (λ (es : List Entry). Represents es (table_state b.tables) (position_of c.note_reserved.new.self) (outbox_state_of b.outboxes)) (sym entered)
-      (kept_refused b.history.entries m (table_state b.tables) (position_of b.seen) (outbox_state_of b.outboxes) c.requires.kept c.requires.room c.requires.limits c.requires.new c.args.found (position_of c.note_reserved.new.self) c.requires.fault
+      (kept_refused b.history.entries m (table_state b.tables) (position_of b.seen) (outbox_state_of b.outboxes) c.requires.ready.0 c.requires.ready.1 c.requires.new.1 c.requires.new.0 c.args.found (position_of c.note_reserved.new.self) c.requires.fault
       (λ by n. c.note_reserved.ensures by n ∙
       ap (λ (x : Message). cond (same_name x.by x.no by n) (Some c.len-position.result) (position_of c.reserve.new.self by n)) same ∙
       ap (λ (k : ℕ). cond (same_name m.by m.no by n) (Some k) (position_of c.reserve.new.self by n)) len ∙
       ap (λ (found : Railway → ℕ → Option ℕ). cond (same_name m.by m.no by n) (Some (length b.history.entries)) (found by n)) c.reserve.ensures.positions));
   answered = let b = c.args.state.now in
       c.in_ok-reply_copy.ensures ∙ c.verdict-reply.ensures ∙ ap (λ (x : Message). verdict x.no (Some c.args.found)) (c.content-content.ensures.value ∙ c.get.ensures) ∙
-      new_answer b.history.entries c.args.message (table_state b.tables) (position_of b.seen) (outbox_state_of b.outboxes) c.requires.kept c.requires.room c.requires.limits c.requires.new (Some c.args.found) c.requires.fault;
+      new_answer b.history.entries c.args.message (table_state b.tables) (position_of b.seen) (outbox_state_of b.outboxes) c.requires.ready.0 c.requires.ready.1 c.requires.new.1 c.requires.new.0 (Some c.args.found) c.requires.fault;
   grows = search rules;
   err = search rules;
 }
@@ -40,4 +40,4 @@ returns c = record {
 pub note_reserved-requires-clause-new : goal.note_reserved-requires-clause-new
 note_reserved-requires-clause-new c =
     let sent = c.content-content.result.now in
-    ap (λ (found : Railway → ℕ → Option ℕ). found sent.by sent.no) c.reserve.ensures.positions ∙ ap (λ (x : Message). position_of c.args.state.now.seen x.by x.no) (c.content-content.ensures.value ∙ c.get.ensures) ∙ c.requires.new
+    ap (λ (found : Railway → ℕ → Option ℕ). found sent.by sent.no) c.reserve.ensures.positions ∙ ap (λ (x : Message). position_of c.args.state.now.seen x.by x.no) (c.content-content.ensures.value ∙ c.get.ensures) ∙ c.requires.new.0

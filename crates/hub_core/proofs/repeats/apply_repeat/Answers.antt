@@ -7,4 +7,4 @@ use Rattle.hub_core.proofs.repeats.apply_repeat.Goals as goal
 pub append_entry-requires-clause-quiet : goal.append_entry-requires-clause-quiet
 append_entry-requires-clause-quiet c =
     let b = c.args.state.now in
-    quiet_again b.history.entries c.args.message (table_state b.tables) (position_of b.seen) (outbox_state_of b.outboxes) c.args.position _ c.requires.kept c.requires.sent_before
+    quiet_again b.history.entries c.args.message (table_state b.tables) (position_of b.seen) (outbox_state_of b.outboxes) c.args.position _ c.requires.ready.0 c.requires.sent_before

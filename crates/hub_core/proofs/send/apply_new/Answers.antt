@@ -9,10 +9,10 @@ use Rattle.hub_core.proofs.send.apply_new.Goals as goal
 pub fault-requires : goal.fault-requires
 fault-requires c =
     let b = c.args.state.now in
-    offered_stay c.offers_are_in_order.ensures b.history.entries (table_state b.tables) (position_of b.seen) (outbox_state_of b.outboxes) c.requires.kept
+    offered_stay c.offers_are_in_order.ensures b.history.entries (table_state b.tables) (position_of b.seen) (outbox_state_of b.outboxes) c.requires.ready.0
 
 pub accept-requires-clause-acceptable : goal.accept-requires-clause-acceptable
 accept-requires-clause-acceptable c =
     let b = c.args.state.now in
-    acceptable c.estimates_fit.ensures c.offers_are_in_order.ensures b.history.entries c.args.message (table_state b.tables) (position_of b.seen) (outbox_state_of b.outboxes) c.requires.kept c.requires.room c.requires.limits c.requires.new
+    acceptable c.estimates_fit.ensures c.offers_are_in_order.ensures b.history.entries c.args.message (table_state b.tables) (position_of b.seen) (outbox_state_of b.outboxes) c.requires.ready.0 c.requires.ready.1 c.requires.new.1 c.requires.new.0
     (sym (c.in_ok-found.ensures ∙ ap (fault (table_state b.tables)) c.get.ensures) ∙ c.in-None.is)

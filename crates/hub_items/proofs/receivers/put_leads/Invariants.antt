@@ -1,11 +1,10 @@
 use Rattle.std.proofs.Common.{◌≡◌, ◌++◌, take}
 use Rattle.std.specs.Prelude.{filter_map}
 use Rattle.journey.specs.Legs.{lead_of}
-use Rattle.hub_model.specs.HubState.{journey_after}
 use Rattle.hub_tables.specs.TableStates.{table_state}
 use Rattle.hub_items.proofs.receivers.put_leads.Given as goal
 
 -- the leads of the wagons so far
 abbrev pub invariant-loop-wagon : goal.invariant-loop-wagon
 invariant-loop-wagon l =
-    l.railways.items ≡ l.initial.railways.items ++ filter_map (λ w. lead_of (journey_after (table_state l.tables) l.message w)) (take l.wagon-index l.wagons)
+    l.railways.items ≡ l.initial.railways.items ++ filter_map (λ w. lead_of ((table_state l.tables).journey w)) (take l.wagon-index l.wagons)

@@ -31,14 +31,14 @@ pub returns-in_err-answered-clause-err : goal.returns-in_err-answered-clause-err
 returns-in_err-answered-clause-err g c =
     let i = c.batches.invariant in
     let t = IsTaken-append _ _ _ i.6.0 c.batches.batch.lines.items i.6.1 i.3.says in
-    let stops = rw (c.in_err-answered.was) at c.answer_and_parse_next-answered.ensures.err in
+    let stops = rw (c.in_err-answered.was) at c.answer_and_parse_next-answered.ensures.answers in
     StopsWithin-err _ (parsed_taken _ _ _ t) (StopsWithin-more _ (StopsWithin-after i.6.2 stops))
 
 pub returns-in_err-ahead-clause-err : goal.returns-in_err-ahead-clause-err
 returns-in_err-ahead-clause-err g c =
     let i = c.batches.invariant in
     let t = IsTaken-append _ _ _ i.6.0 c.batches.batch.lines.items i.6.1 i.3.says in
-    let advances = rw (c.in_ok-answered.was) at c.answer_and_parse_next-answered.ensures.ok in
+    let advances = rw (c.in_ok-answered.was) at c.answer_and_parse_next-answered.ensures.answers in
     StopsWithin-err _ (parsed_taken _ _ _ t) (StopsWithin-after (Advances-append i.6.2 advances) (StopsWithin-here _ _ _ _))
 
 pub batches-preserved : goal.batches-preserved
@@ -48,9 +48,9 @@ batches-preserved g c =
     let next = c.batches.from + c.batches.batch.end in
     let hs = i.6.0 ++ c.batches.batch.lines.items in
     let t = IsTaken-append _ _ _ i.6.0 c.batches.batch.lines.items i.6.1 i.3.says in
-    let advances = rw (c.in_ok-answered.was) at c.answer_and_parse_next-answered.ensures.ok in
+    let advances = rw (c.in_ok-answered.was) at c.answer_and_parse_next-answered.ensures.answers in
     let counted = rw (c.in_ok-answered.was) at c.answer_and_parse_next-answered.ensures.counted in
-    let kept = rw (c.in_ok-answered.was) at c.answer_and_parse_next-answered.ensures.kept in
+    let blames = rw (c.in_ok-answered.was) at c.answer_and_parse_next-answered.ensures.blames in
     let batch = rw (c.in_ok-ahead.was) at c.answer_and_parse_next-answered.ensures.next in
     let size = length-drop c.batches.from chunk in (
       omega (arith, i.0),
@@ -58,6 +58,6 @@ batches-preserved g c =
       c.longer-size.ensures,
       subst (λ s. IsBatch (drop next chunk) s) (sym c.replace.ensures.after) (from_place chunk next _ batch),
       omega (arith, i.4, i.3.few, counted),
-      kept ∙ i.5,
+      blames ∙ i.5,
       (hs, subst (λ r. IsTaken (drop c.args.part.start chunk) hs r) (drop-drop c.batches.batch.end c.batches.from chunk) t, Advances-append i.6.2 advances),
     )

@@ -1,10 +1,10 @@
 use Rattle.std.proofs.Common.{append-nil}
 use Rattle.hub_replay.specs.Lines.{parsed_lines}
-use Rattle.hub_replay.proofs.RunLemmas.{Advances-append, StopsWithin-after, on_err}
+use Rattle.hub_replay.proofs.RunLemmas.{Advances-append, StopsWithin-after, stops-lines}
 use Rattle.hub_replay.proofs.chunks.finish.Goals as goal
 
-pub returns-in_err-flush-clause-err : goal.returns-in_err-flush-clause-err
-returns-in_err-flush-clause-err g c = on_err _ (rw (append-nil (parsed_lines c.args.line.now)) at (StopsWithin-after c.in_ok-last_line.ensures.ok (c.in_err-flush.ensures.err _)))
+pub returns-in_err-flush-clause-answers : goal.returns-in_err-flush-clause-answers
+returns-in_err-flush-clause-answers g c = stops-lines c.from_residual-in_err-flush.result _ _ _ c.from_residual-in_err-flush.ensures.0 (rw (append-nil (parsed_lines c.args.line.now)) at (StopsWithin-after c.in_ok-last_line.ensures.answers (c.in_err-flush.ensures.answers _)))
 
-pub returns-clause-ok : goal.returns-clause-ok
-returns-clause-ok g c = rw (append-nil (parsed_lines c.args.line.now)) at (Advances-append c.in_ok-last_line.ensures.ok (c.in_ok-flush.ensures.ok _))
+pub returns-clause-answers : goal.returns-clause-answers
+returns-clause-answers g c = rw (append-nil (parsed_lines c.args.line.now)) at (Advances-append c.in_ok-last_line.ensures.answers (c.in_ok-flush.ensures.answers _))

@@ -35,20 +35,20 @@ returns-in-Err-clause-err g c =
     let i = c.chunks.invariant in
     let r = i.6 in
     let all = parsed_all r.0 (take c.chunks.kept_len c.chunks.buffer) r.1 c.chunks.skipping r.4 in
-    let stop = StopsWithin-more (parsed_lines (take c.chunks.kept_len c.chunks.buffer)) (rw (append-nil r.1) at (StopsWithin-after r.5 (c.in-Err.ensures.err c.chunks.hub))) in
+    let stop = StopsWithin-more (parsed_lines (take c.chunks.kept_len c.chunks.buffer)) (rw (append-nil r.1) at (StopsWithin-after r.5 (c.in-Err.ensures.answers c.chunks.hub))) in
     let s = stopped (parsed_lines r.0) c.new-output.ensures.pending c.new-output.ensures.counts (StopsWithin-as all stop) in
-    (r.0, s.0, r.3, s.1, s.2, late c.in-Err.fault _ _ _ _ _ (length r.0) c.in-Err.ensures.fault i.4 i.5 (omega (arith, r.2, i.2)))
+    (r.0, s.0, r.3, s.1, s.2, late c.in-Err.fault _ _ _ _ _ (length r.0) c.in-Err.ensures.blames i.4 i.5 (omega (arith, r.2, i.2)))
 
 pub returns-in-Err-read_chunk-clause-err : goal.returns-in-Err-read_chunk-clause-err
 returns-in-Err-read_chunk-clause-err g c =
     let i = c.chunks.invariant in
     let r = i.6 in
     let f = c.in-Err-read_chunk.ensures in
-    let advances = rw (append-nil r.1) at (Advances-append r.5 (c.in_default-flush.ensures.ok c.chunks.hub)) in
+    let advances = rw (append-nil r.1) at (Advances-append r.5 (c.in_default-flush.ensures.answers c.chunks.hub)) in
     let all = parsed_all r.0 (take c.chunks.kept_len c.chunks.buffer) r.1 c.chunks.skipping r.4 in
     let s = stopped (parsed_lines r.0) c.new-output.ensures.pending c.new-output.ensures.counts (StopsWithin-as all (StopsWithin-after advances (StopsWithin-here _ _ _ (parsed_lines (take c.chunks.kept_len c.chunks.buffer))))) in
     let used = rw (append-nil r.0) at (Consumes-append _ _ _ r.0 [] r.3 f.nothing) in
-    (r.0, s.0, used, s.1, s.2, rw (f.fault.0) (omega (arith, f.fault.1, i.4), c.in_default-flush.ensures.kept ∙ i.5, omega (arith, r.2, c.chunks-test.true)))
+    (r.0, s.0, used, s.1, s.2, rw (f.fault.0) (omega (arith, f.fault.1, i.4), c.in_default-flush.ensures.blames ∙ i.5, omega (arith, r.2, c.chunks-test.true)))
 
 pub returns-clause-err : goal.returns-clause-err
 returns-clause-err g c =
@@ -64,11 +64,11 @@ returns-then-count-eq0-clause-ok g c =
     let r = i.6 in
     let p = c.in-Ok-read_chunk.ensures in
     let f = c.in-Ok-finish.ensures in
-    let advances = rw (append-nil r.1) at (Advances-append r.5 (c.in_default-flush.ensures.ok c.chunks.hub)) in
+    let advances = rw (append-nil r.1) at (Advances-append r.5 (c.in_default-flush.ensures.answers c.chunks.hub)) in
     let all : parsed_lines r.0 ≡ r.1 ++ parsed_lines (take c.chunks.kept_len c.read_chunk.new.buffer) = parsed_all r.0 (take c.chunks.kept_len c.chunks.buffer) r.1 c.chunks.skipping r.4 ∙ ap (λ l. r.1 ++ parsed_lines l) (sym p.kept) in
     let none : length (slice_range c.read_chunk.new.buffer c.chunks.kept_len (c.chunks.kept_len + c.in-Ok-read_chunk.count)) ≡ 0 = length-chunk c.read_chunk.new.buffer c.chunks.kept_len c.in-Ok-read_chunk.count (omega (arith, i.0, i.1, p.bounds.0, c.read_chunk.auto.buffer)) ∙ c.if-count-eq0.true in
     let used = rw (nothing_more r.0 _ none) at (Consumes-append _ _ _ r.0 _ r.3 p.bytes) in
-    let s = ended r.0 _ c.in-Ok-finish.counts c.new-output.ensures.pending c.new-output.ensures.counts f.empty f.counts all (Advances-append advances f.ok) in
+    let s = ended r.0 _ c.in-Ok-finish.counts c.new-output.ensures.pending c.new-output.ensures.counts f.empty f.counts all (Advances-append advances f.answers) in
     (r.0, s.0, used, p.end c.if-count-eq0.true, s.1, s.2)
 
 pub returns-then-count-eq0-clause-lines : goal.returns-then-count-eq0-clause-lines
@@ -89,7 +89,7 @@ returns-then-count-eq0-clause-faults g c =
 pub returns-then-count-eq0-clause-kept : goal.returns-then-count-eq0-clause-kept
 returns-then-count-eq0-clause-kept g c =
     let i = c.chunks.invariant in
-    (c.in-Ok-read_chunk.ensures.same ∙ i.4, c.in-Ok-finish.ensures.kept ∙ c.in_default-flush.ensures.kept ∙ i.5)
+    (c.in-Ok-read_chunk.ensures.same ∙ i.4, c.in-Ok-finish.ensures.blames ∙ c.in_default-flush.ensures.blames ∙ i.5)
 
 pub returns-in-Err-finish-clause-err : goal.returns-in-Err-finish-clause-err
 returns-in-Err-finish-clause-err g c =
@@ -97,12 +97,12 @@ returns-in-Err-finish-clause-err g c =
     let r = i.6 in
     let p = c.in-Ok-read_chunk.ensures in
     let f = c.in-Err-finish.ensures in
-    let advances = rw (append-nil r.1) at (Advances-append r.5 (c.in_default-flush.ensures.ok c.chunks.hub)) in
+    let advances = rw (append-nil r.1) at (Advances-append r.5 (c.in_default-flush.ensures.answers c.chunks.hub)) in
     let all : parsed_lines r.0 ≡ r.1 ++ parsed_lines (take c.chunks.kept_len c.read_chunk.new.buffer) = parsed_all r.0 (take c.chunks.kept_len c.chunks.buffer) r.1 c.chunks.skipping r.4 ∙ ap (λ l. r.1 ++ parsed_lines l) (sym p.kept) in
     let none : length (slice_range c.read_chunk.new.buffer c.chunks.kept_len (c.chunks.kept_len + c.in-Ok-read_chunk.count)) ≡ 0 = length-chunk c.read_chunk.new.buffer c.chunks.kept_len c.in-Ok-read_chunk.count (omega (arith, i.0, i.1, p.bounds.0, c.read_chunk.auto.buffer)) ∙ c.if-count-eq0.true in
     let used = rw (nothing_more r.0 _ none) at (Consumes-append _ _ _ r.0 _ r.3 p.bytes) in
-    let s = stopped (parsed_lines r.0) c.new-output.ensures.pending c.new-output.ensures.counts (StopsWithin-as all (StopsWithin-after advances f.err)) in
-    (r.0, s.0, used, s.1, s.2, late c.in-Err-finish.fault _ _ _ _ _ (length r.0) f.fault (p.same ∙ i.4) (c.in_default-flush.ensures.kept ∙ i.5) (omega (arith, r.2, i.2)))
+    let s = stopped (parsed_lines r.0) c.new-output.ensures.pending c.new-output.ensures.counts (StopsWithin-as all (StopsWithin-after advances f.answers)) in
+    (r.0, s.0, used, s.1, s.2, late c.in-Err-finish.fault _ _ _ _ _ (length r.0) f.blames (p.same ∙ i.4) (c.in_default-flush.ensures.blames ∙ i.5) (omega (arith, r.2, i.2)))
 
 pub returns-in-Err-answer_chunk-clause-err : goal.returns-in-Err-answer_chunk-clause-err
 returns-in-Err-answer_chunk-clause-err g c =
@@ -111,12 +111,12 @@ returns-in-Err-answer_chunk-clause-err g c =
     let p = c.in-Ok-read_chunk.ensures in
     let f = c.in-Err-answer_chunk.ensures in
     let new : List ℕ = slice_range c.read_chunk.new.buffer c.chunks.kept_len (c.chunks.kept_len + c.in-Ok-read_chunk.count) in
-    let advances = rw (append-nil r.1) at (Advances-append r.5 (c.in_default-flush.ensures.ok c.chunks.hub)) in
+    let advances = rw (append-nil r.1) at (Advances-append r.5 (c.in_default-flush.ensures.answers c.chunks.hub)) in
     let chunk : take (c.chunks.kept_len + c.in-Ok-read_chunk.count) c.read_chunk.new.buffer ≡ take c.chunks.kept_len c.chunks.buffer ++ new = chunk_split c.read_chunk.new.buffer c.chunks.kept_len c.in-Ok-read_chunk.count ∙ ap (λ l. l ++ new) p.kept in
     let size : length new ≡ c.in-Ok-read_chunk.count = length-chunk c.read_chunk.new.buffer c.chunks.kept_len c.in-Ok-read_chunk.count (omega (arith, i.0, i.1, p.bounds.0, c.read_chunk.auto.buffer)) in
     let all = parsed_more r.0 (take c.chunks.kept_len c.chunks.buffer) new _ r.1 c.chunks.skipping r.4 chunk in
     let s = stopped (parsed_lines (r.0 ++ new)) c.new-output.ensures.pending c.new-output.ensures.counts (StopsWithin-as all (StopsWithin-after advances f.err)) in
-    (r.0 ++ new, s.0, Consumes-append _ _ _ r.0 new r.3 p.bytes, s.1, s.2, late c.in-Err-answer_chunk.fault _ _ _ _ _ (length (r.0 ++ new)) f.fault (p.same ∙ i.4) (c.in_default-flush.ensures.kept ∙ i.5) (omega (arith, length-append r.0 new, size, r.2, i.2, p.bounds.1, c.chunks-test.true)))
+    (r.0 ++ new, s.0, Consumes-append _ _ _ r.0 new r.3 p.bytes, s.1, s.2, late c.in-Err-answer_chunk.fault _ _ _ _ _ (length (r.0 ++ new)) f.blames (p.same ∙ i.4) (c.in_default-flush.ensures.blames ∙ i.5) (omega (arith, length-append r.0 new, size, r.2, i.2, p.bounds.1, c.chunks-test.true)))
 
 pub chunks-preserved : goal.chunks-preserved
 chunks-preserved g c =
@@ -129,7 +129,7 @@ chunks-preserved g c =
     let buffer : end ≤ length c.read_chunk.new.buffer = omega (arith, i.0, i.1, p.bounds.0, c.read_chunk.auto.buffer) in
     let len : length (take end c.read_chunk.new.buffer) ≡ end = length-take-le end c.read_chunk.new.buffer buffer in
     let start : c.in-Ok-answer_chunk.rest.start ≤ end = omega (arith, f.bounds.0, len) in
-    let advances = rw (append-nil r.1) at (Advances-append r.5 (c.in_default-flush.ensures.ok c.chunks.hub)) in
+    let advances = rw (append-nil r.1) at (Advances-append r.5 (c.in_default-flush.ensures.answers c.chunks.hub)) in
     let chunk : take end c.read_chunk.new.buffer ≡ take c.chunks.kept_len c.chunks.buffer ++ new = chunk_split c.read_chunk.new.buffer c.chunks.kept_len c.in-Ok-read_chunk.count ∙ ap (λ l. l ++ new) p.kept in
     let size : length new ≡ c.in-Ok-read_chunk.count = length-chunk c.read_chunk.new.buffer c.chunks.kept_len c.in-Ok-read_chunk.count buffer in
     let cut = IsCut-more r.0 (take c.chunks.kept_len c.chunks.buffer) new _ r.1 f.ok.0 c.chunks.skipping c.in-Ok-answer_chunk.rest.skipping _ r.4 chunk f.ok.1 in
@@ -139,6 +139,6 @@ chunks-preserved g c =
       omega (arith, i.2, p.bounds.1, c.chunks-test.true),
       omega (arith, i.3, f.counted, start, ap line_total c.in_default-flush.ensures.counts),
       p.same ∙ i.4,
-      f.kept ∙ c.in_default-flush.ensures.kept ∙ i.5,
+      f.blames ∙ c.in_default-flush.ensures.blames ∙ i.5,
       (r.0 ++ new, r.1 ++ f.ok.0, length-append r.0 new ∙ omega (arith, size, r.2), Consumes-append _ _ _ r.0 new r.3 p.bytes, rw moved cut, Advances-append advances f.ok.2),
     )

@@ -4,8 +4,8 @@ use Rattle.std.proofs.lemmas.List.{take_all}
 use Rattle.std.proofs.lemmas.List.Sums.{sum_by_more}
 use Rattle.std.proofs.lemmas.Option.{slice_get_read}
 use Rattle.std.proofs.lemmas.Result.{err_from_is_err_and}
-use Rattle.hub_shared.specs.declared.tally.Told.{Told}
-use Rattle.hub_shared.specs.Tallies.{TallyState}
+use Rattle.tallies.specs.declared.tally.Told.{Told}
+use Rattle.tallies.specs.Tallies.{TallyState}
 use Rattle.hub_shared.specs.Marks.{MarksTally, IsTallyFault, MarksTallies}
 use Rattle.hub_shared.proofs.MarkLemmas.{more_tallies, lift, done, refutes}
 use Rattle.hub_shared.proofs.settling.settle.Goals as goal

@@ -3,7 +3,7 @@ use Rattle.std.proofs.lemmas.List.{get_or_read, map-id, map-append, length-map}
 use Rattle.std.proofs.lemmas.Iterator.Consumers.{YieldsList-end}
 use Rattle.std.proofs.lemmas.Iterator.Adapters.{YieldsList-from_vec}
 use Rattle.inbox.specs.States.{PassState}
-use Rattle.hub_shared.specs.Tallies.{TallyState}
+use Rattle.tallies.specs.Tallies.{TallyState}
 use Rattle.hub_workers.specs.declared.ends.Served.{Served}
 use Rattle.hub_workers.specs.declared.ends.SessionEnd.{SessionEnd}
 use Rattle.hub_workers.specs.Lanes.{LaneState, of_lane, TakesBack, EachLane}

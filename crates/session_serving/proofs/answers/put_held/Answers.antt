@@ -8,9 +8,7 @@ pub loop-line-init : goal.loop-line-init
 loop-line-init g c = record {
   says = says_none _ _ true;
   kept = refl;
-  id = refl;
   sound = refl;
-  count = refl;
   fewer = omega arith;
   fits = c.requires.fits;
 }
@@ -20,11 +18,9 @@ loop-line-preserved-in-Ok g c =
     let i = c.loop-line.invariant in
     let after = c.in-Some.ensures.after in
     record {
-      says = says-then _ _ _ _ _ _ true i.says (says-line _ _ _ _ c.in-Some.line true (front-advances _ _ c.in-Some.line c.in-Some.ensures.line after) c.in-Ok.ensures.writes);
-      kept = c.in-Ok.ensures.kept ∙ i.kept;
-      id = ap (λ (s : State). s.id) after ∙ i.id;
+      says = says-then _ _ _ _ _ _ true i.says (says-line _ _ _ _ c.in-Some.line true (front-advances _ _ c.in-Some.line c.in-Some.ensures.line after) (ap (λ (s : State). s.id) after) (ap (λ (s : State). s.job_count) after) c.in-Ok.ensures.writes);
+      kept = c.in-Ok.ensures.failures.0 ∙ i.kept;
       sound = ap (λ (s : State). s.has_failed) after ∙ i.sound;
-      count = ap (λ (s : State). s.job_count) after ∙ i.count;
       fewer = omega (arith, ap (λ (s : State). length s.slots) after, front_fewer c.loop-line.session.slots, i.fewer);
       fits = c.in-Ok.ensures.fits;
     }
@@ -34,11 +30,9 @@ loop-line-preserved g c =
     let i = c.loop-line.invariant in
     let after = c.in-Some.ensures.after in
     record {
-      says = says-then _ _ _ _ _ _ true i.says (says-line _ _ _ _ c.in-Some.line true (front-advances _ _ c.in-Some.line c.in-Some.ensures.line after) c.in-Ok.ensures.writes);
-      kept = c.in-Ok.ensures.kept ∙ i.kept;
-      id = ap (λ (s : State). s.id) after ∙ i.id;
+      says = says-then _ _ _ _ _ _ true i.says (says-line _ _ _ _ c.in-Some.line true (front-advances _ _ c.in-Some.line c.in-Some.ensures.line after) (ap (λ (s : State). s.id) after) (ap (λ (s : State). s.job_count) after) c.in-Ok.ensures.writes);
+      kept = c.in-Ok.ensures.failures.0 ∙ i.kept;
       sound = ap (λ (s : State). s.has_failed) after ∙ i.sound;
-      count = ap (λ (s : State). s.job_count) after ∙ i.count;
       fewer = omega (arith, ap (λ (s : State). length s.slots) after, front_fewer c.loop-line.session.slots, i.fewer);
       fits = c.in-Ok.ensures.fits;
     }
@@ -46,4 +40,5 @@ loop-line-preserved g c =
 pub returns-in-Err-clause-says : goal.returns-in-Err-clause-says
 returns-in-Err-clause-says g c =
     let i = c.loop-line.invariant in
-    says-then _ _ _ _ _ _ false i.says (says-line _ _ _ _ c.in-Some.line false (front-advances _ _ c.in-Some.line c.in-Some.ensures.line c.in-Some.ensures.after) c.in-Err.ensures.writes)
+    let after = c.in-Some.ensures.after in
+    says-then _ _ _ _ _ _ false i.says (says-line _ _ _ _ c.in-Some.line false (front-advances _ _ c.in-Some.line c.in-Some.ensures.line after) (ap (λ (s : State). s.id) after) (ap (λ (s : State). s.job_count) after) c.in-Err.ensures.writes)

@@ -6,9 +6,7 @@ abbrev pub invariant-loop-line : goal.invariant-loop-line
 invariant-loop-line g l = record {
   says : Says l.initial.session (output_of (g.K.Sink.contents l.initial.writer) l.initial.out.items) l.session (output_of (g.K.Sink.contents l.writer) l.out.items) true;
   kept : g.K.Sink.failures l.writer ≡ g.K.Sink.failures l.initial.writer;
-  id : l.session.id ≡ l.initial.session.id;
   sound : l.session.has_failed ≡ l.initial.session.has_failed;
-  count : l.session.job_count ≡ l.initial.session.job_count;
   fewer : length l.session.slots ≤ length l.initial.session.slots;
   fits : HasRoom l.out;
 }

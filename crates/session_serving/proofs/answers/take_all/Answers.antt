@@ -9,10 +9,7 @@ loop-writer-init g c = record {
   port = refl;
   session = refl;
   sent = refl;
-  id = refl;
-  count = refl;
-  sound = c.requires.sound;
-  front = c.requires.front;
+  ready = c.requires.ready;
   fits = c.requires.fits;
 }
 
@@ -26,10 +23,7 @@ loop-writer-preserved g c =
       port = t.blames.1 ∙ i.port;
       session = t.port.0 ∙ i.session;
       sent = t.port.1 ∙ i.sent;
-      id = t.same.0 ∙ i.id;
-      count = t.same.1 ∙ i.count;
-      sound = (t.on c.in-Ok-true.field-0-test).1;
-      front = (t.on c.in-Ok-true.field-0-test).0;
+      ready = t.ready.0 c.in-Ok-true.field-0-test;
       fits = t.fits;
     }
 

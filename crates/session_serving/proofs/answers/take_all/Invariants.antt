@@ -1,6 +1,6 @@
-use Rattle.std.proofs.Common.{◌≡◌, None, true, false, length}
-use Rattle.session_lines.specs.Steps.{front_line}
+use Rattle.std.proofs.Common.{◌≡◌, true, length}
 use Rattle.session_serving.specs.Output.{output_of, Says, HasRoom}
+use Rattle.session_serving.specs.Serving.{IsReady}
 use Rattle.session_serving.proofs.answers.take_all.Given as goal
 
 abbrev pub invariant-loop-writer : goal.invariant-loop-writer
@@ -10,10 +10,7 @@ invariant-loop-writer g l = record {
   port : g.P.Port.failures l.port ≡ g.P.Port.failures l.initial.port;
   session : g.P.Port.session l.port ≡ g.P.Port.session l.initial.port;
   sent : g.P.Port.sent l.port ≡ g.P.Port.sent l.initial.port;
-  id : l.session.id ≡ l.initial.session.id;
-  count : l.session.job_count ≡ l.initial.session.job_count;
-  sound : l.session.has_failed ≡ false;
-  front : front_line l.session.slots ≡ None;
+  ready : IsReady l.session;
   fits : HasRoom l.out;
 }
 

@@ -13,11 +13,8 @@ loop-end-init g c = record {
   session = refl;
   id = refl;
   count = omega arith;
-  sound = c.requires.sound;
-  front = c.requires.front;
+  ready = c.requires.ready;
   order = omega arith;
-  short = c.requires.short.0;
-  room = c.requires.short.1;
   fits = c.requires.fits;
 }
 
@@ -35,11 +32,8 @@ loop-end-preserved g c =
       session = t.mine.1 ∙ i.session;
       id = t.mine.0 ∙ i.id;
       count = omega (arith, t.count, i.count, cuts.0);
-      sound = (t.on on).1;
-      front = (t.on on).0;
+      ready = t.ready.0 on;
       order = cuts.1;
-      short = t.short.0;
-      room = t.short.1;
       fits = t.fits;
     }
 

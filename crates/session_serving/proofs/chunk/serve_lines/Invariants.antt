@@ -1,8 +1,7 @@
-use Rattle.std.proofs.Common.{◌≡◌, ◌≤◌, ◌+◌, ◌-◌, None, true, false, length, take, vec_len, vec_capacity}
-use Rattle.session_lines.specs.Steps.{front_line}
-use Rattle.session_serving.specs.Bytes.{cut_after, max_kept}
-use Rattle.session_serving.specs.Output.{HasRoom}
-use Rattle.session_serving.specs.Serving.{exchange_of, Serves}
+use Rattle.std.proofs.Common.{◌≡◌, ◌≤◌, ◌+◌, ◌-◌, true, length, take}
+use Rattle.session_serving.specs.Bytes.{cut_after}
+use Rattle.session_serving.specs.Output.{HaveRoom}
+use Rattle.session_serving.specs.Serving.{exchange_of, IsReady, Serves}
 use Rattle.session_serving.proofs.chunk.serve_lines.Given as goal
 
 -- the lines before `from` were given
@@ -15,12 +14,9 @@ invariant-loop-end g l = record {
   session : g.P.Port.session l.port ≡ g.P.Port.session l.initial.port;
   id : l.session.id ≡ l.initial.session.id;
   count : l.session.job_count ≤ l.initial.session.job_count + l.from;
-  sound : l.session.has_failed ≡ false;
-  front : front_line l.session.slots ≡ None;
+  ready : IsReady l.session;
   order : l.from ≤ length l.chunk;
-  short : vec_len l.buffers.line ≤ max_kept;
-  room : max_kept ≤ vec_capacity l.buffers.line;
-  fits : HasRoom l.buffers.out;
+  fits : HaveRoom l.buffers;
 }
 
 abbrev pub decreases-loop-end : goal.decreases-loop-end

@@ -35,7 +35,7 @@ returns-in-Ok-false-clause-reads g c =
     let i = c.loop-total.invariant in
     let len = length-take-le c.in-Ok.count c.read_more.new.room c.in-Ok.ensures.bound in
     let fits = length-take-le c.min-most.result c.loop-total.room (omega arith) in
-    progress-stop _ _ _ _ _ _ _ (take c.in-Ok.count c.read_more.new.room) _ (Ok tt) _ c.in-Ok-false.field-0-test (λ _. c.in-Ok-false.ensures.over c.in-Ok-false.field-0-test) (ok_is_no_end _ refl) (omega (arith, len, fits, c.in-Ok.ensures.bound, c.read_more.auto.room)) i.progress c.in-Ok.ensures.bytes.0 c.in-Ok-false.ensures.serves
+    progress-stop _ _ _ _ _ _ _ (take c.in-Ok.count c.read_more.new.room) _ (Ok tt) _ c.in-Ok-false.field-0-test (λ _. c.in-Ok-false.ensures.idle.2 c.in-Ok-false.field-0-test) (ok_is_no_end _ refl) (omega (arith, len, fits, c.in-Ok.ensures.bound, c.read_more.auto.room)) i.progress c.in-Ok.ensures.bytes.0 c.in-Ok-false.ensures.serves
 
 pub returns-in-Err-clause-reads : goal.returns-in-Err-clause-reads
 returns-in-Err-clause-reads g c =
@@ -47,7 +47,7 @@ returns-in-Err-clause-reads g c =
 pub returns-in-Err-clause-fails : goal.returns-in-Err-clause-fails
 returns-in-Err-clause-fails g c =
     let i = c.loop-total.invariant in
-    first_fails c.in-Err.fault _ _ _ _ _ _ _ _ (c.in-Ok.ensures.kept ∙ i.reader) i.writer i.port c.in-Err.ensures.blames
+    first_fails c.in-Err.fault _ _ _ _ _ _ _ _ (c.in-Ok.ensures.failures.0 ∙ i.reader) i.writer i.port c.in-Err.ensures.blames
 
 pub returns-in-Err-clause-memory : goal.returns-in-Err-clause-memory
 returns-in-Err-clause-memory g c = err_is_memory c.in-Err.fault _ _ _ _ _ c.in-Err.ensures.blames refl
@@ -61,19 +61,19 @@ loop-total-preserved g c =
     let fits = length-take-le c.min-most.result c.loop-total.room (omega arith) in
     record {
       progress = progress-on _ _ _ _ _ _ c.loop-total.buffers.line.items (take c.in-Ok.count c.read_more.new.room) _ _ c.in-Ok.count _ len on i.progress c.in-Ok.ensures.bytes.0 t.serves (t.rest on);
-      reader = c.in-Ok.ensures.kept ∙ i.reader;
+      reader = c.in-Ok.ensures.failures.0 ∙ i.reader;
       writer = t.blames.0 ∙ i.writer;
       port = t.blames.1 ∙ i.port;
       session = t.mine.1 ∙ i.session;
       id = t.mine.0 ∙ i.id;
-      sound = t.on on;
-      idle = t.none;
+      sound = t.idle.1 on;
+      idle = t.idle.0;
       written = t.written;
       count = omega (arith, t.count, i.count, len);
       bound = omega (arith, fits, c.in-Ok.ensures.bound, c.read_more.auto.room);
-      short = t.short.0;
-      room = t.short.1;
-      fits = t.fits;
+      short = t.fits.0.0;
+      room = t.fits.0.1;
+      fits = t.fits.1;
     }
 
 pub returns-clause-reads : goal.returns-clause-reads

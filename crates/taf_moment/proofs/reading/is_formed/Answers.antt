@@ -1,7 +1,8 @@
-use Rattle.std.proofs.Common.{◌∙◌}
+use Rattle.std.proofs.Common.{sym, ◌∙◌, arith}
 use Rattle.std.specs.Prelude.{codes}
-use Rattle.taf_moment.proofs.TextLemmas.{fits-form}
+use Rattle.taf_moment.proofs.TextLemmas.{fits_more}
 use Rattle.taf_moment.proofs.reading.is_formed.Goals as goal
 
-pub returns-then-letters-eq17 : goal.returns-then-letters-eq17
-returns-then-letters-eq17 c = c.fits.ensures ∙ fits-form c.args.letters.now (codes "0000-00-00T00:00Z") c.if-letters-eq17.true
+pub loop-place-preserved : goal.loop-place-preserved
+loop-place-preserved c =
+    rw c.zero_for_digit.ensures (sym (fits_more c.loop-place.fits c.args.letters.now (codes "0000-00-00T00:00Z") c.loop-place.place (omega arith) (omega arith)) ∙ c.loop-place.invariant)

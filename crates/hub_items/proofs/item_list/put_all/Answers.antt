@@ -1,0 +1,24 @@
+use Rattle.std.proofs.Common.{◌≡◌, ◌∙◌, List, ◌++◌, ap, sym, subst}
+use Rattle.std.specs.Prelude.{OnOk, option_to_list}
+use Rattle.journey.specs.declared.event.Event.{Event}
+use Rattle.journey.specs.Journey.{NextEvent, after}
+use Rattle.journey.specs.Stages.{responsible}
+use Rattle.hub_model.specs.declared.addressed_item.AddressedItem.{AddressedItem}
+use Rattle.hub_model.specs.HubState.{wagons_in, journey_after}
+use Rattle.hub_model.specs.Items.{notice_receivers, sub_items}
+use Rattle.hub_tables.specs.TableStates.{table_state}
+use Rattle.hub_items.proofs.MessageItemLemmas.{items_of_one_wagon}
+use Rattle.hub_items.proofs.item_list.put_all.Goals as goal
+
+pub returns-in_ok-next-in-EtiAsk : goal.returns-in_ok-next-in-EtiAsk
+returns-in_ok-next-in-EtiAsk c =
+    let s = table_state c.args.tables.now in
+    let m = c.args.message.now in
+    let n = c.in_ok-next-in-EtiAsk.ensures in
+    let same = c.change-change.ensures in
+    let behind = ap after same ∙ n.after in
+    let alone = ap (wagons_in s.offer m.by) (sym c.body.ensures ∙ c.in-EtiAsk.is) in
+    let receiver = ap (notice_receivers s (journey_after s m) m.by) (sym c.body.ensures ∙ c.in-EtiAsk.is) ∙ ap (λ (es : List Event). option_to_list (responsible es)) (sym behind) ∙ ap option_to_list (sym c.responsible.ensures) in
+    let none = ap (sub_items m.by) (sym c.body.ensures ∙ c.in-EtiAsk.is) in
+    subst (λ (more : List AddressedItem). OnOk c.put_of_one.result (c.put_of_one.new.items.items ≡ c.args.items.now.items ++ more))
+    (items_of_one_wagon s m _ _ _ _ c.requires.notice.1 alone receiver none (ap (λ (o : NextEvent). o.wagon) same ∙ n.wagon) (ap (λ (o : NextEvent). o.before) same ∙ n.before) behind) c.put_of_one.ensures

@@ -1,0 +1,16 @@
+use Rattle.std.proofs.Common.{List, ap, ◌∙◌, ◌++◌}
+use Rattle.std.specs.Prelude.{filter, not, bytes_eq}
+use Rattle.taf_codes.specs.declared.code.Railway.{Railway}
+use Rattle.taf_messages.specs.declared.message.Message.{Message}
+use Rattle.hub_model.specs.declared.addressed_item.AddressedItem.{AddressedItem}
+use Rattle.hub_tables.specs.TableStates.{table_state}
+use Rattle.hub_items.specs.MessageItems.{all_items}
+use Rattle.hub_items.proofs.item_list.put_items.Goals as goal
+
+pub returns : goal.returns
+returns c =
+    let sent = c.get-sent in
+    c.keep_others.ensures ∙ ap (λ (by : Railway). filter (λ (i : AddressedItem). not (bytes_eq i.to by)) c.put_all.new.items.items) c.by.ensures ∙
+    ap (filter (λ (i : AddressedItem). not (bytes_eq i.to sent.result.now.by)))
+    (c.in_ok-put_all.ensures ∙ ap (λ (is : List AddressedItem). is ++ all_items (table_state c.args.tables.now) sent.result.now) c.clear.ensures.items) ∙
+    ap (λ (m : Message). filter (λ (i : AddressedItem). not (bytes_eq i.to m.by)) (all_items (table_state c.args.tables.now) m)) sent.ensures

@@ -1,0 +1,15 @@
+use Rattle.std.proofs.Common.{◌∙◌, ◌++◌, ap}
+use Rattle.taf_codes.specs.declared.code.Railway.{Railway}
+use Rattle.taf_messages.specs.declared.message.Body.{Body}
+use Rattle.hub_model.specs.Items.{sub_items}
+use Rattle.hub_tables.specs.TableStates.{table_state}
+use Rattle.hub_items.proofs.NoticeLemmas.{noticed}
+use Rattle.hub_items.proofs.notices.put_many.Goals as goal
+
+pub returns : goal.returns
+returns c =
+    let m = c.args.message.now in
+    let before = c.put_each_once.new.items.items in
+    let sub = c.in_ok-put_sub_notice.ensures ∙ ap (λ (by : Railway). before ++ sub_items by c.body.result.now) c.by.ensures ∙
+    ap (λ (says : Body). before ++ sub_items m.by says) c.body.ensures in
+    noticed (table_state c.args.tables.now) m c.args.notice.now c.as_slice.result.now c.args.items.now.items _ _ (c.as_slice.ensures.value ∙ c.in_ok-concerned.ensures) c.requires.notice.1 c.in_ok-put_each_once.ensures sub

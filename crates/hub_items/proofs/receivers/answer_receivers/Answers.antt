@@ -1,0 +1,17 @@
+use Rattle.std.proofs.Common.{ℕ, List, ◌∷◌, ◌++◌, Option, ap, ◌∙◌, sym}
+use Rattle.std.specs.Prelude.{filter_map}
+use Rattle.std.proofs.lemmas.List.Elements.{filter_map-append}
+use Rattle.taf_codes.specs.declared.code.Railway.{Railway}
+use Rattle.journey.specs.Legs.{lead_of}
+use Rattle.hub_tables.specs.TableStates.{table_state}
+use Rattle.hub_items.proofs.receivers.answer_receivers.Goals as goal
+
+pub returns : goal.returns
+returns c =
+    let a = c.args.answer.now in
+    let lead : ℕ → Option Railway = λ w. lead_of ((table_state c.args.tables.now).journey w) in
+    c.in_ok-put_leads-2.ensures ∙
+    ap (λ (rs : List Railway). rs ++ filter_map lead c.as_slice-2.result.now) (
+    c.in_ok-put_leads.ensures ∙ ap (λ (rs : List Railway). rs ++ filter_map lead c.as_slice.result.now) c.in_ok-railways.ensures) ∙
+    (λ i. (a.offerer ∷ filter_map lead (c.as_slice.ensures.value i)) ++ filter_map lead (c.as_slice-2.ensures.value i)) ∙
+    ap (λ (rs : List Railway). a.offerer ∷ rs) (sym (filter_map-append lead a.received a.refused))

@@ -1,0 +1,21 @@
+use Rattle.std.proofs.Common.{◌≡◌, ℕ, List, ◌∷◌, ◌++◌, Option, ap, ◌∙◌, sym, subst}
+use Rattle.std.specs.Prelude.{filter_map}
+use Rattle.taf_codes.specs.declared.code.Railway.{Railway}
+use Rattle.taf_messages.specs.declared.message.TrainAnswer.{TrainAnswer}
+use Rattle.journey.specs.Legs.{lead_of}
+use Rattle.hub_model.specs.HubState.{wagons_in, journey_after}
+use Rattle.hub_model.specs.Items as of
+use Rattle.hub_tables.specs.TableStates.{table_state, continues_journeys}
+use Rattle.hub_items.proofs.AcceptanceLemmas.{same_leads}
+use Rattle.hub_items.proofs.receivers.notice_receivers.Goals as goal
+
+pub returns-in_ok-answer_receivers-in-Answer : goal.returns-in_ok-answer_receivers-in-Answer
+returns-in_ok-answer_receivers-in-Answer c =
+    let s = table_state c.args.tables.now in
+    let m = c.args.message.now in
+    let is = sym c.body.ensures ∙ c.in-Answer.is in
+    let before : ℕ → Option Railway = λ w. lead_of (s.journey w) in
+    let later : ℕ → Option Railway = λ w. lead_of (journey_after s m w) in
+    let same = subst (λ (ws : List ℕ). filter_map before ws ≡ filter_map later ws) (ap (wagons_in s.offer m.by) is) (same_leads s m c.requires.acceptable (ap continues_journeys is)) in
+    c.in_ok-answer_receivers-in-Answer.ensures ∙ ap (λ (a : TrainAnswer). a.offerer ∷ filter_map before (a.received ++ a.refused)) c.get.ensures ∙
+    ap (λ (rs : List Railway). c.in-Answer.answer.offerer ∷ rs) same ∙ sym (ap (of.notice_receivers s (journey_after s m) m.by) is)

@@ -1,0 +1,24 @@
+-- The text of the reply to a message that is accepted.
+use Rattle.std.proofs.Common.{◌≡◌, ℕ, ◌<◌, ◌^◌, ◌++◌, List, Some, codes, decimal, refl, ap, ◌∙◌, append_assoc}
+use Rattle.json.specs.Print.{escape_byte}
+use Rattle.serde_json.specs.Read.{read}
+use Rattle.serde_json.specs.Written.{compact_text}
+use Rattle.taf_messages.specs.declared.reply.Reply.TheVariants.{Accepted}
+use Rattle.json_tokens.proofs.ReadLemmas.{read-compact_text}
+use Rattle.reply_writer.specs.ReplyShapes.{reply_fields, reply_data}
+use Rattle.reply_writer.proofs.ShapeLemmas.{reply_ordered}
+
+-- its parts: the digits of the message's number stand between two texts
+pub accepted_text : (n : ℕ) → compact_text (reply_data (Accepted n)) ≡ codes "{\"no\":" ++ (decimal n ++ codes ",\"reply\":\"accepted\"}")
+unfolding reply_fields escape_byte
+accepted_text n = refl
+
+-- the parts, one behind the other
+pub three_parts : (old a b c first second third : List ℕ) → first ≡ old ++ a → second ≡ first ++ b → third ≡ second ++ c → third ≡ old ++ (a ++ (b ++ c))
+three_parts old a b c first second third e f g =
+    g ∙ ap (λ l. l ++ c) (f ∙ ap (λ l. l ++ b) e) ∙ append_assoc (old ++ a) b c ∙ append_assoc old a (b ++ c)
+
+-- it is read as its fields
+pub accepted_read : (n : ℕ) → n < 2 ^ 64 → read (compact_text (reply_data (Accepted n))) ≡ Some (reply_data (Accepted n))
+unfolding reply_fields
+accepted_read n small = read-compact_text (reply_data (Accepted n)) (reply_ordered 121 (Accepted n)) (small, (tt, tt))
