@@ -30,7 +30,8 @@ impl<'a> Model for Estimates<'a> {
 
     ghost Value = { EstimatesState };
 
-    ghost view = { λ e. state_with_commitment (basis_from e.leg_index (legs_in e.legs) e.anchor) (Some e.commit) };
+    ghost view = { λ e. state_with_commitment
+        (basis_from e.leg_index (legs_in e.legs) e.anchor) (Some e.commit) };
 
     ghost invariant = { λ e. IsWithin (basis_from e.leg_index (legs_in e.legs) e.anchor) };
 }

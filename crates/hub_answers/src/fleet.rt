@@ -26,7 +26,8 @@ pub fn view(alloc: Global, tables: &Tables) -> Result<Vec<Record>, Memory>
 fn record_at(alloc: Global, tables: &Tables, i: usize) -> Result<Record, Memory>
     requires { i < length (table_state tables.now).fleet }
     ensures { let s = table_state tables.now in
-        IfOk result (λ r. (w : WagonNumber) → slice_get s.fleet i ≡ Some w → record_of w (s.journey w) ≡ Some r) }
+        IfOk result (λ r. (w : WagonNumber) → slice_get s.fleet i ≡ Some w
+        → record_of w (s.journey w) ≡ Some r) }
 {
     match tables.at(i) {
         Some((_, wagon)) => wimo::record_with(alloc, wagon.track(), &wagon.estimates()),

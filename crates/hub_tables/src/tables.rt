@@ -31,7 +31,12 @@ impl Model for Tables {
 
     ghost Value = { TableEntries };
 
-    ghost view = { λ t. record { wagons = t.wagons.entries; plans = t.plans.entries; units = t.units.entries; offers = t.offers } };
+    ghost view = { λ t. record {
+      wagons = t.wagons.entries;
+      plans = t.plans.entries;
+      units = t.units.entries;
+      offers = t.offers;
+    } };
 
     ghost invariant = { λ t. AreJourneyEntries t.wagons.entries };
 }

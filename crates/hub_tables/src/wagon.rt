@@ -34,7 +34,8 @@ impl Model for Wagon {
 
     ghost view = { λ w. w.track };
 
-    ghost invariant = { λ w. (w.kept ≡ estimate_anchor w.track.events) × (fits w.track.events ≡ true) };
+    ghost invariant = { λ w.
+        (w.kept ≡ estimate_anchor w.track.events) × (fits w.track.events ≡ true) };
 }
 
 impl Wagon {

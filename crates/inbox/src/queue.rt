@@ -29,7 +29,10 @@ impl Model for Inbox {
 
     ghost Value = { InboxState };
 
-    ghost view = { λ i. record { id = i.queue.table.shared.table_id; capacity = ruled_capacity i.queue } };
+    ghost view = { λ i. record {
+      id = i.queue.table.shared.table_id;
+      capacity = ruled_capacity i.queue;
+    } };
 }
 
 impl Inbox {

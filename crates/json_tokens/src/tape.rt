@@ -164,7 +164,8 @@ impl<'t, 'a> TapeItems<'t, 'a> {
     /// Takes the next item.
     pub fn next(&mut self) -> Option<TapeValue<'t, 'a>>
         ensures { MatchOption result (tape_items self.old.items ≡ no_items)
-            (λ v. tape_items self.old.items ≡ item (tape_data v.element) (tape_items self.new.items)) }
+            (λ v. tape_items self.old.items
+            ≡ item (tape_data v.element) (tape_items self.new.items)) }
     {
         match self.items.next() {
             Some(element) => Some(TapeValue { element }),

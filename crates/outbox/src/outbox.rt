@@ -23,7 +23,10 @@ impl Model for Outbox {
 
     ghost Value = { BoxState };
 
-    ghost view = { λ b. record { kept = record { acknowledged = b.acknowledged; bodies = b.bodies.items }; room = deque_capacity b.bodies - deque_len b.bodies } };
+    ghost view = { λ b. record {
+      kept = record { acknowledged = b.acknowledged; bodies = b.bodies.items };
+      room = deque_capacity b.bodies - deque_len b.bodies;
+    } };
 
     ghost invariant = { λ b. b.acknowledged + deque_len b.bodies ≤ 2 ^ 63 };
 }
@@ -111,7 +114,8 @@ fn numbered_items(
     limit: u64,
 ) -> Result<ItemList, Memory>
     requires { before + length bodies.now.items ≤ 2 ^ 63 }
-    ensures { IfOk result (λ items. items ≡ items_from_number before (take limit bodies.now.items)) }
+    ensures { IfOk result
+        (λ items. items ≡ items_from_number before (take limit bodies.now.items)) }
 {
     let mut items = Vec::with_capacity(alloc, bodies.len().min(limit as usize))?;
     let mut rest = bodies.iter();

@@ -28,7 +28,12 @@ impl Model for Sent {
 
     ghost Value = { SentState };
 
-    ghost view = { λ s. record { first = s.first; row = s.row.items; aside = s.aside.entries; spare = spare s.aside } };
+    ghost view = { λ s. record {
+      first = s.first;
+      row = s.row.items;
+      aside = s.aside.entries;
+      spare = spare s.aside;
+    } };
 }
 
 impl Sent {

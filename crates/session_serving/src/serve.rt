@@ -71,7 +71,8 @@ fn serve_reader<S: Source, K: Sink, P: Port>(
         (exchange_of session.new (K.contents writer.new) buffers.new.out.items (P.sent port.new))
         result }
     ensures fails { FirstFails result (S.failures reader.old) (S.failures reader.new)
-        (K.failures writer.old) (K.failures writer.new) (P.failures port.old) (P.failures port.new) }
+        (K.failures writer.old) (K.failures writer.new)
+        (P.failures port.old) (P.failures port.new) }
     ensures memory { result ≢ Err SessionFault.Memory }
     ensures written { OnOk result (buffers.new.out.items ≡ []) }
     ensures none { OnOk result (session.new.slots ≡ []) }
