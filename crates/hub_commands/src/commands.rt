@@ -1,12 +1,12 @@
 ghost use Rattle.std.specs.Prelude.{◌≡◌};
 ghost use Rattle.hub_faults.specs.Statuses.{status_of};
 
-use crate::task::{Task, task_of};
 use crate::{number, replay, serve};
 use clap::Error;
 use clap::error::ErrorKind;
 use hub_faults::Fault;
-use hub_server::ShiftSize;
+use hub_tasks::{Task, task_of};
+use shift_size::ShiftSize;
 use std::io::{Read, Write};
 use std::net::{Net, OpenListener, OpenStream};
 use std::sync::Wait;

@@ -1,4 +1,4 @@
-//! The commands of the hub: arguments, and what they are to do.
+//! The commands of the hub: what each does.
 //!
 //! | command | does | status |
 //! |---|---|---|
@@ -6,23 +6,21 @@
 //! | `taf_hub serve --port P --sessions N [--workers K]` | serves N railways on connections of their own by K workers, and prints how many calls settled and the report of all wagons | 0; 4 memory was refused; 5 a socket or a thread could not be had; 6 the shift did not settle |
 //! | `taf_hub number TEXT` | prints the vehicle number that TEXT shows in the marked form | 0; 1 TEXT shows none |
 //!
-//! [`arguments`] reads the command line, and [`perform`] does what it names. [`serve_on`] is `serve` on a listener. `--help` prints
-//! clap's help, which ends with an example and the statuses, and `--version` the version, both with status 0. Arguments that name no
-//! command end with status 2 and clap's text among the errors. A [`Fault`] is one line there, by [`report_fault`], which gives its
-//! status. Where the arguments cannot be read, the status is 4 if memory was refused and else 2.
+//! [`arguments`] gives the arguments of the command line, and [`perform`] does what they name, as `hub_tasks` reads them.
+//! [`serve_on`] is `serve` on a listener. `--help` prints clap's help, which ends with an example and the statuses, and `--version`
+//! the version, both with status 0. Arguments that name no command end with status 2 and clap's text among the errors. A [`Fault`]
+//! is one line there, by [`report_fault`], which gives its status. Where the arguments cannot be read, the status is 4 if memory
+//! was refused and else 2.
 #![tactic(auto)]
 
 mod command_line;
 mod commands;
-mod help;
 mod number;
 mod print;
 mod replay;
 mod serve;
-mod task;
 
 pub use command_line::arguments;
 pub use commands::{perform, report_fault, serve_on};
 pub use hub_faults::Fault;
-pub use hub_server::ShiftSize;
-pub use task::{Task, task_of};
+pub use shift_size::ShiftSize;

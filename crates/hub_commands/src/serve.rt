@@ -1,6 +1,7 @@
 use crate::print::print;
 use hub_faults::Fault;
-use hub_server::{ServerFault, SettledShift, ShiftSize, serve_connections};
+use hub_server::{SettledShift, serve_connections};
+use shift_size::ShiftSize;
 use std::alloc::Global;
 use std::io::{Read, Write};
 use std::mem::forget;

@@ -12,7 +12,6 @@
 //!
 //! | part | what it has |
 //! |---|---|
-//! | `size` | how many sessions and workers |
 //! | `fault` | why there is no settled shift |
 //! | `connections` | connections accepted, and their two ends |
 //! | `server` | the shift over them, settled |
@@ -21,8 +20,6 @@
 mod connections;
 mod fault;
 mod server;
-mod size;
 
 pub use fault::ServerFault;
 pub use server::{SettledShift, serve_connections};
-pub use size::ShiftSize;

@@ -1,12 +1,12 @@
 //! A shift over the connections of a listener.
 ghost use Rattle.std.specs.Prelude.{IfOk};
-ghost use Rattle.hub_server.specs.Sizes.{IsSettledShift};
+ghost use Rattle.hub_server.specs.Settled.{IsSettledShift};
 
 use crate::connections::accept_all;
 use crate::fault::ServerFault;
-use crate::size::ShiftSize;
 use hub_shared::settle;
 use hub_shifts::{OpenGate, Shift, run_shift};
+use shift_size::ShiftSize;
 use std::alloc::Global;
 use std::io::{Read, Write};
 use std::net::{OpenListener, OpenStream};

@@ -1,12 +1,8 @@
--- How large a shift may be, and when it is settled.
-use Rattle.std.specs.Prelude.{◌≡◌, ℕ, ◌≤◌, length}
+-- When a shift is settled.
+use Rattle.std.specs.Prelude.{◌≡◌, ℕ, length}
 use Rattle.hub_shared.specs.Settling.{IsTold}
 use Rattle.hub_shifts.specs.declared.shift.Shift.{Shift}
 use Rattle.hub_shifts.specs.Shifts.{IsShift}
-
--- 1 to 64 sessions, 1 to 8 workers
-abbrev pub IsSize : ℕ → ℕ → Type 0
-IsSize sessions workers = (1 ≤ sessions) × (sessions ≤ 64) × (1 ≤ workers) × (workers ≤ 8)
 
 -- a shift whose history is told by its tallies, and has so many calls
 pub record IsSettledShift (sessions workers : ℕ) (s : Shift) (calls : ℕ) : Type 0 where

@@ -1,8 +1,8 @@
 -- What the arguments of the command line name.
 use Rattle.std.specs.Prelude.{◌≤◌}
-use Rattle.hub_server.specs.Sizes.{IsSize}
-use Rattle.hub_commands.specs.declared.task.Task.{Task}
-use Rattle.hub_commands.specs.declared.task.Task.TheVariants.{Replay, Number, Serve}
+use Rattle.shift_size.specs.Sizes.{IsSize}
+use Rattle.hub_tasks.specs.declared.task.Task.{Task}
+use Rattle.hub_tasks.specs.declared.task.Task.TheVariants.{Replay, Number, Serve}
 
 -- a shift has a port from 1 to 65,535, 1 to 64 sessions, and 1 to 8 workers
 abbrev pub IsWithinLimits : Task → Type 0

@@ -1,10 +1,10 @@
 ghost use Rattle.std.specs.Prelude.{IfOk, IfSome};
-ghost use Rattle.hub_commands.specs.Tasks.{IsWithinLimits};
+ghost use Rattle.hub_tasks.specs.Tasks.{IsWithinLimits};
 
 use crate::help;
 use clap::error::ErrorKind;
 use clap::{Arg, ArgAction, ArgMatches, Command, Error, value_parser};
-use hub_server::ShiftSize;
+use shift_size::ShiftSize;
 use std::alloc::{AllocError, Global};
 
 /// What the program is to do.

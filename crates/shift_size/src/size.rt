@@ -1,6 +1,6 @@
 //! How large a shift is.
 ghost use Rattle.std.specs.Prelude.{◌≡◌, ◌≤◌, ◌↔◌, IsSome, IfSome};
-ghost use Rattle.hub_server.specs.Sizes.{IsSize};
+ghost use Rattle.shift_size.specs.Sizes.{IsSize};
 
 /// How many sessions a shift has, 1 to 64, and how many workers, 1 to 8.
 #[derive(Clone, Copy, Debug, PartialEq, Eq)]

@@ -1,0 +1,17 @@
+//! What the program is to do: the arguments of the command line, and the task that they name.
+//!
+//! | arguments | task |
+//! |---|---|
+//! | `replay` | [`Task::Replay`] |
+//! | `number TEXT` | [`Task::Number`] |
+//! | `serve --port P --sessions N [--workers K]` | [`Task::Serve`]: P is 1 to 65,535, N 1 to 64, K 1 to 8, and 2 if left out |
+//!
+//! [`task_of`] reads them, by clap. Arguments that name no task are an error of clap's, which has the text to print: for
+//! `--help` the help, which ends with an example and the statuses, for `--version` the version, and else what is wrong with
+//! them. What a task does is told in the crate of the commands.
+#![tactic(auto)]
+
+mod help;
+mod task;
+
+pub use task::{Task, task_of};
