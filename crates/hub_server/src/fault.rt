@@ -1,11 +1,11 @@
 //! Why there is no settled shift.
 ghost use Rattle.std.specs.Prelude.{◌≡◌};
-ghost use Rattle.hub_server.specs.Faults.{fault_of_shift, fault_of_settling};
+ghost use Rattle.hub_server.specs.Faults.{fault_of_accepting, fault_of_shift, fault_of_settling};
 ghost use Rattle.hub_server.specs.declared.fault.ServerFault.TheVariants as faults;
 
+use connections::AcceptFault;
 use hub_shared::SettleFault;
 use hub_shifts::ShiftFault;
-use taf_codes::Memory;
 use thiserror::Error;
 
 /// Why the connections of a listener came to no settled shift.
@@ -23,11 +23,14 @@ pub enum ServerFault {
     NotSettled,
 }
 
-impl From<Memory> for ServerFault {
-    ghost from_gives = { λ _ fault. fault ≡ faults.Memory };
+impl From<AcceptFault> for ServerFault {
+    ghost from_gives = { λ accepting fault. fault ≡ fault_of_accepting accepting };
 
-    fn from(_refused: Memory) -> ServerFault {
-        ServerFault::Memory
+    fn from(fault: AcceptFault) -> ServerFault {
+        match fault {
+            AcceptFault::Socket => ServerFault::Socket,
+            AcceptFault::Memory => ServerFault::Memory,
+        }
     }
 }
 

@@ -1,6 +1,6 @@
 //! The server: a shift over connections.
 //!
-//! [`serve_connections`] accepts as many connections as the shift has sessions, one after another. Each is a session: its lines
+//! [`serve_connections`] accepts as many connections as the shift has sessions, one after another (`connections`). Each is a session: its lines
 //! come by the connection, and their answers go out by it. All of them are served by one shift, with as many workers as its size
 //! says; then the tallies of the sessions are settled against the hub's history.
 //!
@@ -13,11 +13,9 @@
 //! | part | what it has |
 //! |---|---|
 //! | `fault` | why there is no settled shift |
-//! | `connections` | connections accepted, and their two ends |
 //! | `server` | the shift over them, settled |
 #![tactic(auto)]
 
-mod connections;
 mod fault;
 mod server;
 

@@ -2,8 +2,8 @@
 ghost use Rattle.std.specs.Prelude.{IfOk};
 ghost use Rattle.hub_server.specs.Settled.{IsSettledShift};
 
-use crate::connections::accept_all;
 use crate::fault::ServerFault;
+use connections::accept_all;
 use hub_shared::settle;
 use hub_shifts::{OpenGate, Shift, run_shift};
 use shift_size::ShiftSize;
