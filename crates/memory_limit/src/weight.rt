@@ -32,12 +32,13 @@ const GREATEST_SMALL: usize = 1 << 22;
 // What is set aside to be split, while the small blocks are taken.
 const SET_ASIDE: usize = 4096;
 
-// What is set aside for the budgets, while the large blocks are taken: four of the greatest small blocks, so that it may
-// come to lie in pieces.
-const ROOM: usize = 1 << 24;
+// What is set aside for the budgets, while the large blocks are taken. The allocator keeps up to seven freed blocks of each
+// small size where they lie, some 450 in all, so the room may come to lie in as many pieces and more. One of them is then
+// still of more than 2^18 bytes.
+const ROOM: usize = 1 << 28;
 
 impl MemoryLimit {
-    /// Takes all large blocks, but for room for a budget of up to 2^21 bytes.
+    /// Takes all large blocks, but for room for a budget.
     pub fn new(alloc: Global) -> Result<MemoryLimit, AllocError>
         ensures { IfOk result (λ memory_limit. memory_limit.small ≡ 0) }
     {
@@ -53,7 +54,8 @@ impl MemoryLimit {
         })
     }
 
-    /// Leaves about so many bytes, and no more. Up to 2^21 of them there is room for.
+    /// Leaves about so many bytes in one piece, and no more. Up to 2^18 of them there is room for, however the memory was used
+    /// before, and as a rule up to 2^21.
     pub fn limit_to(&mut self, bytes: usize) -> Result<(), AllocError>
         ensures large { self.new.large ≡ self.old.large }
         ensures none_given_back { self.old.small ≤ self.new.small }
