@@ -10,9 +10,9 @@ use Rattle.inbox.specs.declared.rule.Job.{Job}
 use Rattle.inbox.specs.Rules.{ALL_PARTS}
 use Rattle.inbox.specs.Interleavings.{IsKept}
 use Rattle.inbox.specs.States.{PassState, IsKeptBy}
-use Rattle.hub_workers.specs.Lanes.{LaneState, new_lane, thread_pass, EachAt, of_lane, HandsOut, TakesBack, EachLane}
+use Rattle.session_lanes.specs.Lanes.{LaneState, new_lane, thread_pass, EachAt, of_lane, HandsOut, TakesBack, EachLane}
+use Rattle.session_lanes.proofs.FallLemmas.{of_lane-map}
 use Rattle.hub_shifts.specs.Shifts.{LaneIsKept}
-use Rattle.hub_workers.proofs.FallLemmas.{of_lane-map}
 
 -- what holds of each item, by the lane that it falls to, holds of the items of a lane
 pub of_lane-all : {X : Type 0} (Q : ℕ → X → Type 0) (k lanes i : ℕ) (xs : List X) → ((j : ℕ) (d : X) → j < length xs → Q ((i + j) % lanes) (get_or xs j d)) → All (Q k) (of_lane k lanes i xs)

@@ -8,7 +8,7 @@ use Rattle.inbox.specs.declared.rule.Job.{Job}
 use Rattle.inbox.specs.Interleavings.{IsKept}
 use Rattle.inbox.specs.Sessions.{of_session}
 use Rattle.inbox.proofs.LaneLemmas.{lane}
-use Rattle.hub_workers.specs.Lanes.{EachAt, of_lane}
+use Rattle.session_lanes.specs.Lanes.{EachAt, of_lane}
 use Rattle.hub_shifts.specs.Shifts.{SessionState, WorkerState, IsOfSession, put_lists, IsShift}
 use Rattle.hub_shifts.specs.Laws.{LanesInOrder}
 use Rattle.hub_shifts.proofs.KeptLemmas.{read_map, some_item}

@@ -8,8 +8,8 @@ use Rattle.session_lines.specs.Tallies.{own_dones, IsOwnTally}
 use Rattle.session_lines.proofs.TallyLemmas.{IsOwnTally-run, all_answered}
 use Rattle.session_serving.specs.declared.fault.SessionFault.{SessionFault}
 use Rattle.session_serving.specs.Faults.{sends_all}
-use Rattle.hub_workers.specs.declared.ends.SessionEnd.TheVariants.{Complete}
-use Rattle.hub_workers.specs.Ends.{end_of}
+use Rattle.session_lanes.specs.declared.ends.SessionEnd.TheVariants.{Complete}
+use Rattle.session_lanes.specs.Ends.{end_of}
 use Rattle.hub_shifts.specs.Shifts.{SessionState, IsOfSession}
 use Rattle.hub_shifts.specs.Laws.{TellsOwnJobs}
 

@@ -2,13 +2,13 @@
 use Rattle.std.specs.Prelude.{◌≡◌, ℕ, ◌%◌, ◌<◌, ◌≤◌, List, [], ◌++◌, length, slice_index_or}
 use Rattle.inbox.specs.declared.rule.Job.{Job}
 use Rattle.inbox.specs.Sessions.{of_session}
+use Rattle.session_lanes.specs.declared.ends.SessionEnd.TheVariants.{Complete}
+use Rattle.session_lanes.specs.Lanes.{EachAt}
 use Rattle.hub_shared.specs.Orders.{Interleaves, entries_of}
 use Rattle.hub_shared.specs.Settling.{IsTold}
 use Rattle.session_lines.specs.declared.session.Done.{Done}
 use Rattle.session_lines.specs.Tallies.{IsOwnTally}
-use Rattle.hub_workers.specs.declared.ends.SessionEnd.TheVariants.{Complete}
 use Rattle.hub_shifts.specs.declared.shift.Shift.{Shift}
-use Rattle.hub_workers.specs.Lanes.{EachAt}
 use Rattle.hub_shifts.specs.Shifts.{SessionState, WorkerState, IsShift}
 
 -- The tally of a session has the answers that were Ok of its own jobs, in the order of its lines. Where it ended well, these

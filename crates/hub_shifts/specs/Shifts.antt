@@ -3,12 +3,12 @@ use Rattle.std.specs.Prelude.{◌≡◌, ℕ, ◌+◌, ◌^◌, ◌<◌, List, [
 use Rattle.std.specs.List.{All}
 use Rattle.inbox.specs.declared.rule.Job.{Job}
 use Rattle.inbox.specs.Interleavings.{IsKept}
+use Rattle.session_lanes.specs.declared.ends.SessionEnd.{SessionEnd}
+use Rattle.session_lanes.specs.Lanes.{EachAt, of_lane}
+use Rattle.session_lanes.specs.Ends.{HasEnded}
 use Rattle.hub_shared.specs.Seats.{SeatState, IsRun}
 use Rattle.tallies.specs.Tallies.{TallyState}
-use Rattle.hub_workers.specs.declared.ends.SessionEnd.{SessionEnd}
 use Rattle.hub_shifts.specs.declared.shift.Shift.{Shift}
-use Rattle.hub_workers.specs.Lanes.{EachAt, of_lane}
-use Rattle.hub_workers.specs.Ends.{HasEnded}
 
 -- how a session ended, its tally, and the jobs that it put into its lane
 pub record SessionState : Type 0 where

@@ -1,9 +1,9 @@
 -- What the threads of a shift begin with.
 use Rattle.std.specs.Prelude.{◌≡◌, ℕ, ◌%◌, ◌≤◌, List, length}
+use Rattle.session_lanes.specs.declared.ends.SessionStart.{SessionStart}
+use Rattle.session_lanes.specs.Lanes.{LaneState, IsPassOf, EachAt}
 use Rattle.hub_shared.specs.Seats.{new_seat}
-use Rattle.hub_workers.specs.declared.ends.SessionStart.{SessionStart}
 use Rattle.hub_workers.specs.declared.worker.Worker.{Worker}
-use Rattle.hub_workers.specs.Lanes.{LaneState, IsPassOf, EachAt}
 
 -- There are 1 to 8 lanes, a worker for each, up to 64 sessions, and so many queues of answers. Worker k has a new seat and a
 -- pass of lane k. Session i has its number and a pass of the lane that it falls to.

@@ -25,6 +25,7 @@ mod promises;
 mod shift;
 mod threads;
 
-pub use hub_workers::{Gate, OpenGate, SessionEnd};
+pub use hub_workers::{Gate, OpenGate};
 pub use law::{lanes_in_order, shift_in_order};
+pub use session_lanes::SessionEnd;
 pub use shift::{Shift, ShiftFault, run_shift};

@@ -1,8 +1,10 @@
 //! What the threads of a shift promise: which pass each began with.
-ghost use Rattle.hub_workers.specs.Ends.{IsServed, IsWorked};
+ghost use Rattle.session_lanes.specs.Ends.{IsServed};
+ghost use Rattle.hub_workers.specs.Work.{IsWorked};
 
-use hub_workers::{Served, Worker};
+use hub_workers::Worker;
 use inbox::Pass;
+use session_lanes::Served;
 use std::snapshot::Snapshot;
 use std::sync::ledger::Ledger;
 use std::thread::Promise;

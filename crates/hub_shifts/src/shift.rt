@@ -1,20 +1,19 @@
 //! A whole shift.
 ghost use Rattle.std.specs.Prelude.{◌≡◌, ◌+◌, ◌%◌, ◌≤◌, length, vec_len, slice_index_or, IfOk};
 ghost use Rattle.inbox.specs.States.{new_pass};
+ghost use Rattle.session_lanes.specs.Lanes.{new_lane, EachAt, of_lane, HandsOut};
+ghost use Rattle.session_lanes.specs.Ends.{IsServed};
 ghost use Rattle.hub_shared.specs.Seats.{new_seat};
-ghost use Rattle.hub_workers.specs.Lanes.{new_lane, EachAt, of_lane, HandsOut};
-ghost use Rattle.hub_workers.specs.Ends.{IsServed, IsWorked};
+ghost use Rattle.hub_workers.specs.Work.{IsWorked};
 ghost use Rattle.hub_shifts.specs.Shifts.{IsShift};
 ghost use Rattle.hub_shifts.specs.declared.shift.ShiftFault.TheVariants as faults;
 
 use crate::threads::{Back, ShiftContext, run_threads};
 use hub_core::Hub;
 use hub_shared::{Seat, SharedHub, Tally};
-use hub_workers::{
-    AnswerQueue, Gate, Lane, Opening, Outcomes, Places, SessionEnd, add_refused, close_lanes,
-    make_places, take_sessions, take_workers,
-};
+use hub_workers::{Gate, Places, add_refused, make_places, take_workers};
 use inbox::Left;
+use session_lanes::{AnswerQueue, Lane, Opening, Outcomes, SessionEnd, close_lanes, take_sessions};
 use std::alloc::Global;
 use std::marker::Brand;
 use std::sync::Wait;

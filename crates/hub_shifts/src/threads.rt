@@ -1,17 +1,16 @@
 //! The threads of a shift.
 ghost use Rattle.std.specs.Prelude.{◌≡◌, ◌≤◌, [], length, vec_len, vec_capacity, IfOk};
+ghost use Rattle.session_lanes.specs.Lanes.{EachPair};
+ghost use Rattle.session_lanes.specs.Ends.{IsServed};
 ghost use Rattle.hub_shared.specs.Seats.{new_seat};
-ghost use Rattle.hub_workers.specs.Lanes.{EachPair};
-ghost use Rattle.hub_workers.specs.Ends.{IsServed, IsWorked};
+ghost use Rattle.hub_workers.specs.Work.{IsWorked};
 ghost use Rattle.hub_shifts.specs.Starts.{CanBegin};
 
 use crate::promises::{ServedBy, WorkedBy};
 use crate::shift::ShiftFault;
 use hub_shared::SharedHub;
-use hub_workers::{
-    AnswerQueue, Gate, Lane, Opening, Served, SessionContext, SessionStart, Worker, WorkerContext,
-    serve, work,
-};
+use hub_workers::{Gate, Worker, WorkerContext, work};
+use session_lanes::{AnswerQueue, Lane, Opening, Served, SessionContext, SessionStart, serve};
 use std::alloc::Global;
 use std::snapshot::Snapshot;
 use std::sync::Wait;

@@ -1,3 +1,1 @@
-pub mod FallLemmas
 pub mod PlaceLemmas
-pub mod SessionLemmas

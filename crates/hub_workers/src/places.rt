@@ -1,12 +1,11 @@
 //! What the threads of sessions and workers begin with: everything is handed out before the first one starts.
 ghost use Rattle.std.specs.Prelude.{◌≡◌, ◌+◌, ◌%◌, ◌≤◌, length, vec_len, IfOk};
+ghost use Rattle.session_lanes.specs.Lanes.{new_lane, IsPassOf, EachAt, of_lane, HandsOut, EachLane};
 ghost use Rattle.hub_shared.specs.Seats.{new_seat};
-ghost use Rattle.hub_workers.specs.Lanes.{new_lane, IsPassOf, EachAt, of_lane, HandsOut};
 
-use crate::ends::SessionStart;
-use crate::lane::{Lane, make_lanes, start_sessions, start_workers};
 use crate::worker::Worker;
-use hub_shared::Seat;
+use hub_shared::{Seat, split_seat};
+use session_lanes::{Lane, SessionStart, make_lanes, start_sessions};
 use std::alloc::Global;
 use std::sync::Wait;
 use std::sync::ledger::Ledger;
@@ -53,4 +52,29 @@ pub fn make_places<L: Ledger, S: Drop, K: Drop>(
         sessions,
         workers,
     })
+}
+
+// Gives each worker a pass of its lane and a seat.
+fn start_workers<L: Ledger>(
+    rt: &impl Wait,
+    alloc: Global,
+    lanes: &mut [Lane],
+    seat: &mut Seat<L>,
+) -> Result<Vec<Worker<L>>, Memory>
+    requires lanes { EachAt (λ k l. 1000 ≤ l.pass.parts) lanes.old }
+    requires seat { seat.old ≡ new_seat (length lanes.old + 1) }
+    ensures count { IfOk result (λ v. vec_len v ≡ length lanes.old) }
+    ensures workers { IfOk result (λ v. EachAt (λ k w. (w.seat ≡ new_seat 1)
+        × IsPassOf lanes.old k w.pass) v.items) }
+    ensures lanes { IfOk result (λ v. EachLane (λ k before after. HandsOut before after 1)
+        lanes.old lanes.new) }
+    ensures seat { IfOk result (λ v. seat.new ≡ new_seat 1) }
+{
+    let mut workers = Vec::new(alloc);
+    for lane in lanes.iter_mut() {
+        let pass = lane.hand_out(rt);
+        let seat = split_seat(seat);
+        workers.push(Worker { pass, seat }).map_err(|_| Memory)?;
+    }
+    Ok(workers)
 }

@@ -2,9 +2,9 @@
 ghost use Rattle.std.specs.Prelude.{◌≡◌, ◌+◌, ◌<◌, ◌^◌, length};
 
 use crate::gate::Gate;
-use crate::queues::{AnswerQueue, JobQueue};
 use hub_shared::{Seat, SharedHub};
 use inbox::{Job, Pass};
+use session_lanes::{AnswerQueue, JobQueue};
 use session_lines::Done;
 use std::sync::Wait;
 use std::sync::ledger::Ledger;

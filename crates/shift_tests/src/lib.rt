@@ -1,4 +1,4 @@
-//! Tests of `hub_shifts` and `hub_workers`: whole shifts over memory. There is nothing else here.
+//! Tests of `hub_shifts`, `hub_workers` and `session_lanes`: whole shifts over memory. There is nothing else here.
 //!
 //! Two sessions meet at the hub while their jobs are held until both are there; the lines of a session stay in their order,
 //! and no job of it overtakes another; a writer that fails ends its own session alone; many sessions with many calls

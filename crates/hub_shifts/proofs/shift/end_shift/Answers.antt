@@ -7,14 +7,15 @@ use mathlib.Core.List.{map-map}
 use Rattle.inbox.specs.declared.rule.Job.{Job}
 use Rattle.inbox.specs.Rules.{ALL_PARTS}
 use Rattle.inbox.specs.States.{PassState, new_pass, IsKeptBy}
+use Rattle.session_lanes.specs.declared.ends.Served.{Served}
+use Rattle.session_lanes.specs.Lanes.{LaneState, new_lane, thread_pass, EachAt, EachLane, EachPair, of_lane, HandsOut, TakesBack, no_inbox}
+use Rattle.session_lanes.specs.Ends.{IsServed}
+use Rattle.session_lanes.specs.declared.ends.SessionEnd.{SessionEnd}
+use Rattle.session_lanes.proofs.FallLemmas.{of_lane-alike}
 use Rattle.hub_shared.specs.Seats.{SeatState}
-use Rattle.hub_workers.specs.declared.ends.Served.{Served}
 use Rattle.hub_workers.specs.declared.worker.Worker.{Worker}
-use Rattle.hub_workers.specs.Lanes.{LaneState, new_lane, thread_pass, EachAt, EachLane, EachPair, of_lane, HandsOut, TakesBack, no_inbox}
-use Rattle.hub_workers.specs.Ends.{IsServed, IsWorked}
-use Rattle.hub_workers.specs.declared.ends.SessionEnd.{SessionEnd}
+use Rattle.hub_workers.specs.Work.{IsWorked}
 use Rattle.hub_shifts.specs.Shifts.{SessionState, WorkerState, IsOfSession, MakesCalls, put_lists, IsShift, LaneIsKept}
-use Rattle.hub_workers.proofs.FallLemmas.{of_lane-alike}
 use Rattle.hub_workers.proofs.PlaceLemmas.{whole_slice}
 use Rattle.hub_shifts.proofs.KeptLemmas.{EachAt-map, read_map, ones, some_item, Came, all_came, came_own, came_parts, came_kept}
 use Rattle.hub_shifts.proofs.shift.end_shift.Goals as goal

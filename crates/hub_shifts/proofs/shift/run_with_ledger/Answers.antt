@@ -1,12 +1,13 @@
 use Rattle.std.proofs.Common.{rules, arith, ap, sym, subst, ◌∙◌, ◌≡◌, ◌+◌, ◌%◌, List, length, get_or}
 use Rattle.inbox.specs.States.{PassState, new_pass}
-use Rattle.hub_workers.specs.declared.ends.SessionStart.{SessionStart}
-use Rattle.hub_workers.specs.declared.ends.Served.{Served}
+use Rattle.session_lanes.specs.declared.ends.SessionStart.{SessionStart}
+use Rattle.session_lanes.specs.declared.ends.Served.{Served}
+use Rattle.session_lanes.specs.Lanes.{LaneState, new_lane, of_lane, HandsOut}
+use Rattle.session_lanes.specs.Ends.{IsServed}
+use Rattle.session_lanes.proofs.FallLemmas.{of_lane-alike}
 use Rattle.hub_workers.specs.declared.worker.Worker.{Worker}
-use Rattle.hub_workers.specs.Lanes.{LaneState, new_lane, of_lane, HandsOut}
-use Rattle.hub_workers.specs.Ends.{IsServed, IsWorked}
+use Rattle.hub_workers.specs.Work.{IsWorked}
 use Rattle.hub_shifts.specs.Starts.{CanBegin}
-use Rattle.hub_workers.proofs.FallLemmas.{of_lane-alike}
 use Rattle.hub_shifts.proofs.ThreadLemmas.{each_given}
 use Rattle.hub_shifts.proofs.shift.run_with_ledger.Goals as goal
 

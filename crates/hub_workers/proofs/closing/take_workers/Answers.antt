@@ -5,9 +5,9 @@ use Rattle.std.proofs.lemmas.Iterator.Adapters.{YieldsList-from_vec}
 use mathlib.Core.Logic.{dite}
 use native.Mathlib.Decide.{ℕ_discrete}
 use Rattle.inbox.specs.States.{PassState}
+use Rattle.session_lanes.specs.Lanes.{LaneState, TakesBack}
 use Rattle.hub_shared.specs.Seats.{SeatState}
 use Rattle.hub_workers.specs.declared.worker.Worker.{Worker}
-use Rattle.hub_workers.specs.Lanes.{LaneState, TakesBack}
 use Rattle.hub_workers.proofs.closing.take_workers.Goals as goal
 
 -- one worker more gave its pass back

@@ -1,8 +1,0 @@
-use Rattle.std.proofs.Common.{[], ◌∷◌, ◌++◌}
-use Rattle.inbox.specs.States.{IsKeptBy}
-use Rattle.hub_workers.specs.Lanes.{EachPair}
-use Rattle.hub_workers.proofs.closing.close_lanes.Given as goal
-
--- the lanes so far are closed
-abbrev pub invariant-loop-lane : goal.invariant-loop-lane
-invariant-loop-lane g l = EachPair (λ k lane left. IsKeptBy (lane.back ++ lane.pass ∷ []) left) l.yielded l.all.items

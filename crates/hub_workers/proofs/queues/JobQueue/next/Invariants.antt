@@ -1,6 +1,0 @@
-use Rattle.std.proofs.Common.{◌≡◌}
-use Rattle.hub_workers.proofs.queues.JobQueue.next.Given as goal
-
--- nothing was taken so far
-abbrev pub invariant-loop : goal.invariant-loop
-invariant-loop g l = l.pass ≡ l.fn.pass

@@ -1,0 +1,2 @@
+pub mod FallLemmas
+pub mod SessionLemmas

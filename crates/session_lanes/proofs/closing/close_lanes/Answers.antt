@@ -1,0 +1,36 @@
+use Rattle.std.proofs.Common.{rules, arith, ap, sym, refl, subst, ◌∙◌, ◌≡◌, ℕ, ◌+◌, ◌<◌, ◌≤◌, List, [], ◌∷◌, ◌++◌, length, map, get_or, sum_by}
+use Rattle.std.specs.List.{All}
+use Rattle.std.proofs.lemmas.List.{map-id}
+use Rattle.std.proofs.lemmas.Iterator.Consumers.{YieldsList-turn, YieldsList-end}
+use Rattle.std.proofs.lemmas.Iterator.Adapters.{YieldsList-from_vec}
+use Rattle.inbox.specs.declared.rule.Job.{Job}
+use Rattle.inbox.specs.Rules.{ALL_PARTS}
+use Rattle.inbox.specs.States.{PassState, IsKeptBy}
+use Rattle.session_lanes.specs.Lanes.{LaneState, EachPair}
+use Rattle.session_lanes.proofs.FallLemmas.{EachPair-push}
+use Rattle.session_lanes.proofs.closing.close_lanes.Goals as goal
+
+abbrev Closes : ℕ → LaneState → List Job → Type 0
+Closes k l left = IsKeptBy (l.back ++ l.pass ∷ []) left
+
+pub close-requires : goal.close-requires
+close-requires g c =
+    let n = length c.loop-lane.yielded in
+    let turn = YieldsList-turn (YieldsList-from_vec c.args.lanes.items (search rules) (search rules)) c.loop-lane.yielded c.loop-lane.lane-iterator c.loop-lane.yielded_by c.next.result c.next.new.self c.in-Some.lane c.in-Some.is c.next.ensures.steps in
+    record {
+      own = subst (λ (l : LaneState). All (λ (p : PassState). p.inbox ≡ l.id) l.back) (sym turn.1) (c.requires.own n c.in-Some.lane turn.0);
+      parts = subst (λ (l : LaneState). sum_by (λ (p : PassState). p.parts) l.back + l.pass.parts ≡ ALL_PARTS) (sym turn.1) (c.requires.parts n c.in-Some.lane turn.0);
+    }
+
+pub loop-lane-preserved : goal.loop-lane-preserved
+loop-lane-preserved g c =
+    let lane = c.in-Some.lane in
+    let left = c.in_ok-left.left in
+    let grown : c.push.new.self.items ≡ c.loop-lane.all.items ++ left ∷ [] = search rules in
+    let closed : Closes (length c.loop-lane.yielded) lane left = search rules in
+    subst (EachPair Closes (c.loop-lane.yielded ++ lane ∷ [])) (sym grown) (EachPair-push Closes c.loop-lane.yielded c.loop-lane.all.items lane left c.loop-lane.invariant closed)
+
+pub returns : goal.returns
+returns g c =
+    let all : c.loop-lane.yielded ≡ c.args.lanes.items = sym (map-id c.loop-lane.yielded) ∙ (YieldsList-end (YieldsList-from_vec c.args.lanes.items (search rules) (search rules)) c.loop-lane.yielded c.loop-lane.lane-iterator c.loop-lane.yielded_by c.next.result c.next.new.self c.in-None.is c.next.ensures.steps).0 in
+    subst (λ l. EachPair Closes l c.loop-lane.all.items) all c.loop-lane.invariant

@@ -1,0 +1,8 @@
+use Rattle.std.proofs.Common.{[], ◌∷◌, ◌++◌}
+use Rattle.inbox.specs.States.{IsKeptBy}
+use Rattle.session_lanes.specs.Lanes.{EachPair}
+use Rattle.session_lanes.proofs.closing.close_lanes.Given as goal
+
+-- the lanes so far are closed
+abbrev pub invariant-loop-lane : goal.invariant-loop-lane
+invariant-loop-lane g l = EachPair (λ k lane left. IsKeptBy (lane.back ++ lane.pass ∷ []) left) l.yielded l.all.items

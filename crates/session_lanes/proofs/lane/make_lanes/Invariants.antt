@@ -1,0 +1,7 @@
+use Rattle.std.proofs.Common.{◌≡◌, vec_len}
+use Rattle.session_lanes.specs.Lanes.{new_lane, EachAt}
+use Rattle.session_lanes.proofs.lane.make_lanes.Given as goal
+
+-- so many new lanes were made
+abbrev pub invariant-loop-lane : goal.invariant-loop-lane
+invariant-loop-lane g l = (vec_len l.lanes ≡ l.lane) × EachAt (λ k r. r ≡ new_lane r.id) l.lanes.items

@@ -1,0 +1,6 @@
+use Rattle.std.proofs.Common.{◌≡◌}
+use Rattle.session_lanes.proofs.queues.JobQueue.next.Given as goal
+
+-- nothing was taken so far
+abbrev pub invariant-loop : goal.invariant-loop
+invariant-loop g l = l.pass ≡ l.fn.pass

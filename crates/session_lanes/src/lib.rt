@@ -1,0 +1,40 @@
+//! Sessions and lanes: what the thread of a session does, and the queues by which its jobs reach a worker.
+//!
+//! A lane has an inbox of jobs for one worker. [`serve`] is what the thread of a session does: it puts the session's jobs
+//! into a lane, by a pass of its own, and takes their answers from a queue of its own. A session puts into one lane alone, so
+//! a worker finds its jobs in the order of its lines. Nothing here depends on the hub: whoever has a lane's taking pass makes
+//! the calls.
+//!
+//! [`make_lanes`] makes the lanes, and [`start_sessions`] hands out to the sessions what they begin with. [`take_sessions`]
+//! and [`close_lanes`] take it back.
+//!
+//! # What is promised
+//!
+//! `specs/Ends.antt` says what the thread of a session gives back: how the session ended, by the lines that it read, the jobs
+//! that it gave out and what was put of them, with its tally. `specs/Lanes.antt` says which sessions fall to a lane, and what
+//! it handed out and took back.
+//!
+//! No contract says that a thread that waits is woken, nor what an [`AnswerQueue`] or an [`Opening`] holds. No thread spins:
+//! a worker whose lane is empty and a session that waits for an answer sleep until they are woken.
+//!
+//! | part | what it has |
+//! |---|---|
+//! | `queues` | the queues between sessions and workers, and the signal to begin |
+//! | `port` | a session's way to its worker |
+//! | `ends` | what the thread of a session begins with and gives back |
+//! | `session` | what the thread of a session is lent, and what it does |
+//! | `lane`, `closing` | lanes: how passes are handed out and taken back, and how lanes are closed |
+#![tactic(auto)]
+
+mod closing;
+mod ends;
+mod lane;
+mod port;
+mod queues;
+mod session;
+
+pub use closing::{Outcomes, close_lanes, take_sessions};
+pub use ends::{Served, SessionEnd, SessionStart};
+pub use lane::{Lane, make_lanes, start_sessions};
+pub use queues::{AnswerQueue, JobQueue, Opening};
+pub use session::{SessionContext, serve};
