@@ -1,4 +1,5 @@
 use Rattle.std.proofs.Common.{◌+◌, ◌-◌, ◌≤◌, ◌++◌, [], ℕ, List, arith, refl, sym, ◌∙◌, drop, take, length, subst, length-drop}
+use Rattle.std.proofs.lemmas.Grind.{common_steps}
 use Rattle.std.proofs.lemmas.List.{drop-drop, take_all}
 use Rattle.hub_replay.specs.declared.batch.Batch.{Batch}
 use Rattle.hub_replay.specs.Lines.{IsTaken}
@@ -61,3 +62,46 @@ batches-preserved g c =
       blames ∙ i.5,
       (hs, subst (λ r. IsTaken (drop c.args.part.start chunk) hs r) (drop-drop c.batches.batch.end c.batches.from chunk) t, Advances-append i.6.2 advances),
     )
+
+-- The check would find each of these too, but only after long searches.
+pub batches-smaller : goal.batches-smaller
+batches-smaller g c = grind (arith, common_steps)
+
+pub answer_and_parse_next-answered-requires-clause-few : goal.answer_and_parse_next-answered-requires-clause-few
+answer_and_parse_next-answered-requires-clause-few g c = grind (arith, common_steps)
+
+pub answer_and_parse_next-answered-requires-clause-some : goal.answer_and_parse_next-answered-requires-clause-some
+answer_and_parse_next-answered-requires-clause-some g c = grind (arith, common_steps)
+
+pub longer-size-requires : goal.longer-size-requires
+longer-size-requires g c = grind (arith, common_steps)
+
+pub overflow_add-next : goal.overflow_add-next
+overflow_add-next g c = grind (arith, common_steps)
+
+pub overflow_sub-scanned : goal.overflow_sub-scanned
+overflow_sub-scanned g c = grind (arith, common_steps)
+
+pub parse-requires-clause-scanned : goal.parse-requires-clause-scanned
+parse-requires-clause-scanned g c = grind (arith, common_steps)
+
+pub parse-requires-clause-some : goal.parse-requires-clause-some
+parse-requires-clause-some g c = grind (arith, common_steps)
+
+pub slice_bounds-answer_and_parse_next-end : goal.slice_bounds-answer_and_parse_next-end
+slice_bounds-answer_and_parse_next-end g c = grind (arith, common_steps)
+
+pub slice_bounds-answer_and_parse_next-start : goal.slice_bounds-answer_and_parse_next-start
+slice_bounds-answer_and_parse_next-start g c = grind (arith, common_steps)
+
+pub slice_bounds-parse-start : goal.slice_bounds-parse-start
+slice_bounds-parse-start g c = grind (arith, common_steps)
+
+pub slice_bounds-parse-end : goal.slice_bounds-parse-end
+slice_bounds-parse-end g c = grind (arith, common_steps)
+
+pub slice_bounds-parse-count : goal.slice_bounds-parse-count
+slice_bounds-parse-count g c = grind (arith, common_steps)
+
+pub slice_bounds-answer_and_parse_next-count : goal.slice_bounds-answer_and_parse_next-count
+slice_bounds-answer_and_parse_next-count g c = grind (arith, common_steps)

@@ -1,4 +1,5 @@
 use Rattle.std.proofs.Common.{◌≡◌, ◌+◌, ◌≤◌, ◌++◌, [], ap, sym, ◌∙◌, refl, arith, append-nil, take, length, length-append, List, ℕ}
+use Rattle.std.proofs.lemmas.Grind.{common_steps}
 use Rattle.std.specs.List.{slice_range}
 use Rattle.hub_replay.specs.Lines.{parsed_lines}
 use Rattle.hub_replay.specs.Running.{line_total}
@@ -142,3 +143,49 @@ chunks-preserved g c =
       f.blames ∙ c.in_default-flush.ensures.blames ∙ i.5,
       (r.0 ++ new, r.1 ++ f.ok.0, length-append r.0 new ∙ omega (arith, size, r.2), Consumes-append _ _ _ r.0 new r.3 p.bytes, rw moved cut, Advances-append advances f.ok.2),
     )
+
+-- The check would find each of these too, but only after long searches.
+pub slice_bounds-finish-end : goal.slice_bounds-finish-end
+slice_bounds-finish-end g c = grind (arith, common_steps)
+
+pub slice_bounds-chunk-end : goal.slice_bounds-chunk-end
+slice_bounds-chunk-end g c = grind (arith, common_steps)
+
+pub slice_bounds-chunk-end-in-chunks : goal.slice_bounds-chunk-end-in-chunks
+slice_bounds-chunk-end-in-chunks g c = grind (arith, common_steps)
+
+pub overflow_sub-kept_len : goal.overflow_sub-kept_len
+overflow_sub-kept_len g c = grind (arith, common_steps)
+
+pub move_to_front-requires : goal.move_to_front-requires
+move_to_front-requires g c = grind (arith, common_steps)
+
+pub chunks-smaller : goal.chunks-smaller
+chunks-smaller g c = grind (arith, common_steps)
+
+pub answer_chunk-requires-clause-few : goal.answer_chunk-requires-clause-few
+answer_chunk-requires-clause-few g c = grind (arith, common_steps)
+
+pub finish-requires-clause-few : goal.finish-requires-clause-few
+finish-requires-clause-few g c = grind (arith, common_steps)
+
+pub overflow_add-end : goal.overflow_add-end
+overflow_add-end g c = grind (arith, common_steps)
+
+pub overflow_add-total : goal.overflow_add-total
+overflow_add-total g c = grind (arith, common_steps)
+
+pub overflow_sub-total : goal.overflow_sub-total
+overflow_sub-total g c = grind (arith, common_steps)
+
+pub read_chunk-requires-clause-some : goal.read_chunk-requires-clause-some
+read_chunk-requires-clause-some g c = grind (arith, common_steps)
+
+pub read_chunk-requires-clause-space : goal.read_chunk-requires-clause-space
+read_chunk-requires-clause-space g c = grind (arith, common_steps)
+
+pub answer_chunk-requires-clause-scanned : goal.answer_chunk-requires-clause-scanned
+answer_chunk-requires-clause-scanned g c = grind (arith, common_steps)
+
+pub finish-requires-clause-whole : goal.finish-requires-clause-whole
+finish-requires-clause-whole g c = grind (arith, common_steps)
