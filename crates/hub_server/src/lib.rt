@@ -1,8 +1,8 @@
 //! The server: a shift over connections.
 //!
-//! [`serve_connections`] accepts as many connections as the shift has sessions, one after another (`connections`). Each is a session: its lines
-//! come by the connection, and their answers go out by it. All of them are served by one shift, with as many workers as its size
-//! says; then the tallies of the sessions are settled against the hub's history.
+//! [`serve_connections`] has as many connections accepted as the shift has sessions, one after another (`connections`). Each is
+//! a session: its lines come by the connection, and their answers go out by it. All of them are served by one shift, with as many
+//! workers as its size says; then the tallies of the sessions are settled against the hub's history.
 //!
 //! # What is promised
 //!
@@ -20,4 +20,5 @@ mod fault;
 mod server;
 
 pub use fault::ServerFault;
-pub use server::{SettledShift, serve_connections};
+pub use hub_shifts::SettledShift;
+pub use server::serve_connections;

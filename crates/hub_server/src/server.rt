@@ -4,21 +4,13 @@ ghost use Rattle.hub_server.specs.Settled.{IsSettledShift};
 
 use crate::fault::ServerFault;
 use connections::accept_all;
-use hub_shared::settle;
-use hub_shifts::{OpenGate, Shift, run_shift};
+use hub_shifts::{OpenGate, SettledShift, run_shift, settle_shift};
 use shift_size::ShiftSize;
 use std::alloc::Global;
 use std::io::{Read, Write};
 use std::net::{OpenListener, OpenStream};
 use std::sync::Wait;
 use std::thread::Threads;
-
-/// A shift whose history is told by its tallies, and how many calls it has.
-#[derive(Drop)]
-pub struct SettledShift {
-    pub shift: Shift,
-    pub calls: u64,
-}
 
 /// Accepts as many connections as the shift has sessions, serves them all, and settles.
 ///
@@ -37,9 +29,6 @@ where
 {
     let connections = accept_all(rt, alloc, listener, size.sessions())?;
     let shift = run_shift(rt, alloc, &OpenGate, connections, size.workers())?;
-    let settled = settle(alloc, &shift.hub, shift.tallies.as_slice())?;
-    Ok(SettledShift {
-        shift,
-        calls: settled.calls,
-    })
+    let settled = settle_shift(alloc, shift)?;
+    Ok(settled)
 }

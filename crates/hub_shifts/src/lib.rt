@@ -8,8 +8,9 @@
 //!
 //! `specs/Shifts.antt` says what a shift leaves. Its hub is one that a single thread could have made, and its sum is the
 //! length of that hub's history. It has a tally for each session, in their order, which is the session's own; how each
-//! session ended; and what each lane still held. [`shift_in_order`] says what follows once the tallies settle against the
-//! history, and [`lanes_in_order`] what was taken of a session's jobs and what was left.
+//! session ended; and what each lane still held. [`settle_shift`] compares the tallies with the history.
+//! [`shift_in_order`] says what follows once they settle, and [`lanes_in_order`] what was taken of a session's jobs and what
+//! was left.
 //!
 //! No contract says that a call returns, or that two workers run at once.
 //!
@@ -17,15 +18,18 @@
 //! |---|---|
 //! | `promises` | what the threads promise |
 //! | `threads`, `shift` | the threads of a shift, and the shift |
+//! | `settled` | a shift whose tallies tell its history |
 //! | `law` | what follows of a shift |
 #![tactic(auto)]
 
 mod law;
 mod promises;
+mod settled;
 mod shift;
 mod threads;
 
 pub use hub_workers::{Gate, OpenGate};
 pub use law::{lanes_in_order, shift_in_order};
 pub use session_lanes::SessionEnd;
+pub use settled::{SettledShift, settle_shift};
 pub use shift::{Shift, ShiftFault, run_shift};
