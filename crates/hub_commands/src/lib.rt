@@ -3,8 +3,8 @@
 //! | command | does | status |
 //! |---|---|---|
 //! | `taf_hub replay` | answers the lines of the input on the output, on a new hub, and prints the report of all wagons | 0; 3 reading or writing failed, or no end came; 4 memory was refused |
-//! | `taf_hub serve --port P --sessions N [--workers K]` | serves N railways on connections of their own by K workers, and prints how many calls settled and the report of all wagons | 0; 4 memory was refused; 5 a socket or a thread could not be had; 6 the shift did not settle |
-//! | `taf_hub number TEXT` | prints the vehicle number that TEXT shows in the marked form | 0; 1 TEXT shows none |
+//! | `taf_hub serve --port P --sessions N [--workers K]` | serves N railways on connections of their own by K workers, and prints how many calls settled and the report of all wagons | 0; 3 writing failed; 4 memory was refused; 5 a socket or a thread could not be had; 6 the shift did not settle |
+//! | `taf_hub number TEXT` | prints the vehicle number that TEXT shows in the marked form | 0; 1 TEXT shows none; 3 writing failed; 4 memory was refused |
 //!
 //! [`arguments`] gives the arguments of the command line, and [`perform`] does what they name, as `hub_tasks` reads them.
 //! [`serve_on`] is `serve` on a listener. `--help` prints clap's help, which ends with an example and the statuses, and `--version`

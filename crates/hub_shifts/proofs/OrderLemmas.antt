@@ -1,15 +1,14 @@
 -- The jobs of a session in its lane.
-use Rattle.std.proofs.Common.{◌≡◌, ◌≢◌, ℕ, suc, zero, ◌+◌, ◌%◌, ◌<◌, ◌≤◌, eqb, eq-eqb, ne_eqb, cond, Bool, true, false, List, [], ◌∷◌, ◌++◌, length, map, get_or, filter, refl, sym, ap, ◌∙◌, subst, arith}
+use Rattle.std.proofs.Common.{◌≡◌, ◌≢◌, ℕ, suc, zero, ◌+◌, ◌%◌, ◌<◌, eqb, eq-eqb, ne_eqb, cond, false, List, [], ◌∷◌, ◌++◌, length, map, get_or, refl, sym, ap, ◌∙◌, subst, arith}
 use Rattle.std.specs.List.{All}
 use Rattle.std.proofs.lemmas.List.Elements.{All-head, All-tail}
 use mathlib.Core.Logic.{dite}
 use native.Mathlib.Decide.{ℕ_discrete}
 use Rattle.inbox.specs.declared.rule.Job.{Job}
-use Rattle.inbox.specs.Interleavings.{IsKept}
 use Rattle.inbox.specs.Sessions.{of_session}
 use Rattle.inbox.proofs.LaneLemmas.{lane}
 use Rattle.session_lanes.specs.Lanes.{EachAt, of_lane}
-use Rattle.hub_shifts.specs.Shifts.{SessionState, WorkerState, IsOfSession, put_lists, IsShift}
+use Rattle.hub_shifts.specs.Shifts.{SessionState, IsOfSession, put_lists}
 use Rattle.hub_shifts.specs.Laws.{LanesInOrder}
 use Rattle.hub_shifts.proofs.KeptLemmas.{read_map, some_item}
 use Rattle.std.proofs.lemmas.List.{length-map}
@@ -122,7 +121,7 @@ of_puts xs each j d low =
     subst (λ l. Of (0 + j) l) (sym (read_map put_of xs j x d inside)) (subst (λ n. Of n (get_or xs j x).put) z (each j x inside).own_jobs)
 
 pub lanes_in_order : LanesInOrder
-lanes_in_order sessions workers s shift some i x low d =
+lanes_in_order streams workers s shift some i x low d =
     let k = i % workers in
     let served = shift.served in
     let puts = put_lists served in

@@ -1,9 +1,9 @@
 -- What the tally of a session tells.
-use Rattle.std.proofs.Common.{◌≡◌, ℕ, ◌+◌, Bool, true, false, List, [], ◌++◌, length, Result, Ok, Err, is_ok, refl, sym, ap, ◌∙◌, subst, rules, tests, arith, append-nil}
+use Rattle.std.proofs.Common.{◌≡◌, ℕ, Bool, true, false, List, [], ◌++◌, length, Result, Ok, Err, is_ok, refl, sym, ap, ◌∙◌, subst, rules, tests, arith, append-nil}
 use Rattle.inbox.specs.declared.rule.Job.{Job}
 use Rattle.session_lines.specs.declared.session.Done.{Done}
 use Rattle.session_lines.specs.States.{State, new_state, jobs_out}
-use Rattle.session_lines.specs.Runs.{Run, Event, new_run, run}
+use Rattle.session_lines.specs.Runs.{Run, new_run, run}
 use Rattle.session_lines.specs.Tallies.{own_dones, IsOwnTally}
 use Rattle.session_lines.proofs.TallyLemmas.{IsOwnTally-run, all_answered}
 use Rattle.session_serving.specs.declared.fault.SessionFault.{SessionFault}
@@ -28,26 +28,33 @@ was_whole (Err fault) has_failed e = absurd (search (tests, rules, e))
 pub tells_own : (number : ℕ) (s : SessionState) → IsOfSession number s → TellsOwnJobs number s
 tells_own number s is =
     let h = is.ended in
-    let events = h.advances.events in
+    let jobs_given = h.serves.jobs in
+    let events = h.serves.advances.events in
     let dones : List Done = own_dones (new_run (new_state number)) events in
     let r : Run = run (new_run (new_state number)) events in
-    let jobs : r.jobs ≡ h.jobs = h.advances.jobs_is in
-    let state : r.state ≡ h.state = h.advances.state_is in
+    let jobs : r.jobs ≡ jobs_given = h.serves.advances.jobs_is in
+    let state : r.state ≡ h.state = h.serves.advances.state_is in
     let tally : r.state.tally ≡ s.tally.entries = ap (λ (x : State). x.tally) state ∙ h.told_is in
     record {
-      jobs = h.jobs;
+      served = h.served;
+      state = h.state;
+      left = h.left;
       dones = dones;
-      own = subst (λ t. IsOwnTally number h.jobs dones t) tally (subst (λ j. IsOwnTally number j dones r.state.tally) jobs (IsOwnTally-run number events));
+      serves = h.serves;
+      own = subst (λ t. IsOwnTally number jobs_given dones t) tally (subst (λ j. IsOwnTally number j dones r.state.tally) jobs (IsOwnTally-run number events));
       complete = λ e.
           let w = was_whole h.served h.state.has_failed (sym h.end_is ∙ e) in
           let sound : r.state.has_failed ≡ false = ap (λ (x : State). x.has_failed) state ∙ w.sound in
           let slots : r.state.slots ≡ [] = ap (λ (x : State). x.slots) state ∙ h.none_taken w.ok in
-          let parts : s.put ++ h.sends.lost ≡ h.jobs = h.sends.parts in
-          let none : h.sends.lost ≡ [] = h.sends.none w.sent in (
+          let parts : s.put ++ h.serves.sends.lost ≡ jobs_given = h.serves.sends.parts in
+          let none : h.serves.sends.lost ≡ [] = h.serves.sends.none w.sent in (
             sym (sym (append-nil s.put) ∙ (ap (λ l. s.put ++ l) (sym none) ∙ parts)),
             (let all = all_answered number events sound in
                 let out = ap jobs_out slots in
                 let long = ap (λ (l : List Job). length l) jobs in
                 omega (arith, all, out, long)),
+            (h.serves.all w.ok w.sound).0,
+            (h.serves.all w.ok w.sound).1,
+            h.serves.whole w.ok,
           );
     }

@@ -5,20 +5,21 @@ use Rattle.inbox.specs.declared.rule.Job.{Job}
 use Rattle.inbox.specs.Interleavings.{IsKept}
 use Rattle.session_lanes.specs.declared.ends.SessionEnd.{SessionEnd}
 use Rattle.session_lanes.specs.Lanes.{EachAt, of_lane}
-use Rattle.session_lanes.specs.Ends.{HasEnded}
+use Rattle.session_lanes.specs.Ends.{Streams, HasEnded}
 use Rattle.hub_shared.specs.Seats.{SeatState, IsRun}
 use Rattle.tallies.specs.Tallies.{TallyState}
 use Rattle.hub_shifts.specs.declared.shift.Shift.{Shift}
 
--- how a session ended, its tally, and the jobs that it put into its lane
+-- with which streams a session began, how it ended, its tally, and the jobs that it put into its lane
 pub record SessionState : Type 0 where
+  pub began : Streams
   pub end : SessionEnd
   pub tally : TallyState
   pub put : List Job
 
 -- what is said of the session with this number
 pub record IsOfSession (number : ℕ) (s : SessionState) : Type 0 where
-  pub ended : HasEnded number s.end s.tally.entries s.put
+  pub ended : HasEnded number s.began s.end s.tally.entries s.put
   pub own_jobs : All (λ (j : Job). j.session ≡ number) s.put
 
 -- what the worker of a lane took, and its seat
@@ -41,14 +42,14 @@ LaneIsKept k workers puts taken left =
     (map (λ (p : List Job). []) (of_lane k workers 0 puts) ++ taken ∷ [] ∷ []) left
 
 -- The hub is one that a single thread could have made. The sum is the length of its history. There are a tally and an end
--- for each session, in their order, which are that session's. Each lane is kept. Each worker's seat counted its calls, and
--- these numbers add up.
-pub record IsShift (sessions workers : ℕ) (s : Shift) : Type 0 where
+-- for each session, in the order of the sessions' streams, which are that session's. Each lane is kept. Each worker's seat
+-- counted its calls, and these numbers add up.
+pub record IsShift (streams : List Streams) (workers : ℕ) (s : Shift) : Type 0 where
   pub served : List SessionState
   pub worked : List WorkerState
   pub run : IsRun s.hub
   pub sum_is : s.sum ≡ length s.hub
-  pub served_count : length served ≡ sessions
+  pub streams_are : map (λ (x : SessionState). x.began) served ≡ streams
   pub worked_count : length worked ≡ workers
   pub left_count : length s.left.items ≡ workers
   pub ends_are : s.ends.items ≡ map (λ (x : SessionState). x.end) served

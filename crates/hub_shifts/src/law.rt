@@ -2,8 +2,9 @@
 ghost use Rattle.hub_shifts.specs.Laws.{ShiftInOrder, LanesInOrder};
 
 /// In a shift whose tallies settle against its history, each entry of the history is of exactly one session, and those of
-/// a session stand there in the order of its lines, each once: they are its own jobs that were answered Ok. Where a session
-/// ended well, each of the jobs that it put has its answer. It does nothing.
+/// a session stand there in the order of its reader's lines, each once: they are its own jobs that were answered Ok. Where a
+/// session ended well, it was given all whole lines of its reader, each of the jobs that it put has its answer, and all that it
+/// said was written. It does nothing.
 pub fn shift_in_order()
     ensures { ShiftInOrder }
 {}

@@ -1,23 +1,24 @@
-//! What the threads of a shift promise: which pass each began with.
+//! What the threads of a shift promise: what each began with.
 ghost use Rattle.session_lanes.specs.Ends.{IsServed};
 ghost use Rattle.hub_workers.specs.Work.{IsWorked};
 
 use hub_workers::Worker;
 use inbox::Pass;
-use session_lanes::Served;
+use session_lanes::{Served, SessionStart};
 use std::snapshot::Snapshot;
 use std::sync::ledger::Ledger;
 use std::thread::Promise;
+use taf_codes::{Sink, Source};
 
-// The session of a thread, and the pass that it began with.
+// What the thread of a session began with.
 #[derive(Drop)]
-pub(crate) struct ServedBy {
-    pub session: u32,
-    pub began: Snapshot<Pass>,
+pub(crate) struct ServedBy<S, K> {
+    pub start: Snapshot<SessionStart<S, K>>,
 }
 
-impl Promise<Served> for ServedBy {
-    ghost kept_by = { λ p r. IsServed p.session p.began.value r.end r.tally.entries r.pass };
+impl<S: Source, K: Sink> Promise<Served> for ServedBy<S, K> {
+    ghost kept_by = { λ p r.
+        IsServed S.remaining K.contents p.start.value.session p.start.value r };
 }
 
 // The pass that a worker's thread began with.

@@ -1,8 +1,8 @@
 //! A whole shift.
-ghost use Rattle.std.specs.Prelude.{◌≡◌, ◌+◌, ◌%◌, ◌≤◌, length, vec_len, slice_index_or, IfOk};
+ghost use Rattle.std.specs.Prelude.{◌≡◌, ◌+◌, ◌%◌, ◌≤◌, length, map, slice_index_or, vec_len, IfOk};
 ghost use Rattle.inbox.specs.States.{new_pass};
-ghost use Rattle.session_lanes.specs.Lanes.{new_lane, EachAt, of_lane, HandsOut};
-ghost use Rattle.session_lanes.specs.Ends.{IsServed};
+ghost use Rattle.session_lanes.specs.Lanes.{new_lane, EachAt, EachPair, of_lane, HandsOut};
+ghost use Rattle.session_lanes.specs.Ends.{IsServed, streams_of};
 ghost use Rattle.hub_shared.specs.Seats.{new_seat};
 ghost use Rattle.hub_workers.specs.Work.{IsWorked};
 ghost use Rattle.hub_shifts.specs.Shifts.{IsShift};
@@ -13,9 +13,12 @@ use hub_core::Hub;
 use hub_shared::{Seat, SharedHub, Tally};
 use hub_workers::{Gate, Places, add_refused, make_places, take_workers};
 use inbox::Left;
-use session_lanes::{AnswerQueue, Lane, Opening, Outcomes, SessionEnd, close_lanes, take_sessions};
+use session_lanes::{
+    AnswerQueue, Lane, Opening, Outcomes, SessionEnd, SessionStart, close_lanes, take_sessions,
+};
 use std::alloc::Global;
 use std::marker::Brand;
+use std::snapshot::Snapshot;
 use std::sync::Wait;
 use std::sync::ledger::{Blank, Ledger};
 use std::thread::Threads;
@@ -77,7 +80,8 @@ where
     R: Threads + Wait + Sync,
     requires sessions { (1 ≤ vec_len sessions) × (vec_len sessions ≤ 64) }
     requires workers { (1 ≤ workers) × (workers ≤ 8) }
-    ensures { IfOk result (λ s. IsShift (vec_len sessions) workers s) }
+    ensures { IfOk result (λ s. IsShift
+        (map (λ p. streams_of (S.remaining p.0) (K.contents p.1)) sessions.items) workers s) }
 {
     let blank = Blank::new(workers as u64 + 1);
     let setup = Setup {
@@ -112,7 +116,9 @@ where
     requires workers { (1 ≤ setup.workers) × (setup.workers ≤ 8) }
     requires blank { (setup.blank.name ≡ L.name) × (setup.blank.parts ≡ L.parts)
         × (setup.blank.parts ≡ setup.workers + 1) }
-    ensures { IfOk result (λ s. IsShift (vec_len setup.sessions) setup.workers s) }
+    ensures { IfOk result (λ s. IsShift
+        (map (λ p. streams_of (S.remaining p.0) (K.contents p.1)) setup.sessions.items)
+        setup.workers s) }
 {
     let Setup {
         sessions,
@@ -134,41 +140,56 @@ where
         answers: answers.as_slice(),
         opening: &opening,
     };
+    let starts = Snapshot::of(&sessions);
     let back = run_threads::<L, S, K, G, R>(rt, alloc, context, sessions, workers)?;
-    let to_close = ToClose { lanes, hub, seat };
+    let to_close = ToClose {
+        starts,
+        lanes,
+        hub,
+        seat,
+    };
     let shift = end_shift(rt, alloc, to_close, back)?;
     Ok(shift)
 }
 
-// What a shift closes at its end: its lanes, and the hub, by the seat that it kept.
-struct ToClose<L: Ledger> {
+// What a shift closes at its end: its lanes, and the hub, by the seat that it kept. Only contracts read what its sessions began
+// with.
+struct ToClose<L: Ledger, S, K> {
+    starts: Snapshot<Vec<SessionStart<S, K>>>,
     lanes: Vec<Lane>,
     hub: SharedHub<L>,
     seat: Seat<L>,
 }
 
 // Closes the hub and the lanes, once all threads have ended.
-fn end_shift<L: Ledger>(
+fn end_shift<L: Ledger, S: Source, K: Sink>(
     rt: &impl Wait,
     alloc: Global,
-    to_close: ToClose<L>,
+    to_close: ToClose<L, S, K>,
     back: Back<L>,
 ) -> Result<Shift, Memory>
     requires some { (1 ≤ length to_close.lanes.items) × (length to_close.lanes.items ≤ 8) }
     requires lanes { let lanes = to_close.lanes.items in EachAt (λ k l. HandsOut (new_lane l.id) l
         (1 + length (of_lane k (length lanes) 0 back.served.items))) lanes }
-    requires served { let lanes = to_close.lanes.items in EachAt (λ i r. (d : _)
-        → IsServed i (new_pass (slice_index_or lanes (i % length lanes) d).id 1)
-        r.end r.tally.entries r.pass) back.served.items }
+    requires starts { let lanes = to_close.lanes.items in EachAt (λ i s. (d : _)
+        → s.pass ≡ new_pass (slice_index_or lanes (i % length lanes) d).id 1)
+        to_close.starts.value.items }
+    requires served { EachPair (IsServed S.remaining K.contents) to_close.starts.value.items
+        back.served.items }
     requires worked { let lanes = to_close.lanes.items in (length back.worked.items ≡ length lanes)
         × EachAt (λ k r. (d : _) → IsWorked (new_pass (slice_index_or lanes k d).id 1)
         r.pass r.seat) back.worked.items }
     requires seat { (to_close.seat ≡ new_seat 1)
         × (L.parts ≡ length to_close.lanes.items + 1) }
-    ensures { IfOk result (λ s.
-        IsShift (length back.served.items) (length to_close.lanes.items) s) }
+    ensures { IfOk result (λ s. IsShift (map (λ s. streams_of (S.remaining s.reader)
+        (K.contents s.writer)) to_close.starts.value.items) (length to_close.lanes.items) s) }
 {
-    let ToClose { lanes, hub, seat } = to_close;
+    let ToClose {
+        starts: _,
+        lanes,
+        hub,
+        seat,
+    } = to_close;
     let Back { served, worked } = back;
     let mut lanes = lanes;
     let Outcomes { ends, tallies } = take_sessions(alloc, lanes.as_mut_slice(), served)?;

@@ -53,8 +53,8 @@ where
     R: Threads + Wait + Sync,
     requires { CanBegin context.lanes.now (length context.answers.now) sessions.items
         workers.items }
-    ensures served { IfOk result (λ b. EachPair
-        (λ i s r. IsServed i s.pass r.end r.tally.entries r.pass) sessions.items b.served.items) }
+    ensures served { IfOk result (λ b. EachPair (IsServed S.remaining K.contents) sessions.items
+        b.served.items) }
     ensures worked { IfOk result (λ b. EachPair (λ k s r. IsWorked s.pass r.pass r.seat)
         workers.items b.worked.items) }
 {
@@ -75,8 +75,7 @@ where
                 × (serving.items ≡ []) × (vec_len sessions ≤ vec_capacity serving)
                 × (working.items ≡ []) × (vec_len workers ≤ vec_capacity working) }
             ensures { IfOk result
-                (λ b. EachPair (λ i s r. IsServed i s.pass r.end r.tally.entries r.pass)
-                sessions.items b.served.items
+                (λ b. EachPair (IsServed S.remaining K.contents) sessions.items b.served.items
                 × EachPair (λ k s r. IsWorked s.pass r.pass r.seat) workers.items b.worked.items) }
         {
             let (mut serving, mut working) = (serving, working);
@@ -112,15 +111,13 @@ where
                 let jobs = lanes[place % lanes.len()].jobs();
                 let queue = &answers[place];
                 let promise = ServedBy {
-                    session: start.session,
-                    began: Snapshot::of(&start.pass),
+                    start: Snapshot::of(&start),
                 };
                 match scope.spawn_with(
                     promise,
                     move || -> Served
                         requires { (start.pass.inbox ≡ jobs.now.id) × (start.pass.put ≡ []) }
-                        ensures { IsServed start.session start.pass result.end result.tally.entries
-                            result.pass }
+                        ensures { IsServed S.remaining K.contents start.session start result }
                     {
                         let context = SessionContext {
                             opening,
@@ -147,16 +144,15 @@ where
 }
 
 // Joins the sessions, ends the workers, and joins them. Want of memory is the only error.
-fn join_all<L: Ledger, R: Threads>(
+fn join_all<L: Ledger, S: Source, K: Sink, R: Threads>(
     rt: &R,
-    serving: Vec<PromisedHandle<Served, ServedBy>>,
+    serving: Vec<PromisedHandle<Served, ServedBy<S, K>>>,
     working: Vec<PromisedHandle<Worker<L>, WorkedBy>>,
     lanes: &[Lane],
     answers: &[AnswerQueue],
 ) -> Result<Back<L>, ShiftFault>
-    ensures served { IfOk result (λ b. EachPair (λ i h r.
-        IsServed h.promise.session h.promise.began.value r.end r.tally.entries r.pass)
-        serving.items b.served.items) }
+    ensures served { IfOk result (λ b. EachPair (λ i h r. IsServed S.remaining K.contents
+        h.promise.start.value.session h.promise.start.value r) serving.items b.served.items) }
     ensures worked { IfOk result (λ b. EachPair
         (λ k h r. IsWorked h.promise.began.value r.pass r.seat) working.items b.worked.items) }
 {

@@ -1,7 +1,6 @@
 -- What the lanes have once the threads have their passes.
-use Rattle.std.proofs.Common.{◌≡◌, ℕ, ◌+◌, ◌%◌, ◌<◌, ◌≤◌, List, [], ◌∷◌, ◌++◌, length, get_or, take, drop, refl, sym, ap, ◌∙◌, subst, arith, append-nil}
+use Rattle.std.proofs.Common.{◌≡◌, ℕ, ◌+◌, ◌<◌, List, [], ◌++◌, length, get_or, take, drop, refl, sym, ap, ◌∙◌, subst, arith, append-nil}
 use Rattle.inbox.specs.Rules.{ALL_PARTS}
-use Rattle.inbox.specs.States.{PassState}
 use Rattle.session_lanes.specs.Lanes.{LaneState, new_lane, EachAt, of_lane, HandsOut, EachLane}
 use Rattle.std.proofs.lemmas.List.{drop_all, take_all}
 

@@ -1,5 +1,5 @@
 //! What the threads of sessions and workers begin with: everything is handed out before the first one starts.
-ghost use Rattle.std.specs.Prelude.{◌≡◌, ◌+◌, ◌%◌, ◌≤◌, length, vec_len, IfOk};
+ghost use Rattle.std.specs.Prelude.{◌≡◌, ◌+◌, ◌%◌, ◌≤◌, length, map, vec_len, IfOk};
 ghost use Rattle.session_lanes.specs.Lanes.{new_lane, IsPassOf, EachAt, of_lane, HandsOut, EachLane};
 ghost use Rattle.hub_shared.specs.Seats.{new_seat};
 
@@ -22,8 +22,9 @@ pub struct Places<L: Ledger, S, K> {
 /// Makes 1 to 8 lanes, and hands out their passes to up to 64 sessions and to the workers, and the parts of the seat, of which
 /// one is kept.
 ///
-/// Session `i` has a pass of lane `i mod workers`, worker `k` one of lane `k`, each of one part. A lane has a place for each
-/// job that its sessions may have out. Want of memory is the only error.
+/// Session `i` has its reader, its writer and a pass of lane `i mod workers`, worker `k` a pass of lane
+/// `k`, each of one part. A lane has a place for each job that its sessions may have out. Want of
+/// memory is the only error.
 pub fn make_places<L: Ledger, S: Drop, K: Drop>(
     rt: &impl Wait,
     alloc: Global,
@@ -36,6 +37,8 @@ pub fn make_places<L: Ledger, S: Drop, K: Drop>(
     requires seat { seat.old ≡ new_seat (workers + 1) }
     ensures counts { IfOk result (λ p. (vec_len p.lanes ≡ workers) × (vec_len p.workers ≡ workers)
         × (vec_len p.sessions ≡ vec_len sessions)) }
+    ensures ends { IfOk result (λ p. map (λ s. (s.reader, s.writer)) p.sessions.items
+        ≡ sessions.items) }
     ensures lanes { IfOk result (λ p. EachAt (λ k l. HandsOut (new_lane l.id) l
         (1 + length (of_lane k workers 0 p.sessions.items))) p.lanes.items) }
     ensures sessions { IfOk result (λ p. EachAt (λ i s. (s.session ≡ i)

@@ -1,16 +1,14 @@
 -- What a session left that was served.
-use Rattle.std.proofs.Common.{◌≡◌, ℕ, ◌+◌, Bool, true, false, List, [], ◌++◌, length, Result, Ok, Err, is_ok, refl, sym, ap, ◌∙◌, subst, rules, tests, arith, append-nil}
-use Rattle.inbox.specs.declared.rule.Job.{Job}
-use Rattle.tallies.specs.declared.tally.Told.{Told}
+use Rattle.std.proofs.Common.{◌≡◌, ℕ, true, List, [], Result, Ok, Err, is_ok, refl, subst, rules, tests, arith}
+use Rattle.std.proofs.KnownBytes.{Consumes-nil, Appends-nil}
 use Rattle.session_lines.specs.declared.session.Slot.{Slot}
 use Rattle.session_lines.specs.States.{State, new_state}
 use Rattle.session_serving.specs.declared.fault.SessionFault.{SessionFault}
 use Rattle.session_serving.specs.declared.fault.SessionFault.TheVariants.{Port}
-use Rattle.session_serving.specs.Serving.{Traffic, IsServed, Sends}
-use Rattle.session_serving.specs.Advances.{Advances}
-use Rattle.session_serving.specs.Faults.{Failures, Explains, sends_all}
+use Rattle.session_serving.specs.Serving.{Traffic, traffic_of, IsServed}
+use Rattle.session_serving.specs.Faults.{Failures, Explains}
 use Rattle.session_lanes.specs.declared.ends.SessionEnd.TheVariants.{Fault}
-use Rattle.session_lanes.specs.Ends.{end_of, HasEnded}
+use Rattle.session_lanes.specs.Ends.{Streams, streams_of, end_of, HasEnded}
 
 none_taken : (served : Result (Unit {0}) SessionFault) (before after : Failures) (slots : List Slot) → Explains served before after slots → is_ok served ≡ true → slots ≡ []
 none_taken (Ok done) before after slots e ok = e.3
@@ -20,31 +18,43 @@ none_taken (Err fault) before after slots e ok = absurd (search (tests, ok))
 pub has_ended : (id : ℕ) (old new : State) (before after : Traffic) (served : Result (Unit {0}) SessionFault) (failures now : Failures)
     → old ≡ new_state id → before.sent ≡ []
     → IsServed old new before after served → Explains served failures now new.slots
-    → HasEnded id (end_of served new.has_failed) new.tally after.sent
+    → HasEnded id (streams_of before.remaining before.written) (end_of served new.has_failed) new.tally after.sent
 has_ended id old new before after served failures now is none s e = record {
   served = served;
-  reads = s.reads;
-  said = s.said;
-  jobs = s.jobs;
   state = new;
-  advances = subst (λ o. Advances o s.reads s.jobs s.said new) is s.advances;
+  left = streams_of after.remaining after.written;
+  serves = subst (λ o. IsServed o new (traffic_of before.remaining before.written []) after served) is (subst (λ l. IsServed old new (traffic_of before.remaining before.written l) after served) none s);
   end_is = refl;
   told_is = refl;
-  sends = subst (λ l. Sends l after.sent (sends_all served) s.jobs) none s.sends;
   none_taken = none_taken served failures now new.slots e;
 }
 
 -- a session that never began has ended
-pub never_began : (id : ℕ) → HasEnded id (Fault Port) [] []
-never_began id = record {
+pub never_began : (id : ℕ) (began : Streams) → HasEnded id began (Fault Port) [] []
+never_began id began = record {
   served = Err Port;
-  reads = [];
-  said = [];
-  jobs = [];
   state = new_state id;
-  advances = record { events = []; state_is = refl; read_is = refl; jobs_is = refl; said_is = refl; sound = tt };
+  left = began;
+  serves = record {
+    bytes = [];
+    reads = [];
+    more = [];
+    said = [];
+    jobs = [];
+    front = [];
+    left = [];
+    consumed = Consumes-nil began.remaining;
+    given = refl;
+    advances = record { events = []; state_is = refl; read_is = refl; jobs_is = refl; said_is = refl; sound = tt };
+    written = Appends-nil began.written;
+    parts = refl;
+    sends = record { lost = []; parts = refl; few = omega arith; none = λ yes. refl };
+    whole = λ yes. refl;
+    all = λ yes. absurd (search (tests, yes));
+    few = omega arith;
+    no_end = λ yes. absurd (search (tests, rules, yes));
+  };
   end_is = refl;
   told_is = refl;
-  sends = record { lost = []; parts = refl; few = omega arith; none = λ yes. refl };
   none_taken = λ yes. absurd (search (tests, yes));
 }

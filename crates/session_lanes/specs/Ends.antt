@@ -1,16 +1,16 @@
 -- What the thread of a session gives back.
-use Rattle.std.specs.Prelude.{◌≡◌, ℕ, Bool, true, false, List, [], Result, Ok, Err, is_ok}
+use Rattle.std.specs.Prelude.{◌≡◌, ℕ, Bool, true, false, List, [], Option, Result, Ok, Err, is_ok}
 use Rattle.std.specs.List.{All}
 use Rattle.inbox.specs.declared.rule.Job.{Job}
-use Rattle.inbox.specs.States.{PassState}
 use Rattle.tallies.specs.declared.tally.Told.{Told}
 use Rattle.session_lines.specs.States.{State, new_state}
 use Rattle.session_serving.specs.declared.fault.SessionFault.{SessionFault}
-use Rattle.session_serving.specs.Advances.{Advances}
-use Rattle.session_serving.specs.Faults.{sends_all}
-use Rattle.session_serving.specs.Serving.{Sends}
+use Rattle.session_serving.specs.Serving.{traffic_of}
+use Rattle.session_serving.specs.Serving as serving
 use Rattle.session_lanes.specs.declared.ends.SessionEnd.{SessionEnd}
 use Rattle.session_lanes.specs.declared.ends.SessionEnd.TheVariants.{Complete, Stranger, Fault}
+use Rattle.session_lanes.specs.declared.ends.SessionStart.{SessionStart}
+use Rattle.session_lanes.specs.declared.ends.Served.{Served}
 
 -- how a session ended, by what serving answered and by whether the session has failed
 abbrev pub end_of : Result (Unit {0}) SessionFault → Bool → SessionEnd
@@ -18,23 +18,31 @@ end_of (Ok done) true = Stranger
 end_of (Ok done) false = Complete
 end_of (Err fault) has_failed = Fault fault
 
--- A new session of this number read some lines, gave out these jobs and said those lines. Its tally is this. Its jobs
--- were put in order, all but the last where the port failed. Where serving answered Ok no slot is taken.
-pub record HasEnded (session : ℕ) (end : SessionEnd) (told : List Told) (put : List Job) : Type 0 where
+-- what a reader still has and what a writer took, where they are known
+pub record Streams : Type 0 where
+  pub remaining : Option (List ℕ)
+  pub written : Option (List ℕ)
+
+abbrev pub streams_of : Option (List ℕ) → Option (List ℕ) → Streams
+streams_of remaining written = record { remaining = remaining; written = written }
+
+-- A new session of this number, which began with these streams, was served: it was given the first of the whole lines of its
+-- reader, what it said was written to its writer, and its jobs were put, in order, all but the last where the port failed. Its
+-- tally is this. Where serving answered Ok no slot is taken.
+pub record HasEnded (session : ℕ) (began : Streams) (end : SessionEnd) (told : List Told) (put : List Job) : Type 0 where
   pub served : Result (Unit {0}) SessionFault
-  pub reads : List (List ℕ)
-  pub said : List (List ℕ)
-  pub jobs : List Job
   pub state : State
-  pub advances : Advances (new_state session) reads jobs said state
+  pub left : Streams
+  pub serves : serving.IsServed (new_state session) state (traffic_of began.remaining began.written [])
+      (traffic_of left.remaining left.written put) served
   pub end_is : end ≡ end_of served state.has_failed
   pub told_is : state.tally ≡ told
-  pub sends : Sends [] put (sends_all served) jobs
   pub none_taken : is_ok served ≡ true → state.slots ≡ []
 
--- by the pass that it began with a session put its own jobs, and took none
-pub record IsServed (session : ℕ) (began : PassState) (end : SessionEnd) (told : List Told)
-    (pass : PassState) : Type 0 where
-  pub ended : HasEnded session end told pass.put
-  pub own_jobs : All (λ (j : Job). j.session ≡ session) pass.put
-  pub put_only : pass ≡ record began { put = pass.put }
+-- by what it began with the session of this number ended, put its own jobs, and took none
+pub record IsServed {S K : Type 0} (remaining : S → Option (List ℕ)) (written : K → Option (List ℕ))
+    (session : ℕ) (start : SessionStart S K) (s : Served) : Type 0 where
+  pub ended : HasEnded session (streams_of (remaining start.reader) (written start.writer)) s.end
+      s.tally.entries s.pass.put
+  pub own_jobs : All (λ (j : Job). j.session ≡ session) s.pass.put
+  pub put_only : s.pass ≡ record start.pass { put = s.pass.put }

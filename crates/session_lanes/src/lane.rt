@@ -1,5 +1,5 @@
 //! The lanes: a queue of jobs for each worker.
-ghost use Rattle.std.specs.Prelude.{◌≡◌, ◌+◌, ◌%◌, ◌≤◌, [], ◌∷◌, ◌++◌, length, vec_len, sum_by, OnOk, IfOk};
+ghost use Rattle.std.specs.Prelude.{◌≡◌, ◌+◌, ◌%◌, ◌≤◌, [], ◌∷◌, ◌++◌, length, map, vec_len, sum_by, OnOk, OnErr, IfOk};
 ghost use Rattle.std.specs.List.{All};
 ghost use Rattle.inbox.specs.Rules.{ALL_PARTS};
 ghost use Rattle.inbox.specs.States.{new_pass, IsKeptBy};
@@ -68,9 +68,11 @@ impl Lane {
         self.jobs.split_pass(rt, &mut self.pass)
     }
 
-    /// Keeps a pass that came back, behind those that it has. Want of memory is the only error, and then the pass is lost.
+    /// Keeps a pass that came back, behind those that it has. Want of memory is the only error: then the pass is lost, and the
+    /// lane is as it was.
     pub fn take_back(&mut self, pass: Pass) -> Result<(), Memory>
-        ensures { OnOk result (TakesBack self.old self.new (pass ∷ [])) }
+        ensures ok { OnOk result (TakesBack self.old self.new (pass ∷ [])) }
+        ensures err { OnErr result (self.new ≡ self.old) }
     {
         self.back.push(pass).map_err(|_| Memory)
     }
@@ -113,7 +115,7 @@ pub fn make_lanes(
 }
 
 /// Gives up to 64 sessions their numbers, in their order from 0, and session `i` a pass of lane `i mod n`, of one part, where `n`
-/// is the number of lanes.
+/// is the number of lanes. Each keeps its reader and its writer.
 ///
 /// There has to be a lane, and the pass that each keeps has to have 1,000 parts at least. Want of memory is the only error, and
 /// then the passes that were handed out are lost.
@@ -126,6 +128,7 @@ pub fn start_sessions<S: Drop, K: Drop>(
     requires lanes { (1 ≤ length lanes.old) × EachAt (λ k l. 1000 ≤ l.pass.parts) lanes.old }
     requires sessions { vec_len sessions ≤ 64 }
     ensures count { IfOk result (λ v. vec_len v ≡ vec_len sessions) }
+    ensures ends { IfOk result (λ v. map (λ s. (s.reader, s.writer)) v.items ≡ sessions.items) }
     ensures starts { IfOk result (λ v. EachAt (λ i s. (s.session ≡ i)
         × IsPassOf lanes.old (i % length lanes.old) s.pass) v.items) }
     ensures lanes { IfOk result (λ v. EachLane (λ k before after.

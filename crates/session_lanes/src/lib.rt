@@ -10,8 +10,8 @@
 //!
 //! # What is promised
 //!
-//! `specs/Ends.antt` says what the thread of a session gives back: how the session ended, by the lines that it read, the jobs
-//! that it gave out and what was put of them, with its tally. `specs/Lanes.antt` says which sessions fall to a lane, and what
+//! `specs/Ends.antt` says what the thread of a session gives back: how the session ended, by the lines that its reader had, the
+//! jobs that it gave out and what was put of them, with its tally. `specs/Lanes.antt` says which sessions fall to a lane, and what
 //! it handed out and took back.
 //!
 //! No contract says that a thread that waits is woken, nor what an [`AnswerQueue`] or an [`Opening`] holds. No thread spins:

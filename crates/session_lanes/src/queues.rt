@@ -2,7 +2,7 @@
 ghost use Rattle.std.specs.Prelude.{◌≡◌, ◌-◌, ◌≤◌, sum_by, IfOk, IfErr, IfSome, IfNone, OnOk, OnErr};
 ghost use Rattle.std.specs.List.{All};
 ghost use Rattle.inbox.specs.Rules.{ALL_PARTS};
-ghost use Rattle.inbox.specs.States.{new_pass, after_put, after_take, IsKeptBy};
+ghost use Rattle.inbox.specs.States.{new_pass, after_put, after_take, HeldSoMany, IsKeptBy};
 
 use crossbeam_queue::ArrayQueue;
 use crossbeam_utils::sync::EventCount;
@@ -68,17 +68,20 @@ impl JobQueue {
         ensures put { OnOk result (pass.new ≡ after_put pass.old job) }
         ensures back { IfErr result (λ back. back ≡ job) }
         ensures unchanged { OnErr result (pass.new ≡ pass.old) }
+        ensures full { OnErr result (HeldSoMany self.now.capacity pass.old) }
     {
         self.inbox.put(rt, pass, job)?;
         self.arrived.notify_one();
         Ok(())
     }
 
-    /// The job that was put first. It sleeps while there is none; none comes once the queue was ended and is found empty.
+    /// The job that was put first. It sleeps while there is none; none comes once the queue was ended and is found empty, as
+    /// [`Inbox::take`] says.
     pub fn next<R: Wait>(&self, rt: &R, pass: &mut Pass) -> Option<Job>
         requires own { pass.old.inbox ≡ self.now.id }
         ensures taken { IfSome result (λ job. pass.new ≡ after_take pass.old job) }
         ensures none { IfNone result (pass.new ≡ pass.old) }
+        ensures empty { IfNone result (HeldSoMany 0 pass.old) }
     {
         for _ in rt.forever() {
             let waiting = self.arrived.prepare_wait();

@@ -1,6 +1,6 @@
 //! What the thread of a session does.
 ghost use Rattle.std.specs.Prelude.{◌≡◌, []};
-ghost use Rattle.session_lanes.specs.Ends.{HasEnded, IsServed};
+ghost use Rattle.session_lanes.specs.Ends.{HasEnded, IsServed, streams_of};
 
 use crate::ends::{Served, SessionEnd, SessionStart, session_end};
 use crate::port::{Begun, ShiftPort};
@@ -24,7 +24,8 @@ pub struct SessionContext<'x> {
 /// Serves a session once the threads begin. Where they never do, not a line is read, and the session ends with
 /// [`SessionFault::Port`].
 ///
-/// It puts its own jobs into the lane, in order, and takes their answers from its queue.
+/// It is given the lines of its reader, puts its own jobs into the lane, in order, takes their answers from its queue, and writes
+/// what it says to its writer, as [`serve_session`] does.
 pub fn serve<'x, S: Source + Drop, K: Sink + Drop, R: Wait>(
     rt: &'x R,
     alloc: Global,
@@ -33,7 +34,7 @@ pub fn serve<'x, S: Source + Drop, K: Sink + Drop, R: Wait>(
 ) -> Served
     requires own { start.pass.inbox ≡ context.jobs.now.id }
     requires none { start.pass.put ≡ [] }
-    ensures { IsServed start.session start.pass result.end result.tally.entries result.pass }
+    ensures { IsServed S.remaining K.contents start.session start result }
 {
     if context.opening.wait(rt) {
         serve_begun::<Brand, S, K, R>(rt, alloc, context, start)
@@ -43,9 +44,9 @@ pub fn serve<'x, S: Source + Drop, K: Sink + Drop, R: Wait>(
 }
 
 // The end of a session that never began.
-fn end_at_once<S: Drop, K: Drop>(alloc: Global, start: SessionStart<S, K>) -> Served
+fn end_at_once<S: Source + Drop, K: Sink + Drop>(alloc: Global, start: SessionStart<S, K>) -> Served
     requires none { start.pass.put ≡ [] }
-    ensures { IsServed start.session start.pass result.end result.tally.entries result.pass }
+    ensures { IsServed S.remaining K.contents start.session start result }
 {
     let SessionStart { pass, .. } = start;
     Served {
@@ -65,7 +66,7 @@ fn serve_begun<'x, B: Begun, S: Source + Drop, K: Sink + Drop, R: Wait>(
     requires own { start.pass.inbox ≡ context.jobs.now.id }
     requires none { start.pass.put ≡ [] }
     requires began { start.pass ≡ B.began }
-    ensures { IsServed start.session start.pass result.end result.tally.entries result.pass }
+    ensures { IsServed S.remaining K.contents start.session start result }
 {
     let SessionStart {
         session,
@@ -93,7 +94,8 @@ fn serve_by<S: Source + Drop, K: Sink + Drop, P: Port>(
 ) -> (SessionEnd, Tally, P)
     requires mine { P.session port ≡ session }
     requires none { P.sent port ≡ [] }
-    ensures ended { HasEnded session result.0 result.1.entries (P.sent result.2) }
+    ensures ended { HasEnded session (streams_of (S.remaining reader) (K.contents writer))
+        result.0 result.1.entries (P.sent result.2) }
     ensures port { P.session result.2 ≡ session }
 {
     let (mut reader, mut writer, mut port) = (reader, writer, port);

@@ -1,21 +1,23 @@
-use Rattle.std.proofs.Common.{rules, arith, ap, sym, refl, subst, ◌∙◌, ◌≡◌, ℕ, ◌+◌, ◌%◌, ◌<◌, ◌≤◌, List, [], ◌∷◌, ◌++◌, length, take, drop, map, get_or, sum_by}
+use Rattle.std.proofs.Common.{rules, arith, ap, sym, refl, subst, ◌∙◌, ◌≡◌, ℕ, ◌+◌, ◌%◌, ◌<◌, List, [], ◌∷◌, ◌++◌, length, take, drop, map, get_or, sum_by, Option}
+use Rattle.std.specs.Prelude.{zip}
 use Rattle.std.specs.List.{All}
 use Rattle.std.proofs.lemmas.List.{length-map}
-use Rattle.std.proofs.lemmas.List.Elements.{All-weaker, All-map}
+use Rattle.std.proofs.lemmas.Slice.Zip.{get_or-zip, firsts-zip, seconds-zip}
+use Rattle.std.proofs.lemmas.List.Elements.{All-map}
 use Rattle.std.proofs.lemmas.List.Sums.{sum_by-append, sum_by-cons}
 use mathlib.Core.List.{map-map}
 use Rattle.inbox.specs.declared.rule.Job.{Job}
 use Rattle.inbox.specs.Rules.{ALL_PARTS}
 use Rattle.inbox.specs.States.{PassState, new_pass, IsKeptBy}
+use Rattle.session_lanes.specs.declared.ends.SessionStart.{SessionStart}
 use Rattle.session_lanes.specs.declared.ends.Served.{Served}
 use Rattle.session_lanes.specs.Lanes.{LaneState, new_lane, thread_pass, EachAt, EachLane, EachPair, of_lane, HandsOut, TakesBack, no_inbox}
-use Rattle.session_lanes.specs.Ends.{IsServed}
-use Rattle.session_lanes.specs.declared.ends.SessionEnd.{SessionEnd}
+use Rattle.session_lanes.specs.Ends.{Streams, streams_of, IsServed}
 use Rattle.session_lanes.proofs.FallLemmas.{of_lane-alike}
 use Rattle.hub_shared.specs.Seats.{SeatState}
 use Rattle.hub_workers.specs.declared.worker.Worker.{Worker}
 use Rattle.hub_workers.specs.Work.{IsWorked}
-use Rattle.hub_shifts.specs.Shifts.{SessionState, WorkerState, IsOfSession, MakesCalls, put_lists, IsShift, LaneIsKept}
+use Rattle.hub_shifts.specs.Shifts.{SessionState, WorkerState, IsOfSession, MakesCalls, put_lists, LaneIsKept}
 use Rattle.hub_workers.proofs.PlaceLemmas.{whole_slice}
 use Rattle.hub_shifts.proofs.KeptLemmas.{EachAt-map, read_map, ones, some_item, Came, all_came, came_own, came_parts, came_kept}
 use Rattle.hub_shifts.proofs.shift.end_shift.Goals as goal
@@ -26,8 +28,28 @@ pass_of s = s.pass
 abbrev put_of : PassState → List Job
 put_of t = t.put
 
-abbrev session_of : Served → SessionState
-session_of s = record { end = s.end; tally = s.tally; put = s.pass.put }
+abbrev session_of : {S K : Type 0} → (S → Option (List ℕ)) → (K → Option (List ℕ)) → SessionStart S K × Served → SessionState
+session_of remaining written p = record {
+  began = streams_of (remaining p.0.reader) (written p.0.writer);
+  end = p.1.end;
+  tally = p.1.tally;
+  put = p.1.pass.put;
+}
+
+-- what is read of all that the sessions gave back
+of_back : {X Z : Type 0} (f : Served → Z) (starts : List X) (served : List Served) → length served ≡ length starts → map f served ≡ map (λ (p : X × Served). f p.1) (zip starts served)
+of_back {X} f starts served same = ap (λ l. map f l) (sym (seconds-zip starts served same)) ∙ map-map f (λ (p : X × Served). p.1) (zip starts served)
+
+-- a pass that came back is one part of the lane's, by which a session put
+handed : {S K : Type 0} (remaining : S → Option (List ℕ)) (written : K → Option (List ℕ)) (items : List LaneState) (starts : List (SessionStart S K)) (served : List Served)
+    → EachAt (λ i (s : SessionStart S K). (d : LaneState) → s.pass ≡ new_pass (get_or items (i % length items) d).id 1) starts
+    → EachPair (IsServed remaining written) starts served
+    → EachAt (λ i (r : Served). (d : LaneState) → r.pass ≡ thread_pass (get_or items (i % length items) d).id r.pass.put []) served
+handed remaining written items starts served began pairs i r low d =
+    let alike = pairs.0 in
+    let inside : i < length starts = omega (arith, alike, low) in
+    let start = some_item starts (omega (arith, inside)) in
+    (pairs.1 i start r inside).put_only ∙ ap (λ (t : PassState). record t { put = (get_or served i r).pass.put }) (began i start inside d)
 
 -- a number of the seats, added up
 seat_sums : {W : Type 0} (worker_of : W → WorkerState) (seat_of : W → SeatState) (f : SeatState → ℕ) → ((w : W) → (worker_of w).seat ≡ seat_of w) → (ws : List W)
@@ -44,7 +66,7 @@ seat_sums worker_of seat_of f same (w ∷ ws) =
 came_of : {W : Type 0} (own_of : W → PassState) (seat_of : W → SeatState) (items ts tw first mid : List LaneState) (served : List Served) (worked : List W)
     → first ≡ items → mid ≡ ts → length ts ≡ length items → length worked ≡ length items
     → EachAt (λ k l. HandsOut (new_lane l.id) l (1 + length (of_lane k (length items) 0 served))) items
-    → EachAt (λ i (r : Served). (d : LaneState) → IsServed i (new_pass (get_or items (i % length items) d).id 1) r.end r.tally.entries r.pass) served
+    → EachAt (λ i (r : Served). (d : LaneState) → r.pass ≡ thread_pass (get_or items (i % length items) d).id r.pass.put []) served
     → EachAt (λ k w. (d : LaneState) → IsWorked (new_pass (get_or items k d).id 1) (own_of w) (seat_of w)) worked
     → EachLane (λ k a b. TakesBack a b (of_lane k (length first) 0 (map pass_of served))) first ts
     → ((k : ℕ) (d : LaneState) (e : W) → k < length mid → TakesBack (get_or mid k d) (get_or tw k d) (own_of (get_or worked k e) ∷ []))
@@ -54,7 +76,7 @@ came_of own_of seat_of items ts tw first mid served worked start middle same man
     (λ k d low.
     let alike = of_lane-alike k (length items) 0 served (map pass_of served) (sym (length-map served pass_of)) in
     subst (λ m. HandsOut (new_lane (get_or items k d).id) (get_or items k d) (1 + m)) alike (outs k d low))
-    (EachAt-map pass_of (λ i (t : PassState). (d : LaneState) → t ≡ thread_pass (get_or items (i % length items) d).id t.put []) served (λ k r low d. (hands k r low d).put_only))
+    (EachAt-map pass_of (λ i (t : PassState). (d : LaneState) → t ≡ thread_pass (get_or items (i % length items) d).id t.put []) served hands)
     (λ k e low d. (owns k e low d).took_only)
     (subst (λ l. EachLane (λ k a b. TakesBack a b (of_lane k (length l) 0 (map pass_of served))) l ts) start sessions)
     (subst (λ l. (k : ℕ) (d : LaneState) (e : _) → k < length l → TakesBack (get_or l k d) (get_or tw k d) (own_of (get_or worked k e) ∷ [])) middle workers)
@@ -81,6 +103,7 @@ close_lanes-requires g c =
     let items = c.args.to_close.lanes.items in
     let ts = c.take_sessions.new.lanes in
     let tw = c.take_workers.new.lanes in
+    let starts = c.args.to_close.starts.value.items in
     let served = c.args.back.served.items in
     let worked = c.args.back.worked.items in
     let own_of : Worker g.row.L.Denot → PassState = λ w. w.pass in
@@ -94,7 +117,8 @@ close_lanes-requires g c =
     let end : take c.args.to_close.lanes.len (tw ++ drop (length tw) (take c.args.to_close.lanes.len (ts ++ drop (length ts) items))) ≡ tw =
     ap (λ l. take c.args.to_close.lanes.len (tw ++ drop (length tw) l)) back ∙ whole_slice c.args.to_close.lanes.len tw ts len_tw (long ∙ sym len_ts) in
     let many : length worked ≡ length items = c.requires.worked.0 in
-    let came = came_of own_of seat_of items ts tw c.as_mut_slice.result.now c.as_mut_slice-2.result.now served worked first mid len_ts many c.requires.lanes c.requires.served c.requires.worked.1 c.in_ok-ends.ensures.lanes c.in_ok-seats.ensures.lanes in
+    let hands = handed g.S.Source.remaining g.K.Sink.contents items starts served c.requires.starts c.requires.served in
+    let came = came_of own_of seat_of items ts tw c.as_mut_slice.result.now c.as_mut_slice-2.result.now served worked first mid len_ts many c.requires.lanes hands c.requires.worked.1 c.in_ok-ends.ensures.lanes c.in_ok-seats.ensures.lanes in
     let Own : List LaneState → Type 0 = λ l. EachAt (λ k (r : LaneState). All (λ (p : PassState). p.inbox ≡ r.id) r.back) l in
     let Parts : List LaneState → Type 0 = λ l. EachAt (λ k (r : LaneState). sum_by (λ (p : PassState). p.parts) r.back + r.pass.parts ≡ ALL_PARTS) l in
     record {
@@ -113,6 +137,7 @@ returns g c =
     let items = c.args.to_close.lanes.items in
     let ts = c.take_sessions.new.lanes in
     let tw = c.take_workers.new.lanes in
+    let starts = c.args.to_close.starts.value.items in
     let served = c.args.back.served.items in
     let worked = c.args.back.worked.items in
     let own_of : Worker g.row.L.Denot → PassState = λ w. w.pass in
@@ -126,7 +151,8 @@ returns g c =
     let end : take c.args.to_close.lanes.len (tw ++ drop (length tw) (take c.args.to_close.lanes.len (ts ++ drop (length ts) items))) ≡ tw =
     ap (λ l. take c.args.to_close.lanes.len (tw ++ drop (length tw) l)) back ∙ whole_slice c.args.to_close.lanes.len tw ts len_tw (long ∙ sym len_ts) in
     let many : length worked ≡ length items = c.requires.worked.0 in
-    let came = came_of own_of seat_of items ts tw c.as_mut_slice.result.now c.as_mut_slice-2.result.now served worked first mid len_ts many c.requires.lanes c.requires.served c.requires.worked.1 c.in_ok-ends.ensures.lanes c.in_ok-seats.ensures.lanes in
+    let hands = handed g.S.Source.remaining g.K.Sink.contents items starts served c.requires.starts c.requires.served in
+    let came = came_of own_of seat_of items ts tw c.as_mut_slice.result.now c.as_mut_slice-2.result.now served worked first mid len_ts many c.requires.lanes hands c.requires.worked.1 c.in_ok-ends.ensures.lanes c.in_ok-seats.ensures.lanes in
     let Closes : ℕ → LaneState → List Job → Type 0 = λ k l left. IsKeptBy (l.back ++ l.pass ∷ []) left in
     let left = c.in_ok-left.left.items in
     let closed : EachPair Closes tw left = subst (λ l. EachPair Closes l left) end c.in_ok-left.ensures in
@@ -135,19 +161,27 @@ returns g c =
     let refused : SeatState → ℕ = λ s. s.refused in
     let seats : c.push.new.self.items ≡ map seat_of worked ++ c.args.to_close.seat ∷ [] = (let a : c.push.new.self.items ≡ c.in_ok-seats.seats.items ++ c.args.to_close.seat ∷ [] = search rules in a ∙ ap (λ l. l ++ c.args.to_close.seat ∷ []) c.in_ok-seats.ensures.seats) in
     let size : length (map worker_of worked) ≡ length items = length-map worked worker_of ∙ many in
+    let Back : Type 0 = SessionStart g.row.S.Denot g.row.K.Denot × Served in
+    let both : List Back = zip starts served in
+    let kept_of : Back → SessionState = session_of g.S.Source.remaining g.K.Sink.contents in
+    let of_start : SessionStart g.row.S.Denot g.row.K.Denot → Streams = λ s. streams_of (g.S.Source.remaining s.reader) (g.K.Sink.contents s.writer) in
+    let same : length served ≡ length starts = c.requires.served.0 in
+    let firsts = firsts-zip starts served same in
     record {
-      served = map session_of served;
+      served = map kept_of both;
       worked = map worker_of worked;
       run = c.close-hub.ensures.run;
       sum_is = c.close-hub.ensures.length;
-      served_count = length-map served session_of;
+      streams_are = map-map (λ (x : SessionState). x.began) kept_of both ∙ (sym (map-map of_start (λ (p : Back). p.0) both) ∙ ap (λ l. map of_start l) firsts);
       worked_count = size;
       left_count = closed.0 ∙ (len_tw ∙ len_ts);
-      ends_are = c.in_ok-ends.ensures.ends ∙ sym (map-map (λ (x : SessionState). x.end) session_of served);
-      tallies_are = c.in_ok-ends.ensures.tallies ∙ sym (map-map (λ (x : SessionState). x.tally) session_of served);
-      of_sessions = EachAt-map session_of IsOfSession served (λ i r low.
-          let s = c.requires.served i r low (new_lane no_inbox) in
-          record { ended = s.ended; own_jobs = s.own_jobs });
+      ends_are = c.in_ok-ends.ensures.ends ∙ (of_back (λ (r : Served). r.end) starts served same ∙ sym (map-map (λ (x : SessionState). x.end) kept_of both));
+      tallies_are = c.in_ok-ends.ensures.tallies ∙ (of_back (λ (r : Served). r.tally) starts served same ∙ sym (map-map (λ (x : SessionState). x.tally) kept_of both));
+      of_sessions = EachAt-map kept_of IsOfSession both (λ i p low.
+          let long : length both ≡ length starts = sym (length-map both (λ (q : Back). q.0)) ∙ ap (λ (l : List _). length l) firsts in
+          let inside : i < length starts = omega (arith, long, low) in
+          let s = c.requires.served.1 i p.0 p.1 inside in
+          subst (λ q. IsOfSession i (kept_of q)) (sym (get_or-zip starts served i p inside (omega (arith, inside, same)))) (record { ended = s.ended; own_jobs = s.own_jobs }));
       makes_calls = EachAt-map worker_of (λ k w. MakesCalls w) worked (λ k w low few. let made = (c.requires.worked.1 k w low (new_lane no_inbox)).made few in omega (arith, made));
       calls =
           let sum = c.close-hub.ensures.sum in
@@ -173,8 +207,8 @@ returns g c =
           let l = new_lane no_inbox in
           let own = own_of (get_or worked k e) in
           let all = came_kept k (length items) (map pass_of served) own (get_or items k l) (get_or tw k l) (get_or left k []) (came k l e in_items) (closed.1 k l [] (omega (arith, in_items, len_tw, len_ts))) in
-          let puts : map put_of (map pass_of served) ≡ put_lists (map session_of served) = map-map put_of pass_of served ∙ sym (map-map (λ (x : SessionState). x.put) session_of served) in
+          let puts : map put_of (map pass_of served) ≡ put_lists (map kept_of both) = map-map put_of pass_of served ∙ (of_back (λ (r : Served). r.pass.put) starts served same ∙ sym (map-map (λ (x : SessionState). x.put) kept_of both)) in
           let took : own.taken ≡ (get_or (map worker_of worked) k d).taken = sym (ap (λ (w : WorkerState). w.taken) (read_map worker_of worked k e d at)) in
-          subst (λ t. LaneIsKept k (length items) (put_lists (map session_of served)) t (get_or left k [])) took
+          subst (λ t. LaneIsKept k (length items) (put_lists (map kept_of both)) t (get_or left k [])) took
           (subst (λ p. LaneIsKept k (length items) p own.taken (get_or left k [])) puts all);
     }

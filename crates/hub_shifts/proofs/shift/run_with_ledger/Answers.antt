@@ -1,13 +1,14 @@
-use Rattle.std.proofs.Common.{rules, arith, ap, sym, subst, ◌∙◌, ◌≡◌, ◌+◌, ◌%◌, List, length, get_or}
+use Rattle.std.proofs.Common.{rules, arith, ap, sym, subst, ◌∙◌, ◌≡◌, ◌+◌, ◌%◌, List, length, map, get_or}
+use mathlib.Core.List.{map-map}
 use Rattle.inbox.specs.States.{PassState, new_pass}
 use Rattle.session_lanes.specs.declared.ends.SessionStart.{SessionStart}
-use Rattle.session_lanes.specs.declared.ends.Served.{Served}
-use Rattle.session_lanes.specs.Lanes.{LaneState, new_lane, of_lane, HandsOut}
-use Rattle.session_lanes.specs.Ends.{IsServed}
+use Rattle.session_lanes.specs.Lanes.{LaneState, EachAt, EachPair, new_lane, of_lane, HandsOut}
+use Rattle.session_lanes.specs.Ends.{Streams, streams_of, IsServed}
 use Rattle.session_lanes.proofs.FallLemmas.{of_lane-alike}
 use Rattle.hub_workers.specs.declared.worker.Worker.{Worker}
 use Rattle.hub_workers.specs.Work.{IsWorked}
 use Rattle.hub_shifts.specs.Starts.{CanBegin}
+use Rattle.hub_shifts.specs.Shifts.{IsShift}
 use Rattle.hub_shifts.proofs.ThreadLemmas.{each_given}
 use Rattle.hub_shifts.proofs.shift.run_with_ledger.Goals as goal
 
@@ -61,15 +62,21 @@ end_shift-requires-clause-lanes g c =
     let alike = of_lane-alike k c.args.setup.workers 0 sessions served (sym c.in_ok-back.ensures.served.0) in
     subst (λ m. HandsOut (new_lane (get_or lanes.items k l).id) (get_or lanes.items k l) (1 + m)) (alike ∙ ap (λ n. length (of_lane k n 0 served)) (sym size)) known
 
-pub end_shift-requires-clause-served : goal.end_shift-requires-clause-served
-end_shift-requires-clause-served g c =
+pub end_shift-requires-clause-starts : goal.end_shift-requires-clause-starts
+end_shift-requires-clause-starts g c =
     let lanes = c.in_ok-lanes.field-0.lanes in
+    let starts = c.in_ok-lanes.field-0.sessions.items in
     let size : length lanes.items ≡ c.args.setup.workers = sym lanes.ok.0 ∙ c.in_ok-lanes.ensures.counts.0 in
     let pass_of : SessionStart g.row.S.Denot g.row.K.Denot → PassState = λ s. s.pass in
-    each_given (λ i t (r : Served). IsServed i t r.end r.tally.entries r.pass) pass_of (λ i (d : LaneState). new_pass (get_or lanes.items (i % length lanes.items) d).id 1)
-    c.in_ok-lanes.field-0.sessions.items c.in_ok-back.back.served.items
-    (λ i s low d. (c.in_ok-lanes.ensures.sessions i s low).1 d ∙ ap (λ n. new_pass (get_or lanes.items (i % n) d).id 1) (sym size))
-    c.in_ok-back.ensures.served
+    let known : EachAt (λ i (s : SessionStart g.row.S.Denot g.row.K.Denot). (d : LaneState) → s.pass ≡ new_pass (get_or lanes.items (i % length lanes.items) d).id 1) starts =
+    λ i s low d. (c.in_ok-lanes.ensures.sessions i s low).1 d ∙ ap (λ n. new_pass (get_or lanes.items (i % n) d).id 1) (sym size) in
+    let kept : c.of-starts.result.value.items ≡ starts = search rules in
+    subst (λ l. EachAt (λ i (s : SessionStart g.row.S.Denot g.row.K.Denot). (d : LaneState) → s.pass ≡ new_pass (get_or lanes.items (i % length lanes.items) d).id 1) l) (sym kept) known
+
+pub end_shift-requires-clause-served : goal.end_shift-requires-clause-served
+end_shift-requires-clause-served g c =
+    let kept : c.of-starts.result.value.items ≡ c.in_ok-lanes.field-0.sessions.items = search rules in
+    subst (λ l. EachPair (IsServed g.S.Source.remaining g.K.Sink.contents) l c.in_ok-back.back.served.items) (sym kept) c.in_ok-back.ensures.served
 
 pub end_shift-requires-clause-worked : goal.end_shift-requires-clause-worked
 end_shift-requires-clause-worked g c =
@@ -84,3 +91,17 @@ end_shift-requires-clause-worked g c =
           (λ k w low d. (c.in_ok-lanes.ensures.workers k w low).1 d)
           c.in_ok-back.ensures.worked,
     )
+
+pub returns : goal.returns
+returns g c =
+    let lanes = c.in_ok-lanes.field-0.lanes in
+    let starts = c.in_ok-lanes.field-0.sessions.items in
+    let size : length lanes.items ≡ c.args.setup.workers = sym lanes.ok.0 ∙ c.in_ok-lanes.ensures.counts.0 in
+    let of_ends : g.row.S.Denot × g.row.K.Denot → Streams = λ p. streams_of (g.S.Source.remaining p.0) (g.K.Sink.contents p.1) in
+    let ends_of : SessionStart g.row.S.Denot g.row.K.Denot → g.row.S.Denot × g.row.K.Denot = λ s. (s.reader, s.writer) in
+    let of_start : SessionStart g.row.S.Denot g.row.K.Denot → Streams = λ s. of_ends (ends_of s) in
+    let kept : c.of-starts.result.value.items ≡ starts = search rules in
+    let given : map of_start c.of-starts.result.value.items ≡ map of_ends c.args.setup.sessions.items =
+    ap (λ l. map of_start l) kept ∙ (sym (map-map of_ends ends_of starts) ∙ ap (λ l. map of_ends l) c.in_ok-lanes.ensures.ends) in
+    subst (λ n. IsShift (map of_ends c.args.setup.sessions.items) n c.in_ok-shift.shift) size
+    (subst (λ l. IsShift l (length lanes.items) c.in_ok-shift.shift) given c.in_ok-shift.ensures)

@@ -33,6 +33,7 @@ returns g c =
     let listed = c.in_ok-workers.workers.ok.0 in
     record {
       counts = (c.in_ok-lanes.ensures.0, omega (arith, worker_count, lane_count, made_is), c.in_ok-sessions.ensures.count);
+      ends = c.in_ok-sessions.ensures.ends;
       lanes = subst (λ l. EachAt (λ k (r : LaneState). HandsOut (new_lane r.id) r (1 + length (of_lane k n 0 sessions))) l) (sym end) (handed_out n made first last sessions handed made_is);
       sessions = λ i s low.
           let known = begun i s low in (

@@ -1,5 +1,5 @@
-use Rattle.std.proofs.Common.{rules, ◌≡◌, ℕ, ◌+◌, ◌%◌, ◌<◌, ◌≤◌, [], ◌∷◌, ◌++◌, length, set, sym, ap, ◌∙◌, subst, refl, arith, length-append, get_or}
-use Rattle.std.proofs.lemmas.List.{get_or_read}
+use Rattle.std.proofs.Common.{rules, ◌≡◌, ℕ, ◌%◌, ◌<◌, ◌≤◌, [], ◌∷◌, ◌++◌, length, map, set, sym, ap, ◌∙◌, subst, refl, arith, length-append, get_or}
+use Rattle.std.proofs.lemmas.List.{get_or_read, map-append}
 use Rattle.std.proofs.lemmas.Iterator.Consumers.{YieldsList-turn}
 use Rattle.std.proofs.lemmas.Iterator.Adapters.{YieldsList-from_vec}
 use Rattle.inbox.specs.States.{new_pass}
@@ -52,10 +52,12 @@ loop-reader-preserved g c =
     let kept = (c.loop-reader.invariant.2 j d within).id in
     let id : lane.id ≡ (get_or old j d).id = ap (λ (r : LaneState). r.id) (read d) ∙ kept in
     c.hand_out-pass.ensures.pass ∙ (ap (λ (r : LaneState). new_pass r.id 1) (sym c.index-lanes-lane.is) ∙ ap (λ i. new_pass i 1) id ∙ ap (λ m. new_pass (get_or old m d).id 1) falls) in
+    let ends : SessionStart g.row.S.Denot g.row.K.Denot → g.row.S.Denot × g.row.K.Denot = λ s. (s.reader, s.writer) in
     let P : ℕ → SessionStart g.row.S.Denot g.row.K.Denot → Type 0 = λ i s. (s.session ≡ i) × IsPassOf old (i % n) s.pass in
     let all = one_more (λ a b l. HandsOut a b (length l)) hands_more n old now j c.hand_out-pass.new.self starts start refl same falls within c.loop-reader.invariant.2 (λ d. subst (λ r. HandsOut r c.hand_out-pass.new.self 1) (sym c.index-lanes-lane.is ∙ read d) c.hand_out-pass.ensures.after) in (
       search (rules, longer),
       subst (EachAt P) (sym grown) (EachAt-push P starts start c.loop-reader.invariant.1 (numbered, given)),
       subst (λ m. EachLane (λ k a b. HandsOut a b (length (of_lane k n 0 c.push.new.self.items))) old (set now (c.len-session.result % m) c.hand_out-pass.new.self)) (sym same)
           (subst (λ l. EachLane (λ k a b. HandsOut a b (length (of_lane k n 0 l))) old (set now j c.hand_out-pass.new.self)) (sym grown) all),
+      ap (map ends) grown ∙ map-append ends starts (start ∷ []) ∙ ap (λ l. l ++ (c.in-Some.reader, c.in-Some.writer) ∷ []) c.loop-reader.invariant.3,
     )

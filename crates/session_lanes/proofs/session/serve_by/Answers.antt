@@ -1,5 +1,4 @@
-use Rattle.std.proofs.Common.{rules, ◌≡◌, [], sym, subst}
-use Rattle.session_lanes.specs.Ends.{HasEnded}
+use Rattle.std.proofs.Common.{rules}
 use Rattle.session_lanes.proofs.SessionLemmas.{has_ended}
 use Rattle.session_lanes.proofs.session.serve_by.Goals as goal
 

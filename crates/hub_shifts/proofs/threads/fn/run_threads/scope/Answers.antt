@@ -151,11 +151,11 @@ loop-start-2-preserved g c =
     let start = c.in-Some-start.start in
     let yielded = c.loop-start-2.yielded in
     let longer = length-append yielded (start ∷ []) in
-    let Handle : Type 0 = PromisedHandle Served ServedBy in
+    let Handle : Type 0 = PromisedHandle Served (ServedBy g.row.S.Denot g.row.K.Denot) in
     let kept : (vec_len c.match-spawn_with-3.serving ≤ vec_len c.loop-start-2.serving + 1) × (vec_capacity c.match-spawn_with-3.serving ≡ vec_capacity c.loop-start-2.serving)
-    × (c.match-spawn_with-3.all_started ≡ true → (c.loop-start-2.all_started ≡ true) × ((h : Handle) × (c.match-spawn_with-3.serving.items ≡ c.loop-start-2.serving.items ++ h ∷ []) × (h.promise.session ≡ start.session) × (h.promise.began.value ≡ start.pass))) =
+    × (c.match-spawn_with-3.all_started ≡ true → (c.loop-start-2.all_started ≡ true) × ((h : Handle) × (c.match-spawn_with-3.serving.items ≡ c.loop-start-2.serving.items ++ h ∷ []) × (h.promise.start.value ≡ start))) =
     elim c.match-spawn_with-3.branch [
-      | in-Ok-spawn_with w ↦ (search rules, search rules, λ yes. (search rules, (w.in-Ok-spawn_with.thread, search rules, search rules, search rules)))
+      | in-Ok-spawn_with w ↦ (search rules, search rules, λ yes. (search rules, (w.in-Ok-spawn_with.thread, search rules, search rules)))
       | in-Err-spawn_with w ↦ (search rules, search rules, λ yes. absurd (cc (w.all_started-is, yes)))
     ] in
     let at = c.loop-start-2.invariant.0 in
@@ -163,35 +163,36 @@ loop-start-2-preserved g c =
     let same = c.loop-start-2.invariant.2 in
     let a = kept.0 in
     let b = kept.1 in
-    let P : ℕ → SessionStart g.row.S.Denot g.row.K.Denot → Handle → Type 0 = λ k s h. (h.promise.session ≡ s.session) × (h.promise.began.value ≡ s.pass) in (
+    let P : ℕ → SessionStart g.row.S.Denot g.row.K.Denot → Handle → Type 0 = λ k s h. h.promise.start.value ≡ s in (
       omega (arith, longer, at),
       omega (arith, longer, short, a),
       omega (arith, same, b),
       λ yes.
           let more = kept.2 yes in
           let old = c.loop-start-2.invariant.3 more.0 in
-          (old.0, subst (EachPair P (yielded ++ start ∷ [])) (sym more.1.1) (EachPair-push P yielded c.loop-start-2.serving.items start more.1.0 old.1 (more.1.2, more.1.3))),
+          (old.0, subst (EachPair P (yielded ++ start ∷ [])) (sym more.1.1) (EachPair-push P yielded c.loop-start-2.serving.items start more.1.0 old.1 more.1.2)),
     )
 
 -- at the end the handles are those of all workers and all sessions
 pub returns-then-all_started : goal.returns-then-all_started
 returns-then-all_started g c =
     let HandleW : Type 0 = PromisedHandle (Worker g.row.L.Denot) WorkedBy in
-    let HandleS : Type 0 = PromisedHandle Served ServedBy in
+    let HandleS : Type 0 = PromisedHandle Served (ServedBy g.row.S.Denot g.row.K.Denot) in
     let Post : Type 0 = Worker g.row.L.Denot in
     let Seat : Type 0 = SessionStart g.row.S.Denot g.row.K.Denot in
     let posted : c.loop-start.yielded ≡ c.captures.workers.items = sym (map-id c.loop-start.yielded) ∙ (YieldsList-end (YieldsList-from_vec c.captures.workers.items (search rules) (search rules)) c.loop-start.yielded c.loop-start.start-iterator c.loop-start.yielded_by c.next.result c.next.new.self c.in-None.is c.next.ensures.steps).0 in
     let seated : c.loop-start-2.yielded ≡ c.captures.sessions.items = sym (map-id c.loop-start-2.yielded) ∙ (YieldsList-end (YieldsList-from_vec c.captures.sessions.items (search rules) (search rules)) c.loop-start-2.yielded c.loop-start-2.start-iterator c.loop-start-2.yielded_by c.next-in-loop-start-2.result c.next-in-loop-start-2.new.self c.in-None-start.is c.next-in-loop-start-2.ensures.steps).0 in
     let PW : ℕ → Post → HandleW → Type 0 = λ k s h. h.promise.began.value ≡ s.pass in
-    let PS : ℕ → Seat → HandleS → Type 0 = λ k s h. (h.promise.session ≡ s.session) × (h.promise.began.value ≡ s.pass) in
+    let PS : ℕ → Seat → HandleS → Type 0 = λ k s h. h.promise.start.value ≡ s in
+    let Keeps : ℕ → Seat → Served → Type 0 = IsServed g.S.Source.remaining g.K.Sink.contents in
     let AS : ℕ → Seat → Type 0 = λ i s. s.session ≡ i in
     let both = c.loop-start-2.invariant.3 c.if-all_started.true in
     if_ok_two _ _ _
     (λ b served worked.
     let handles : EachPair PS c.captures.sessions.items c.loop-start-2.serving.items = subst (λ l. EachPair PS l c.loop-start-2.serving.items) seated both.1 in
     let hands : EachPair PW c.captures.workers.items c.loop-start.working.items = subst (λ l. EachPair PW l c.loop-start.working.items) posted (c.loop-start.invariant.3 both.0) in (
-      through AS PS (λ i h r. IsServed h.promise.session h.promise.began.value r.end r.tally.entries r.pass) (λ i s r. IsServed i s.pass r.end r.tally.entries r.pass)
-          (λ i s h r a p q. subst (λ n. IsServed n s.pass r.end r.tally.entries r.pass) (p.0 ∙ a) (subst (λ t. IsServed h.promise.session t r.end r.tally.entries r.pass) p.1 q))
+      through AS PS (λ i h r. Keeps h.promise.start.value.session h.promise.start.value r) Keeps
+          (λ i s h r a p q. subst (λ n. Keeps n s r) a (subst (λ t. Keeps t.session t r) p q))
           c.captures.sessions.items c.loop-start-2.serving.items b.served.items (λ k d low. (c.requires.0.sessions_are k d low).0) handles served,
       through (λ k s. Unit {0}) PW (λ k h r. IsWorked h.promise.began.value r.pass r.seat) (λ k s r. IsWorked s.pass r.pass r.seat)
           (λ k s h r a p q. subst (λ t. IsWorked t r.pass r.seat) p q)

@@ -16,4 +16,4 @@ invariant-loop-start-2 g l =
     (l.place ≡ length l.yielded)
     × (vec_len l.serving ≤ length l.yielded)
     × (vec_capacity l.serving ≡ vec_capacity l.initial.serving)
-    × (l.all_started ≡ true → (l.initial.all_started ≡ true) × EachPair (λ k s h. (h.promise.session ≡ s.session) × (h.promise.began.value ≡ s.pass)) l.yielded l.serving.items)
+    × (l.all_started ≡ true → (l.initial.all_started ≡ true) × EachPair (λ k s h. h.promise.start.value ≡ s) l.yielded l.serving.items)
