@@ -1,7 +1,7 @@
 -- What an acknowledgement changes.
 use Rattle.std.proofs.Common.{◌≡◌, ℕ, ◌<◌, ◌≤◌, Bool, true, false, cond, length, List, [], ◌∷◌, ◌++◌, Option, Some, None, refl, ap, ◌∙◌, sym, subst, leb, inl, inr}
 use Rattle.std.specs.Prelude.{Result, Ok, Err, IsOk, IfOk, IfErr, OnOk, OnErr, ◌↔◌, max, bytes_eq}
-use Rattle.std.proofs.lemmas.Bool.{le-ltb, lt-ltb, leb-true, leb-false, cases_Bool}
+use Rattle.std.proofs.lemmas.Bool.{le-ltb, lt-ltb, leb-true, leb-false, cases_Bool, false≢true}
 use Rattle.taf_codes.specs.declared.code.Railway.{Railway}
 use Rattle.taf_codes.specs.Equality.{texts}
 use Rattle.taf_messages.specs.declared.call.Call.TheVariants.{Ack}
@@ -26,13 +26,10 @@ keeps_acked acks true k new bodies a m n is keeps h =
     subst (λ (c : OutboxState). Keeps c bodies m) (sym is) (subst (λ (c : ℕ). Keeps (acknowledged_up_to k n) bodies c) (sym (h refl).1) (acks k bodies a n keeps (h refl).0))
 keeps_acked acks false k new bodies a m n is keeps h = subst (λ (c : OutboxState). Keeps c bodies a) (sym is) keeps
 
-never : false ≡ true → ⊥
-never h = cc
-
 -- a number that cannot be at most the last is past it
 is_past : (n last : ℕ) → (n ≤ last → false ≡ true) → last < n
 is_past n last h = elim (cases_Bool (leb n last)) [
-  | inl e ↦ absurd (never (h (leb-true n last e)))
+  | inl e ↦ absurd (false≢true (h (leb-true n last e)))
   | inr e ↦ leb-false n last e
 ]
 

@@ -70,12 +70,6 @@ pub record Applies (old new : State) (call : Call) (result : Result Reply Memory
   pub grows : IfOk result (λ r. new.history.entries ≡ old.history.entries ++ record { call = call; reply = r } ∷ [])
   pub err : OnErr result (new.history.entries ≡ old.history.entries)
 
--- what is looked up stays
-pub record SameLookups (a b : State) : Type 0 where
-  pub tables : table_state b.tables ≡ table_state a.tables
-  pub positions : (by : Railway) (n : ℕ) → position_of b.seen by n ≡ position_of a.seen by n
-  pub boxes : (r : Railway) → outbox_state_of b.outboxes r ≡ outbox_state_of a.outboxes r
-
 -- the reply to an acknowledgement that stands, or is ahead
 abbrev pub ack_outcome_reply : Result ℕ AckAhead → Reply
 ack_outcome_reply (Ok stands) = Acknowledged stands

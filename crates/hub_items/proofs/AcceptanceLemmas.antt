@@ -1,7 +1,8 @@
 -- An acceptable message goes on with the journeys of its wagons.
-use Rattle.std.proofs.Common.{◌≡◌, ℕ, Bool, true, false, List, [], ◌∷◌, ◌++◌, Option, None, refl, ap, ◌∙◌, sym}
+use Rattle.std.proofs.Common.{◌≡◌, ℕ, Bool, true, List, [], ◌∷◌, ◌++◌, Option, None, refl, ap, ◌∙◌, sym}
 use Rattle.std.specs.Prelude.{◌||◌, filter_map, option_map}
 use Rattle.std.specs.List.{cons_option}
+use Rattle.std.proofs.lemmas.Bool.{or_right}
 use Rattle.hub_items.proofs.UnchangedEstimateLemmas.{same_number}
 use Rattle.trip_plan.specs.Rules.{has}
 use Rattle.taf_messages.specs.declared.message.Message.{Message}
@@ -31,16 +32,12 @@ same_lead : (s : HubState) (m : Message) (w : ℕ) → tables.IsAcceptable s m �
 same_lead s m w a g h =
     ap (option_map (λ p. p.lead)) (sym (plan-kept (s.journey w) (event_for s.offer m w) (a.admitted g w h))) ∙ ap lead_of (sym (comes_last s m w a g h))
 
-has_rest : (b c : Bool) → c ≡ true → (b || c) ≡ true
-has_rest true c h = refl
-has_rest false c h = h
-
 -- functions that agree on each of the wagons take the same of them
 taken_alike : {B : Type 0} (f g : ℕ → Option B) (ws : List ℕ) → ((w : ℕ) → has ws w ≡ true → f w ≡ g w) → filter_map f ws ≡ filter_map g ws
 taken_alike f g [] h = refl
 taken_alike f g (w ∷ ws) h =
     let first = h w (ap (λ (b : Bool). b || has ws w) (same_number w)) in
-    let others = taken_alike f g ws (λ v k. h v (has_rest _ (has ws v) k)) in
+    let others = taken_alike f g ws (λ v k. h v (or_right _ (has ws v) k)) in
     λ i. cons_option (first i) (others i)
 
 -- the leads of its wagons are those before it

@@ -11,8 +11,8 @@ use Rattle.journey.specs.declared.event.Event.{Event}
 use Rattle.journey.specs.declared.event.EventBody.TheVariants.{Planned}
 use Rattle.journey.specs.Stages.{leg_index}
 use Rattle.journey.specs.Legs.{legs}
-use Rattle.eti_chain.specs.Estimates.{estimate, estimates, fits}
-use Rattle.eti_chain.proofs.CalendarLemmas.{no_end, fits-no_anchor}
+use Rattle.eti_chain.specs.Estimates.{estimate, estimates}
+use Rattle.eti_chain.proofs.CalendarLemmas.{no_end}
 use Rattle.hub_model.specs.HubState.{HubState, named_wagons, journey_after}
 use Rattle.hub_model.specs.Items.{estimate_items, is_news, estimate_item}
 use Rattle.hub_model.proofs.NoFaultLemmas.{planned_anew}
@@ -42,6 +42,3 @@ planned_estimates s m p w e h =
     let after = begun s m p w e h in
     ap (λ es. estimate_items (s.journey w) es w) after ∙
     ap (λ es. flat_map (estimate_item (planned m.by m.no p ∷ []) w) (filter (is_news (s.journey w) (planned m.by m.no p ∷ [])) es)) (no_estimates m.by m.no p)
-
-pub planned_fits : (by : Railway) (number : ℕ) (p : Trip) → fits (planned by number p ∷ []) ≡ true
-planned_fits by number p = let events : List Event = planned by number p ∷ [] in fits-no_anchor (leg_index events) (legs events)

@@ -8,6 +8,7 @@ use Rattle.std.proofs.lemmas.Grind.{flat_map-append}
 use Rattle.std.proofs.lemmas.Slice.Eq.{bytes_eq-Decides}
 use Rattle.taf_codes.specs.declared.code.Railway.{Railway}
 use Rattle.hub_model.specs.Items.{each_once}
+use Rattle.eti_chain.proofs.CalendarLemmas.{same_test}
 
 -- what a function of lists gives of one item more comes at the end
 pub record Grows {A B : Type 0} (g : List A → List B) (h : A → List B) : Type 0 where
@@ -20,9 +21,6 @@ so_far g h grow xs i x start before now lt is b n =
     n ∙ ap (λ ys. ys ++ h x) b ∙ append_assoc start (g (take i xs)) (h x) ∙ ap (λ ys. start ++ ys) (sym (grow.grows (take i xs) x)) ∙
     ap (λ y. start ++ g (take i xs ++ y ∷ [])) is ∙ ap (λ ys. start ++ g ys) (sym (take_more xs i x lt))
 
-pub map_grows : {A B : Type 0} (f : A → B) → Grows (map f) (λ x. f x ∷ [])
-map_grows f = record { grows = λ xs x. map-append f xs (x ∷ []) }
-
 pub flat_map_grows : {A B : Type 0} (f : A → List B) → Grows (flat_map f) f
 flat_map_grows f = record { grows = λ xs x. flat_map-append f xs (x ∷ []) ∙ ap (λ ys. flat_map f xs ++ ys) (append-nil (f x)) }
 
@@ -33,26 +31,12 @@ one_taken f x (Some y) e = rw e refl
 pub filter_map_grows : {A B : Type 0} (f : A → Option B) → Grows (filter_map f) (λ x. option_to_list (f x))
 filter_map_grows f = record { grows = λ xs x. filter_map-append f xs (x ∷ []) ∙ ap (λ ys. filter_map f xs ++ ys) (one_taken f x (f x) refl) }
 
-one_passed : {A B : Type 0} (f : A → List B) (x : A) (passes : Bool) → flat_map f (cond passes (x ∷ []) []) ≡ cond passes (f x) []
-one_passed f x true = append-nil (f x)
-one_passed f x false = refl
-
-pub passed_grows : {A B : Type 0} (f : A → List B) (p : A → Bool) → Grows (λ xs. flat_map f (filter p xs)) (λ x. cond (p x) (f x) [])
-passed_grows f p = record {
-  grows = λ xs x. ap (flat_map f) (filter-append p xs (x ∷ [])) ∙ flat_map-append f (filter p xs) (cond (p x) (x ∷ []) []) ∙ ap (λ ys. flat_map f (filter p xs) ++ ys) (one_passed f x (p x));
-}
-
 -- the railway is among these
 abbrev pub is_among : List Railway → Railway → Bool
 is_among rs r = list_any (λ q. bytes_eq q r) rs
 
-same_bool : (a b : Bool) → (a ≡ true → b ≡ true) → (b ≡ true → a ≡ true) → a ≡ b
-same_bool true b f g = sym (f refl)
-same_bool false true f g = g refl
-same_bool false false f g = refl
-
 turned : (q r : Railway) → bytes_eq r q ≡ bytes_eq q r
-turned q r = same_bool _ _ (λ h. (bytes_eq-Decides q r).1 (sym ((bytes_eq-Decides r q).0 h))) (λ h. (bytes_eq-Decides r q).1 (sym ((bytes_eq-Decides q r).0 h)))
+turned q r = same_test _ _ (λ h. (bytes_eq-Decides q r).1 (sym ((bytes_eq-Decides r q).0 h))) (λ h. (bytes_eq-Decides r q).1 (sym ((bytes_eq-Decides q r).0 h)))
 
 sieved : (a : Bool) (r : Railway) → cond (not a) (r ∷ []) [] ≡ cond (a || false) [] (r ∷ [])
 sieved true r = refl
@@ -107,8 +91,3 @@ passed_counted {A} g p f n start before now b s =
     ap (flat_map g) (filter-append p done last) ∙ flat_map-append g (filter p done) (filter p last) in
     s ∙ ap (λ ys. ys ++ flat_map g (filter p last)) b ∙ append_assoc start (flat_map g (filter p done)) (flat_map g (filter p last)) ∙
     ap (λ ys. start ++ ys) (sym both ∙ ap (λ xs. flat_map g (filter p xs)) (counted f n done (done ++ last) refl refl))
-
--- the same of one alone
-pub passed_one : {A B : Type 0} (g : A → List B) (p : A → Bool) (x : A) (found : Option A) → found ≡ Some x →
-    flat_map g (filter p (option_to_list found)) ≡ cond (p x) (g x) []
-passed_one g p x found e = ap (λ o. flat_map g (filter p (option_to_list o))) e ∙ one_passed g x (p x)

@@ -32,8 +32,9 @@ use Rattle.hub_model.proofs.JourneyLengthLemmas.{IsTrackState, kept_from, kept_a
 use Rattle.hub_model.proofs.StepLemmas.{state_after-push, state_of-push, step-journey}
 use Rattle.hub_model.proofs.OfferOpeningLemmas.{none_fault}
 use Rattle.hub_model.proofs.JourneyLemmas.{acks_journey}
-use Rattle.hub_model.proofs.ReceiverLemmas.{has_left, share_taker}
+use Rattle.hub_model.proofs.ReceiverLemmas.{share_taker}
 use Rattle.hub_model.proofs.ResponsibleEventLemmas.{IsConsistent, consistent-push, consistent_anew, consistent_nothing, none_anew, none_delivered, taker_is, event_becomes, event_stops, text_is}
+use Rattle.hub_model.proofs.DependencyLemmas.{has-left}
 
 -- what is said of a wagon begins its journey anew, or the message is no plan
 plan_or_not : (offers : Offers) (by : Railway) (says : Body) (w : ℕ) → (is_plan (event_body_for offers by says w) ≡ true) ⊎ NoPlan says
@@ -160,7 +161,7 @@ answered_from : (s : HubState) (all : AreConsistent s) (by : Railway) (number : 
 answered_from s all by number a w r f received h =
     let whole = no_whole_fault s (msg by number (body.Answer a)) f in
     let fits = answer_fits s by a whole in
-    let inside = listed (wagons_of (s.offer a.offerer a.offer)) (a.received ++ a.refused) w fits.1 (has_left a.received a.refused w received) in
+    let inside = listed (wagons_of (s.offer a.offerer a.offer)) (a.received ++ a.refused) w fits.1 (has-left a.received a.refused w received) in
     let offered = all.sound.offered a.offerer a.offer w fits.0 inside in
     let same : a.offerer ≡ r = same_Some a.offerer r (sym ((all.each w).offerer (a.offerer, a.offer) offered) ∙ h) in
     let asked = asked_answers s by a whole in (

@@ -47,7 +47,7 @@ pub record ReadsAlike (s t : HubState) (m : Message) : Type 0 where
 pub has-left : (ws vs : List ℕ) (w : ℕ) → has ws w ≡ true → has (ws ++ vs) w ≡ true
 has-left ws vs w h = list_any-append (λ v. eqb v w) ws vs ∙ or_left _ _ h
 
-has_first : (w : ℕ) (ws : List ℕ) → has (w ∷ ws) w ≡ true
+pub has_first : (w : ℕ) (ws : List ℕ) → has (w ∷ ws) w ≡ true
 has_first w ws = or_left _ _ (eq-eqb w w refl)
 
 reads_body : (s t : HubState) (by : Railway) (number : ℕ) (says : Body) → AreSameAt s t (msg by number says) → ReadsAlike s t (msg by number says)

@@ -23,7 +23,7 @@ use Rattle.replay_numbers.specs.Names.{same_name}
 use Rattle.hub_model.proofs.NamedWagonLemmas.{from_same_name, same_name_true}
 use Rattle.hub_model.proofs.FrameLemmas.{journey-other, plan_of-other, unit_plan-other, offer-other, is_open-other, first_send-other, reply-same, journey-same, plan_of-same, unit_plan-same, offer-same, is_open-same, first_send-same, added-same}
 use Rattle.hub_model.proofs.ApartLemmas.{AreApart-sym, from_apart, counts_named}
-use Rattle.hub_model.proofs.UnitFrameLemmas.{KnowsPlans, knows_plans, busy-other}
+use Rattle.hub_model.proofs.UnitFrameLemmas.{KnowsPlans, knows_plans, busy-other, some_was, none_is_some}
 
 -- after a message that is apart, the other finds the same
 same_after : (s : HubState) → KnowsPlans s → (m n : Message) → AreApart s m n → AreSameAt s (step s (Send n)) m
@@ -36,21 +36,15 @@ same_after s kn m n p = record {
   first_sends = sym (first_send-other s n m.by m.no (λ e f. p.names (sym e) (sym f)));
 }
 
-none_some : {A : Type 0} (x : A) → Path (Option A) None (Some x) → ⊥
-none_some x e = cc
-
 some_is : {A : Type 0} (x y : A) → x ≡ y → Path (Option A) (Some x) (Some y)
 some_is x y e = cc
-
-some_was : {A : Type 0} (x y : A) → Path (Option A) (Some x) (Some y) → x ≡ y
-some_was x y e = cc
 
 pair_is : (by also : Railway) (n k : ℕ) → by ≡ also → n ≡ k → Path (Railway × ℕ) (by, n) (also, k)
 pair_is by also n k e f = cc
 
 -- what decides whether a message gives a name
 gives_text : (o : Option ConsignmentId) (c : ConsignmentId) → Path (Option ConsignmentId) o (Some c) ⊎ (Path (Option ConsignmentId) o (Some c) → ⊥)
-gives_text None c = inr (λ e. none_some c e)
+gives_text None c = inr (λ e. none_is_some c e)
 gives_text (Some a) c =
     elim (cases_Bool (bytes_eq a c)) [
       | inl e ↦ inl (some_is a c ((bytes_eq-Decides a c).0 e))
@@ -58,7 +52,7 @@ gives_text (Some a) c =
     ]
 
 gives_name : (o : Option (Railway × ℕ)) (by : Railway) (k : ℕ) → Path (Option (Railway × ℕ)) o (Some (by, k)) ⊎ (Path (Option (Railway × ℕ)) o (Some (by, k)) → ⊥)
-gives_name None by k = inr (λ e. none_some (by, k) e)
+gives_name None by k = inr (λ e. none_is_some (by, k) e)
 gives_name (Some a) by k =
     elim (cases_Bool (same_name a.0 a.1 by k)) [
       | inl e ↦ (let parts = from_same_name a.0 by a.1 k e in inl (some_is a (by, k) (pair_is a.0 by a.1 k parts.0 parts.1)))

@@ -1,5 +1,5 @@
 -- Plans, offers and items that are carried along are those of the accepted messages.
-use Rattle.std.proofs.Common.{◌≡◌, ℕ, Bool, true, false, cond, List, [], ◌∷◌, ◌++◌, Option, Some, None, refl, ap, ◌∙◌, sym, append_assoc, append-nil}
+use Rattle.std.proofs.Common.{◌≡◌, ℕ, Bool, true, false, cond, List, [], ◌∷◌, ◌++◌, Option, None, refl, ap, ◌∙◌, sym, append_assoc, append-nil}
 use Rattle.std.specs.Prelude.{map, filter, flat_map, bytes_eq}
 use Rattle.std.specs.Option.{option_or}
 use Rattle.std.specs.List.{fold}
@@ -22,22 +22,15 @@ use Rattle.hub_model.specs.Updates.{after_call, plan_given, unit_plan_given, off
 use Rattle.hub_model.specs.Histories.{step}
 use Rattle.hub_model.specs.AcceptedMessages.{accepts, accepted_message, accepted_from, offers_in, items_from}
 use Rattle.hub_model.proofs.StepLemmas.{step-plan_of, step-unit_plan, step-offer, step-outbox}
+use Rattle.journey.proofs.NewestLemmas.{option_or-none, option_or_assoc}
 
 -- a look-up that no acknowledgement changes
 abbrev pub IgnoresAcks : {A : Type 0} → (HubState → A) → Type 0
 IgnoresAcks look = (s : HubState) (by : Railway) (k : ℕ) (reply : Reply) → look (after_call s (Ack by k) reply) ≡ look s
 
-pub or_none : {B : Type 0} (o : Option B) → option_or o None ≡ o
-or_none None = refl
-or_none (Some x) = refl
-
-pub option_or-assoc : {B : Type 0} (a b c : Option B) → option_or (option_or a b) c ≡ option_or a (option_or b c)
-option_or-assoc None b c = refl
-option_or-assoc (Some x) b c = refl
-
 pub newest-append : {A B : Type 0} (f : A → Option B) (xs ys : List A) → newest f (xs ++ ys) ≡ option_or (newest f ys) (newest f xs)
-newest-append f [] ys = sym (or_none (newest f ys))
-newest-append f (x ∷ xs) ys = rw (newest-append f xs ys) (option_or-assoc (newest f ys) (newest f xs) (f x))
+newest-append f [] ys = sym (option_or-none (newest f ys))
+newest-append f (x ∷ xs) ys = rw (newest-append f xs ys) (option_or_assoc (newest f ys) (newest f xs) (f x))
 
 -- a look-up of the newest that accepted messages give
 module _ {B : Type 0} (look : HubState → Option B) (f : Message → Option B) (acks : IgnoresAcks look)
@@ -59,11 +52,11 @@ module _ {B : Type 0} (look : HubState → Option B) (f : Message → Option B) 
   newest_all s (call ∷ calls) =
       newest_all (step s call) calls ∙
       ap (option_or (newest f (accepted_from (step s call) calls))) (newest_step s call) ∙
-      sym (option_or-assoc (newest f (accepted_from (step s call) calls)) (newest f (accepted_message s call)) (look s)) ∙
+      sym (option_or_assoc (newest f (accepted_from (step s call) calls)) (newest f (accepted_message s call)) (look s)) ∙
       ap (λ o. option_or o (look s)) (sym (newest-append f (accepted_message s call) (accepted_from (step s call) calls)))
 
   pub newest_of : look new_state ≡ None → (calls : List Call) → look (fold step new_state calls) ≡ newest f (accepted_from new_state calls)
-  newest_of e calls = newest_all new_state calls ∙ ap (option_or (newest f (accepted_from new_state calls))) e ∙ or_none (newest f (accepted_from new_state calls))
+  newest_of e calls = newest_all new_state calls ∙ ap (option_or (newest f (accepted_from new_state calls))) e ∙ option_or-none (newest f (accepted_from new_state calls))
 
 acks_plan_of : (c : ConsignmentId) → IgnoresAcks (λ s. s.plan_of c)
 acks_plan_of c s by k (Acknowledged n) = refl

@@ -2,7 +2,7 @@
 use Rattle.std.proofs.Common.{◌≡◌, ℕ, ◌+◌, Bool, true, false, cond, not, List, [], ◌∷◌, ◌++◌, length, drop, get_or, Option, Some, None, refl, ap, ◌∙◌, sym, subst, inl, inr, eqb, append_assoc}
 use Rattle.std.specs.Prelude.{◌&&◌, is_some, is_none, map, filter, flat_map, filter_map, slice_get, option_map, option_to_list, option_and_then, bytes_eq, All, Contains}
 use Rattle.std.specs.List.{cons_option, fold, list_any}
-use Rattle.std.proofs.lemmas.Bool.{false≢true, or_cases, or_left, or_right, eq-eqb, cond_both, false_from_ne_true}
+use Rattle.std.proofs.lemmas.Bool.{false≢true, or_cases, or_right, cond_both, false_from_ne_true}
 use Rattle.std.proofs.lemmas.Option.{none-some, same_Some, slice_get-map, slice_get_within, get_or_from_slice_get, slice_get-get_or}
 use Rattle.std.proofs.lemmas.List.Elements.{All-nil, All-cons, All-head, All-tail, All-append, All-map, All-filter, All-drop, All-weaker, All-contains_itself, Contains-append_right}
 use Rattle.std.proofs.lemmas.Slice.Eq.{bytes_eq-Decides}
@@ -50,6 +50,7 @@ use Rattle.hub_model.proofs.ListLemmas.{outbox_list}
 use Rattle.hub_model.proofs.NoFaultLemmas.{msg}
 use Rattle.hub_model.proofs.StepLemmas.{state_after-push, step-first_send}
 use Rattle.hub_model.proofs.ResponsibleEventLemmas.{text_is}
+use Rattle.hub_model.proofs.DependencyLemmas.{has_first}
 
 -- the railway of a leg is among those of the legs
 pub in_runners : (ls : List Leg) (i : ℕ) (r : Railway) → option_map (λ l. l.ru) (slice_get ls i) ≡ Some r → Contains (runners ls) r
@@ -170,9 +171,6 @@ each_option P (Some x) h = All-cons P x [] (h x refl) (All-nil P)
 each_cons : {A : Type 0} (P : A → Type 0) (o : Option A) (xs : List A) → ((x : A) → o ≡ Some x → P x) → All P xs → All P (cons_option o xs)
 each_cons P None xs h all = all
 each_cons P (Some x) xs h all = All-cons P x xs (h x refl) all
-
-has_first : (w : ℕ) (ws : List ℕ) → has (w ∷ ws) w ≡ true
-has_first w ws = or_left (eqb w w) (has ws w) (eq-eqb w w refl)
 
 has_rest : (w v : ℕ) (ws : List ℕ) → has ws v ≡ true → has (w ∷ ws) v ≡ true
 has_rest w v ws h = or_right (eqb w v) (has ws v) h

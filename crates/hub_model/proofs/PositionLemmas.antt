@@ -20,7 +20,7 @@ use Rattle.hub_model.specs.Updates.{after_acceptance, after_new, after_call, aft
 use Rattle.hub_model.specs.AcceptedMessages.{send_of_name}
 use Rattle.hub_model.specs.Bounds.{StandsAt, FirstSendsStand}
 use Rattle.hub_model.proofs.NamedWagonLemmas.{from_same_name}
-use Rattle.hub_model.proofs.ListLemmas.{or_none, option_or-assoc}
+use Rattle.journey.proofs.NewestLemmas.{option_or-none, option_or_assoc}
 
 -- the first of a name stays, and a message is the first of its name where there was none
 first_new : (s : HubState) (m : Message) (reply : Reply) (b : Bool) (by : Railway) (n : ℕ) → (cond b (after_acceptance s m) s).first_send by n ≡ s.first_send by n
@@ -30,9 +30,9 @@ first_new s m reply false by n = refl
 first_cases : (m : Message) (reply : Reply) (first before now : Option FirstSend) (same : Bool) → (same ≡ true → before ≡ first) → now ≡ before →
     cond (is_some first) before (cond same (Some (record { message = m; reply = reply })) now) ≡ option_or before (cond same (Some (record { message = m; reply = reply })) None)
 first_cases m reply None before now true h e = rw (h refl) refl
-first_cases m reply None before now false h e = e ∙ sym (or_none before)
+first_cases m reply None before now false h e = e ∙ sym (option_or-none before)
 first_cases m reply (Some x) before now true h e = rw (h refl) refl
-first_cases m reply (Some x) before now false h e = sym (or_none before)
+first_cases m reply (Some x) before now false h e = sym (option_or-none before)
 
 look_either : (b : Bool) (s t : HubState) (by : Railway) (n : ℕ) → (cond b s t).first_send by n ≡ cond b (s.first_send by n) (t.first_send by n)
 look_either true s t by n = refl
@@ -44,19 +44,19 @@ first_after s by n (Send m) reply =
     first_cases m reply (s.first_send m.by m.no) (s.first_send by n) ((cond (is_accepted reply) (after_acceptance s m) s).first_send by n) (same_name m.by m.no by n)
     (λ h. let e = from_same_name m.by by m.no n h in ap (λ r. s.first_send r n) (sym e.0) ∙ ap (λ k. s.first_send m.by k) (sym e.1))
     (first_new s m reply (is_accepted reply) by n)
-first_after s by n (Ack r k) (Acknowledged i) = sym (or_none (s.first_send by n))
-first_after s by n (Ack r k) _ = sym (or_none (s.first_send by n))
-first_after s by n (Ask r w) reply = sym (or_none (s.first_send by n))
-first_after s by n (AskUnit r u) reply = sym (or_none (s.first_send by n))
-first_after s by n (Deviation r c) reply = sym (or_none (s.first_send by n))
-first_after s by n (Fetch r limit) reply = sym (or_none (s.first_send by n))
+first_after s by n (Ack r k) (Acknowledged i) = sym (option_or-none (s.first_send by n))
+first_after s by n (Ack r k) _ = sym (option_or-none (s.first_send by n))
+first_after s by n (Ask r w) reply = sym (option_or-none (s.first_send by n))
+first_after s by n (AskUnit r u) reply = sym (option_or-none (s.first_send by n))
+first_after s by n (Deviation r c) reply = sym (option_or-none (s.first_send by n))
+first_after s by n (Fetch r limit) reply = sym (option_or-none (s.first_send by n))
 
 first_from : (s : HubState) (by : Railway) (n : ℕ) (history : List Entry) → (fold after s history).first_send by n ≡ option_or (s.first_send by n) (oldest (λ e. send_of_name by n e.call e.reply) history)
-first_from s by n [] = sym (or_none (s.first_send by n))
+first_from s by n [] = sym (option_or-none (s.first_send by n))
 first_from s by n (e ∷ history) =
     first_from (after s e) by n history ∙
     ap (λ o. option_or o (oldest (λ d. send_of_name by n d.call d.reply) history)) (first_after s by n e.call e.reply) ∙
-    option_or-assoc (s.first_send by n) (send_of_name by n e.call e.reply) (oldest (λ d. send_of_name by n d.call d.reply) history)
+    option_or_assoc (s.first_send by n) (send_of_name by n e.call e.reply) (oldest (λ d. send_of_name by n d.call d.reply) history)
 
 -- what is found first is found at the first place where something is found
 found_step : {A B : Type 0} (f : A → Option B) (x : A) (xs : List A) (k : ℕ) (o : Option B) → f x ≡ o → oldest f xs ≡ option_and_then f (slice_get xs k) →

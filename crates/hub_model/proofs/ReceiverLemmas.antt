@@ -3,8 +3,7 @@ use Rattle.std.proofs.Common.{◌≡◌, ℕ, Bool, true, false, cond, List, [],
 use Rattle.std.specs.Prelude.{◌&&◌, ◌||◌, is_some, filter_map}
 use Rattle.std.specs.Option.{option_or, option_and_then}
 use Rattle.std.specs.List.{list_any, cons_option}
-use Rattle.std.proofs.lemmas.Bool.{false≢true, or_left}
-use Rattle.std.proofs.lemmas.List.Folds.{list_any-append}
+use Rattle.std.proofs.lemmas.Bool.{false≢true}
 use Rattle.taf_codes.specs.declared.code.Railway.{Railway}
 use Rattle.trip_plan.specs.Rules.{has}
 use Rattle.taf_messages.specs.declared.message.Message.{Message}
@@ -22,8 +21,9 @@ use Rattle.hub_model.specs.Histories.{state_after}
 use Rattle.hub_model.specs.AcceptedMessages.{accepted_in, offers_in, event_if_named, events_from}
 use Rattle.hub_model.specs.Responsibility.{receiver_in, last_receiver, LastReceiverAnswers}
 use Rattle.hub_model.proofs.NoFaultLemmas.{msg}
-use Rattle.hub_model.proofs.ListLemmas.{or_none}
 use Rattle.hub_model.proofs.WagonEventLemmas.{journey_list}
+use Rattle.hub_model.proofs.DependencyLemmas.{has-left}
+use Rattle.journey.proofs.NewestLemmas.{option_or-none}
 
 abbrev took : Event → Option Railway
 took e = new_responsible e.by e.body
@@ -45,7 +45,7 @@ newest_part f p (x ∷ xs) h = in_part f x xs (from_last p xs) (list_any p xs) (
 
 newest_cons : {A B : Type 0} (f : A → Option B) (o : Option A) (rest : List A) → newest f (cons_option o rest) ≡ option_or (newest f rest) (option_and_then f o)
 newest_cons f (Some x) rest = refl
-newest_cons f None rest = sym (or_none (newest f rest))
+newest_cons f None rest = sym (option_or-none (newest f rest))
 
 newest_of_part : {A B C : Type 0} (f : B → Option C) (g : A → Option B) (xs : List A) → newest f (filter_map g xs) ≡ newest (λ x. option_and_then f (g x)) xs
 newest_of_part f g [] = refl
@@ -82,13 +82,10 @@ no_taker : (b : Bool) (e : Event) → took e ≡ None → option_and_then took (
 no_taker true e h = h
 no_taker false e h = refl
 
-pub has_left : (ws vs : List ℕ) (w : ℕ) → has ws w ≡ true → has (ws ++ vs) w ≡ true
-has_left ws vs w h = list_any-append (λ v. eqb v w) ws vs ∙ or_left (has ws w) (has vs w) h
-
 -- the event of a message hands the wagon to whom the message hands it
 pub share_taker : (offers : Offers) (by : Railway) (number : ℕ) (says : Body) (w : ℕ) → option_and_then took (event_if_named offers (msg by number says) w) ≡ receiver_in by says w
 share_taker offers by number (body.Movement v) w = moved_taker by number (Some v.at) v.what (eqb v.wagon w)
-share_taker offers by number (body.Answer a) w = answered_taker by number (Some a.at) _ (has a.received w) (has (a.received ++ a.refused) w) (has_left a.received a.refused w)
+share_taker offers by number (body.Answer a) w = answered_taker by number (Some a.at) _ (has a.received w) (has (a.received ++ a.refused) w) (has-left a.received a.refused w)
 share_taker offers by number (body.Plan p) w = no_taker _ (event_for offers (msg by number (body.Plan p)) w) refl
 share_taker offers by number (body.EtiAsk v) w = no_taker _ (event_for offers (msg by number (body.EtiAsk v)) w) refl
 share_taker offers by number (body.LegTime v leg minutes) w = no_taker _ (event_for offers (msg by number (body.LegTime v leg minutes)) w) refl

@@ -22,6 +22,7 @@ use Rattle.journey.specs.Checks.{checks, movement_checks, refusal, same_stage}
 use Rattle.journey.proofs.LegPositionLemmas.{stage-push}
 use Rattle.journey.proofs.OfferStageLemmas.{in_offer, offering, offering_by, in_offer-push}
 use Rattle.journey.proofs.SoundStateLemmas.{journey_state-push, passed}
+use Rattle.journey.proofs.OnItsWayLemmas.{taken_by}
 
 -- before the departure
 abbrev is_early : Option Stage → Bool
@@ -166,10 +167,6 @@ taker_is by (Moved Departure) r h = same_Some by r h
 taker_is by (Answered place received) r h = (cond_some received by r h).1
 taker_is by _ r h = absurd (none-some r h)
 
-departing : (by : Railway) (says : EventBody) → is_departure says ≡ true → is_some (new_responsible by says) ≡ true
-departing by (Moved Departure) h = refl
-departing by _ h = absurd (false≢true h)
-
 becomes_cases : (departed departs delivered delivers : Bool) (now last : Option Railway) (r : Railway) → (departs ≡ true → is_some now ≡ true) →
     cond ((departed || departs) && not (delivered || delivers)) (option_or now last) None ≡ Some r → (cond (departed && not delivered) last None ≡ Some r → ⊥) → now ≡ Some r
 becomes_cases departed departs delivered delivers (Some x) last r t h n = ap Some ((cond_some ((departed || departs) && not (delivered || delivers)) x r h).1)
@@ -183,7 +180,7 @@ becomes_cases false false delivered delivers None last r t h n = absurd (none-so
 pub event_becomes : (events : List Event) (e : Event) (r : Railway) → responsible (events ++ e ∷ []) ≡ Some r → (responsible events ≡ Some r → ⊥) → new_responsible e.by e.body ≡ Some r
 event_becomes events e r h n =
     becomes_cases (has_departed events) (is_departure e.body) (is_delivered events) (is_delivery e.body) (new_responsible e.by e.body) (newest (λ d. new_responsible d.by d.body) events) r
-    (departing e.by e.body) (sym (responsible-push events e) ∙ h) n
+    (taken_by e.by e.body) (sym (responsible-push events e) ∙ h) n
 
 stops_cases : (departed departs delivered delivers : Bool) (now last : Option Railway) (r : Railway) → cond (departed && not delivered) last None ≡ Some r →
     (cond ((departed || departs) && not (delivered || delivers)) (option_or now last) None ≡ Some r → ⊥) → (delivers ≡ true) ⊎ (is_some now ≡ true)

@@ -23,16 +23,16 @@ use Rattle.hub_model.specs.Histories.{step}
 use Rattle.hub_model.specs.AcceptedMessages.{send_of_name, entries_from, acknowledged_by, acknowledged_from, greatest}
 use Rattle.hub_model.proofs.NamedWagonLemmas.{from_same_name}
 use Rattle.hub_model.proofs.StepLemmas.{step-first_send, step-acknowledged}
-use Rattle.hub_model.proofs.ListLemmas.{or_none, option_or-assoc}
+use Rattle.journey.proofs.NewestLemmas.{option_or-none, option_or_assoc}
 
 -- the first of a name stays, and a message is the first of its name where there was none
 first_cases : (s : HubState) (m : Message) (first before : Option FirstSend) (same : Bool) → (same ≡ true → before ≡ first) →
     cond (is_none first && same) (Some (record { message = m; reply = verdict m.no (fault s m) })) before ≡
     option_or before (cond same (Some (record { message = m; reply = send_reply s m first })) None)
 first_cases s m None before true h = rw (h refl) refl
-first_cases s m None before false h = sym (or_none before)
+first_cases s m None before false h = sym (option_or-none before)
 first_cases s m (Some x) before true h = rw (h refl) refl
-first_cases s m (Some x) before false h = sym (or_none before)
+first_cases s m (Some x) before false h = sym (option_or-none before)
 
 acks_first : (s : HubState) (by r : Railway) (n k : ℕ) (reply : Reply) → (after_call s (Ack r k) reply).first_send by n ≡ s.first_send by n
 acks_first s by r n k (Acknowledged i) = refl
@@ -43,19 +43,19 @@ first_step s by n (Send m) =
     step-first_send s m by n ∙
     first_cases s m (s.first_send m.by m.no) (s.first_send by n) (same_name m.by m.no by n)
     (λ h. let e = from_same_name m.by by m.no n h in ap (λ r. s.first_send r n) (sym e.0) ∙ ap (λ k. s.first_send m.by k) (sym e.1))
-first_step s by n (Ack r k) = acks_first s by r n k (reply_to s (Ack r k)) ∙ sym (or_none (s.first_send by n))
-first_step s by n (Ask r w) = sym (or_none (s.first_send by n))
-first_step s by n (AskUnit r u) = sym (or_none (s.first_send by n))
-first_step s by n (Deviation r c) = sym (or_none (s.first_send by n))
-first_step s by n (Fetch r limit) = sym (or_none (s.first_send by n))
+first_step s by n (Ack r k) = acks_first s by r n k (reply_to s (Ack r k)) ∙ sym (option_or-none (s.first_send by n))
+first_step s by n (Ask r w) = sym (option_or-none (s.first_send by n))
+first_step s by n (AskUnit r u) = sym (option_or-none (s.first_send by n))
+first_step s by n (Deviation r c) = sym (option_or-none (s.first_send by n))
+first_step s by n (Fetch r limit) = sym (option_or-none (s.first_send by n))
 
 first_all : (s : HubState) (by : Railway) (n : ℕ) (calls : List Call) →
     (fold step s calls).first_send by n ≡ option_or (s.first_send by n) (oldest (λ e. send_of_name by n e.call e.reply) (entries_from s calls))
-first_all s by n [] = sym (or_none (s.first_send by n))
+first_all s by n [] = sym (option_or-none (s.first_send by n))
 first_all s by n (call ∷ calls) =
     first_all (step s call) by n calls ∙
     ap (λ o. option_or o (oldest (λ e. send_of_name by n e.call e.reply) (entries_from (step s call) calls))) (first_step s by n call) ∙
-    option_or-assoc (s.first_send by n) (send_of_name by n call (reply_to s call)) (oldest (λ e. send_of_name by n e.call e.reply) (entries_from (step s call) calls))
+    option_or_assoc (s.first_send by n) (send_of_name by n call (reply_to s call)) (oldest (λ e. send_of_name by n e.call e.reply) (entries_from (step s call) calls))
 
 pub first_send_list : (by : Railway) (n : ℕ) (calls : List Call) → (fold step new_state calls).first_send by n ≡ oldest (λ e. send_of_name by n e.call e.reply) (entries_from new_state calls)
 first_send_list by n calls = first_all new_state by n calls

@@ -33,23 +33,16 @@ use Rattle.hub_model.proofs.ListLemmas.{plan_of_list, unit_plan_list}
 use Rattle.hub_model.proofs.StepLemmas.{step-journey}
 use Rattle.hub_model.proofs.FrameLemmas.{journey-other, unit_plan-other}
 use Rattle.hub_model.proofs.ApartLemmas.{counts_named}
+use Rattle.journey.proofs.OnItsWayLemmas.{some_left, some_right}
 
 -- the plan of a unit is the plan of its consignment
 abbrev pub KnowsPlans : HubState → Type 0
 KnowsPlans s = (u : UnitCode) (p : Trip) → s.unit_plan u ≡ Some p → is_some (s.plan_of p.consignment) ≡ true
 
-some_or : {A : Type 0} (a b : Option A) → is_some a ≡ true → is_some (option_or a b) ≡ true
-some_or (Some x) b h = refl
-some_or None b h = absurd (false≢true h)
-
-or_some : {A : Type 0} (a b : Option A) → is_some b ≡ true → is_some (option_or a b) ≡ true
-or_some (Some x) b h = refl
-or_some None b h = h
-
-some_was : {A : Type 0} (x y : A) → Path (Option A) (Some x) (Some y) → x ≡ y
+pub some_was : {A : Type 0} (x y : A) → Path (Option A) (Some x) (Some y) → x ≡ y
 some_was x y e = cc
 
-none_is_some : {A : Type 0} (x : A) → Path (Option A) None (Some x) → ⊥
+pub none_is_some : {A : Type 0} (x : A) → Path (Option A) None (Some x) → ⊥
 none_is_some x e = cc
 
 its_plan : (b : Bool) (q p : Trip) → cond b (Some q) None ≡ Some p → is_some (cond (bytes_eq q.consignment p.consignment) (Some q) None) ≡ true
@@ -70,8 +63,8 @@ given_both (body.Reroute w route) u p h = absurd (none_is_some p h)
 
 either_given : (m : Message) (u : UnitCode) (p : Trip) (later : Option Trip) (rest : Option Trip) → (later ≡ Some p → is_some rest ≡ true) → option_or later (unit_plan_given m.body u) ≡ Some p →
     is_some (option_or rest (plan_given m.body p.consignment)) ≡ true
-either_given m u p (Some q) rest k h = some_or rest (plan_given m.body p.consignment) (k h)
-either_given m u p None rest k h = or_some rest (plan_given m.body p.consignment) (given_both m.body u p h)
+either_given m u p (Some q) rest k h = some_left rest (plan_given m.body p.consignment) (k h)
+either_given m u p None rest k h = some_right rest (plan_given m.body p.consignment) (given_both m.body u p h)
 
 known_in : (messages : List Message) (u : UnitCode) (p : Trip) → newest (λ m. unit_plan_given m.body u) messages ≡ Some p → is_some (newest (λ m. plan_given m.body p.consignment) messages) ≡ true
 known_in [] u p h = absurd (none_is_some p h)

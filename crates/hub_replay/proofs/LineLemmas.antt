@@ -80,9 +80,6 @@ IsTaken-append bytes next rest hs more t u = record {
 pub parsed_taken : (bytes : List ℕ) (hs : List ParsedLine) (rest : List ℕ) → IsTaken bytes hs rest → parsed_lines bytes ≡ hs ++ parsed_lines rest
 parsed_taken bytes hs rest t = sym (ap parsed_lines (append-nil bytes)) ∙ t.says [] ∙ ap (λ l. hs ++ parsed_lines l) (append-nil rest)
 
-pub false_true : false ≡ true → ⊥
-false_true e = cc
-
 -- a piece that is skipped as a whole
 pub IsCut-skipped : (chunk : List ℕ) → has_no_newline chunk ≡ true → IsCut chunk true [] true (drop (length chunk) chunk)
 IsCut-skipped chunk h =

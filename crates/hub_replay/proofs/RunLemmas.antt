@@ -1,6 +1,6 @@
 -- How a run goes on, and where it may stop.
 use Rattle.std.proofs.Common.{◌≡◌, ℕ, ◌+◌, ◌<◌, ◌≤◌, ◌^◌, nat_lt, true, false, cond, List, [], ◌∷◌, ◌++◌, length, Option, Result, Ok, Err, OnOk, OnErr, refl, ap, ◌∙◌, sym, subst, append_assoc, append-nil, length-append, arith, codes}
-use Rattle.std.proofs.lemmas.Bool.{lt-ltb}
+use Rattle.std.proofs.lemmas.Bool.{lt-ltb, false≢true}
 use Rattle.std.proofs.lemmas.List.Sums.{fold-append}
 use Rattle.std.specs.Prelude.{IfErr, IsErr}
 use Rattle.std.specs.Io.KnownBytes.{Appends, Keeps}
@@ -16,7 +16,6 @@ use Rattle.call_lines.specs.Lines.{reply_text}
 use Rattle.hub_replay.specs.Lines.{parsed_lines}
 use Rattle.hub_replay.specs.Outcomes.{Outcome, outcome, after, with_fault_line, with_reply_line, entry_of, one_fault_more, one_call_more, IsStopped, start_of, Answers}
 use Rattle.hub_replay.specs.Running.{IsUnderway, Advances, StopsWithin, IsLateFault, ExplainsFault, Blames, RunState, AnswersLines}
-use Rattle.hub_replay.proofs.LineLemmas.{false_true}
 use Rattle.hub_replay.proofs.StreamLemmas.{Appends-none, Appends-kept, Appends-append}
 
 pub outcome-append : (o : Outcome) (xs ys : List ParsedLine) → outcome o (xs ++ ys) ≡ outcome (outcome o xs) ys
@@ -67,17 +66,6 @@ IsStopped-underway start hs written entries front back counts u = record {
   within = append_assoc written front back ∙ sym (ap (λ (o : Outcome). o.output) u.sum) ∙ ap (λ l. (outcome start l).output) u.split;
   entered = sym (ap (λ (o : Outcome). o.entries) u.sum) ∙ ap (λ l. (outcome start l).entries) u.split;
   one = rw (u.answered) (omega arith);
-}
-
--- all that is pending is written
-pub IsUnderway-flushed : (start : Outcome) (hs : List ParsedLine) (written : List ℕ) (entries : List Entry) (pending : List ℕ) (counts : Counts) → IsUnderway start hs written entries pending counts → IsUnderway start hs (written ++ pending) entries [] counts
-IsUnderway-flushed start hs written entries pending counts u = record {
-  sum = u.sum ∙ ap (λ l. record { entries = entries; output = l; counts = counts }) (sym (append-nil (written ++ pending)));
-  complete = hs;
-  rest = [];
-  split = sym (append-nil hs);
-  flushed = ap (λ (o : Outcome). o.output) u.sum;
-  answered = ap (λ (o : Outcome). o.entries) u.sum;
 }
 
 -- a line that only adds to what is pending, and brings no entry
@@ -226,7 +214,7 @@ answers-lines (Err f) old new lines advances stops = stops
 
 -- with a fault the run stops among them
 pub stops-lines : {A : Type 0} (r : Result A RunFault) (old new : RunState) (lines : List ParsedLine) → IsErr r → StopsWithin old.written new.written old.entries old.output new.entries lines → AnswersLines r old new lines
-stops-lines (Ok x) old new lines e stops = absurd (false_true e)
+stops-lines (Ok x) old new lines e stops = absurd (false≢true e)
 stops-lines (Err f) old new lines e stops = stops
 
 pub on_err : {A E : Type 0} (r : Result A E) {R : Type 0} → R → OnErr r R

@@ -15,7 +15,7 @@ use Rattle.taf_messages.specs.declared.message.Body.{Body}
 use Rattle.taf_messages.specs.declared.message.Body.TheVariants as body
 use Rattle.interchange.specs.OfferTable.{offer_of, is_standing}
 use Rattle.interchange.specs.Offers.{matches, wagons_of}
-use Rattle.hub_model.specs.HubState.{HubState, new_state, named_wagons, wagons_in, journey_after}
+use Rattle.hub_model.specs.HubState.{HubState, new_state, named_wagons, wagons_in}
 use Rattle.hub_model.specs.Faults.{fault, whole_fault}
 use Rattle.hub_model.specs.Updates.{after_acceptance, plan_given, unit_plan_given, offer_given, opening_given, planned_in, fleet_after}
 use Rattle.hub_model.proofs.NoFaultLemmas.{no_whole_fault, answer_fits}
@@ -67,15 +67,6 @@ goes_taken old new m g on finds opens = record {
   offers = finds;
   opens = opens;
   keys = on.keys ∙ sym (append-nil (keys_of old.wagons)) ∙ ap (fleet_after (keys_of old.wagons)) (sym (none_planned m.body g));
-}
-
--- the same from tables that know the same
-pub goes_from : (old mid new : TableEntries) (m : Message) → table_state mid ≡ table_state old → mid.wagons ≡ old.wagons → mid.plans ≡ old.plans → mid.units ≡ old.units → ContinuesJourneys mid new m → ContinuesJourneys old new m
-goes_from old mid new m k w p u on = record {
-  events = λ v. on.events v ∙ ap (λ (s : HubState). journey_after s m v) k;
-  keys = on.keys ∙ ap keys_of w;
-  plans = on.plans ∙ p;
-  units = on.units ∙ u;
 }
 
 -- what a message gives that speaks of one wagon

@@ -1,5 +1,5 @@
 -- Journeys that go on in the table of wagons.
-use Rattle.std.proofs.Common.{◌≡◌, ℕ, Bool, true, false, cond, List, [], ◌∷◌, ◌++◌, length, Option, Some, None, IfSome, refl, sym, ap, subst, ◌∙◌, arith, true≢false, if◌then◌else◌}
+use Rattle.std.proofs.Common.{◌≡◌, ℕ, Bool, true, false, cond, List, [], ◌∷◌, ◌++◌, length, Option, Some, None, IfSome, refl, sym, ap, subst, ◌∙◌, arith, if◌then◌else◌}
 use Rattle.std.specs.Prelude.{nat_eq}
 use Rattle.std.specs.Option.{option_map_or}
 use Rattle.std.specs.List.{AllByRecursion, IsDistinct}
@@ -30,10 +30,6 @@ admitted_there wagons w j e found h = subst (λ (es : List Event). IsAdmitted es
 
 pub next_there : (wagons : List (ℕ × Journey)) (w : ℕ) (j : Journey) (e : Event) → lookup (nat_eq w) wagons ≡ Some j → MayComeNext (events_in wagons w) e → MayComeNext j.events e
 next_there wagons w j e found h = subst (λ (es : List Event). MayComeNext es e) (events_there wagons w j found) h
-
--- a wagon without journey is unknown
-pub not_there : (wagons : List (ℕ × Journey)) (w : ℕ) → lookup (nat_eq w) wagons ≡ None → is_unknown (events_in wagons w) ≡ false → ⊥
-not_there wagons w none begun = true≢false (sym (ap (λ (o : Option Journey). is_unknown (of_journey o)) none) ∙ begun)
 
 module _ (before after : List (ℕ × Journey)) (w : ℕ) (j k : Journey) (e : Event) (found : lookup (nat_eq w) before ≡ Some j) (put : k ≡ record j { events = j.events ++ e ∷ [] })
   where

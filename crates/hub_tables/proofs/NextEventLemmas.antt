@@ -2,7 +2,7 @@
 use Rattle.std.proofs.Common.{◌≡◌, ℕ, ◌+◌, ◌<◌, ◌≤◌, ◌^◌, ◌==◌, ◌||◌, Bool, true, false, cond, List, [], ◌∷◌, ◌++◌, length, map, get_or, refl, sym, ap, subst, ◌∙◌, arith, true≢false, if◌then◌else◌, inl, inr}
 use Rattle.std.specs.Prelude.{nat_lt, fold}
 use Rattle.std.specs.List.{list_all}
-use Rattle.std.proofs.lemmas.Bool.{and_parts, or_cases, eqb-true, cases_Bool}
+use Rattle.std.proofs.lemmas.Bool.{and_parts, or_cases, eqb-true, cases_Bool, or_right}
 use Rattle.std.proofs.lemmas.Bool.Decides.{Decides-ltb}
 use Rattle.std.proofs.lemmas.List.Folds.{list_any_at}
 use Rattle.std.proofs.lemmas.List.Sums.{sum_by-append}
@@ -19,6 +19,7 @@ use Rattle.hub_model.specs.HubState.{HubState, Offers, named_wagons, event_for, 
 use Rattle.hub_model.specs.Faults.{is_unknown}
 use Rattle.hub_tables.specs.TableStates.{IsAcceptable, continues_journeys}
 use Rattle.hub_tables.specs.Acceptance.{MayComeNext, IsAdmitted, AreAdmitted, with_event_on}
+use Rattle.trip_plan.proofs.WagonLemmas.{neither}
 
 -- no wagon of the list comes again
 abbrev pub Differ : List ℕ → Type 0
@@ -87,14 +88,6 @@ named_apart ws v w out inside = elim (cases_Bool (v == w)) [
   | inr e ↦ e
 ]
 
-none_of : (b any : Bool) → (b || any) ≡ false → (b ≡ false) × (any ≡ false)
-none_of true any h = absurd (true≢false h)
-none_of false any h = (refl, h)
-
-or_right : (b any : Bool) → any ≡ true → (b || any) ≡ true
-or_right true any h = refl
-or_right false any h = h
-
 module _ (e : ℕ → Event) where
   abbrev events : List ℕ → List (ℕ × Event)
   events ws = map (λ w. (w, e w)) ws
@@ -102,7 +95,7 @@ module _ (e : ℕ → Event) where
   put_none : (f : ℕ → List Event) (ws : List ℕ) (w : ℕ) → has ws w ≡ false → fold with_event_on f (events ws) w ≡ f w
   put_none f [] w h = refl
   put_none f (v ∷ ws) w h =
-      let parts = none_of (v == w) (has ws w) h in
+      let parts = neither (v == w) (has ws w) h in
       put_none (with_event_on f (v, e v)) ws w parts.1 ∙ put_other f (v, e v) w parts.0
 
   abbrev more : (ℕ → List Event) → Bool → ℕ → List Event

@@ -11,15 +11,15 @@ use Rattle.journey.specs.declared.event.EventBody.TheVariants.{Moved}
 use Rattle.journey.specs.Words.{newest}
 use Rattle.journey.specs.Stages.{responsible, is_on_its_way, is_departure, has_departed, new_responsible}
 
-taken_by : (by : Railway) (body : EventBody) → is_departure body ≡ true → is_some (new_responsible by body) ≡ true
+pub taken_by : (by : Railway) (body : EventBody) → is_departure body ≡ true → is_some (new_responsible by body) ≡ true
 taken_by by (Moved Departure) h = refl
 taken_by by _ h = cc
 
-some_left : {A : Type 0} (a b : Option A) → is_some a ≡ true → is_some (option_or a b) ≡ true
+pub some_left : {A : Type 0} (a b : Option A) → is_some a ≡ true → is_some (option_or a b) ≡ true
 some_left (Some x) b h = refl
 some_left None b h = cc
 
-some_right : {A : Type 0} (a b : Option A) → is_some b ≡ true → is_some (option_or a b) ≡ true
+pub some_right : {A : Type 0} (a b : Option A) → is_some b ≡ true → is_some (option_or a b) ≡ true
 some_right (Some x) b h = refl
 some_right None b h = h
 

@@ -24,6 +24,7 @@ use Rattle.journey.specs.Checks.{checks, route_checks, same_stage}
 use Rattle.journey.specs.TrackStates.{IsSound, IsTrackState, first_plan}
 use Rattle.journey.proofs.NewestLemmas.{newest-push}
 use Rattle.journey.proofs.LegPositionLemmas.{stage-push, plan-push, leg_index-push, legs-push, timed_length}
+use Rattle.journey.proofs.OnItsWayLemmas.{some_right}
 
 or-false : (a b : Bool) → (a || (b || false)) ≡ (a || b)
 or-false true b = refl
@@ -79,10 +80,6 @@ has_room s by (Offered place to) r = tt
 has_room s by (Answered place received) r = tt
 has_room s by (Withdrawn place) r = tt
 
-some_or : {A : Type 0} (a b : Option A) → is_some b ≡ true → is_some (option_or a b) ≡ true
-some_or (Some x) b h = refl
-some_or None b h = h
-
 -- a leg that a railway runs is there
 leg_is_there : (ls : List Leg) (i : ℕ) (by : Railway) → is_text (option_map (λ l. l.ru) (slice_get ls i)) by ≡ true → i < length ls
 leg_is_there [] i by h = cc
@@ -106,7 +103,7 @@ kept : (s : JourneyState) (e : Event) → IsSound s → is_reception e.body ≡ 
 kept s e k r l n =
     let index : index_after s.leg_index e.body ≡ s.leg_index = ap (λ b. s.leg_index + cond b 1 0) r ∙ add-zero s.leg_index in
     record {
-      staged = some_or (stage_after e.body) s.stage k.staged;
+      staged = some_right (stage_after e.body) s.stage k.staged;
       on_a_leg = let a = k.on_a_leg in omega arith;
       few_legs = let a = k.few_legs in omega arith;
       next_leg = λ h. let a = n h in omega arith;

@@ -1,5 +1,5 @@
 -- Records without lists, read without a tree.
-use Rattle.std.proofs.Common.{◌≡◌, ℕ, ◌+◌, ◌<◌, ◌≤◌, Bool, true, false, cond, List, [], ◌∷◌, ◌++◌, length, take, get_or, Option, Some, None, option_map, option_and_then, bytes_eq, refl, sym, ap, ◌∙◌, arith, append-nil, true≢false, subst}
+use Rattle.std.proofs.Common.{◌≡◌, ℕ, ◌+◌, ◌-◌, ◌<◌, ◌≤◌, Bool, true, false, cond, List, [], ◌∷◌, ◌++◌, length, take, get_or, Option, Some, None, option_map, option_and_then, bytes_eq, refl, sym, ap, ◌∙◌, arith, append-nil, true≢false, subst}
 use Rattle.std.specs.Prelude.{unwrap_or}
 use Rattle.std.specs.Option.{option_or}
 use Rattle.std.proofs.lemmas.Slice.Eq.{bytes_eq-Decides}
@@ -118,11 +118,22 @@ last_more name [] m = none_behind (under name m)
     none_behind (Some x) = refl
 last_more name (x ∷ ms) m = ap (λ o. option_or o (under name x)) (last_more name ms m) ∙ or_or (under name m) (last_under name ms) (under name x)
 
--- at the member that comes next, the last one under the name is this or the one before
-pub last_so_far : (name : List ℕ) (ms : List Member) (i : ℕ) (m d : Member) (before now : Option Scalar) → i < length ms → m ≡ get_or ms i d → before ≡ last_under name (take i ms) →
-    now ≡ option_or (under name m) before → now ≡ last_under name (take (i + 1) ms)
-last_so_far name ms i m d before now lt is b n =
-    n ∙ ap (option_or (under name m)) b ∙ sym (last_more name (take i ms) m) ∙ ap (λ y. last_under name (take i ms ++ y ∷ [])) is ∙ ap (last_under name) (sym (take_more ms i d lt))
+-- of the first i members, the last one under the name is the last of them or one before
+last_step : (name : List ℕ) (ms : List Member) (i : ℕ) (d : Member) → 0 < i → i ≤ length ms →
+    last_under name (take i ms) ≡ option_or (under name (get_or ms (i - 1) d)) (last_under name (take (i - 1) ms))
+last_step name ms i d some within =
+    let one_more : i ≡ i - 1 + 1 = omega arith in
+    ap (λ k. last_under name (take k ms)) one_more ∙ ap (last_under name) (take_more ms (i - 1) d (omega arith)) ∙ last_more name (take (i - 1) ms) (get_or ms (i - 1) d)
+
+pub last_here : (name : List ℕ) (ms : List Member) (i : ℕ) (d : Member) (here : Bool) → 0 < i → i ≤ length ms → here ≡ bytes_eq (get_or ms (i - 1) d).0.now name → here ≡ true →
+    last_under name (take i ms) ≡ Some (get_or ms (i - 1) d).1
+last_here name ms i d here some within is h =
+    last_step name ms i d some within ∙ ap (λ b. option_or (cond b (Some (get_or ms (i - 1) d).1) None) (last_under name (take (i - 1) ms))) (sym is ∙ h)
+
+pub last_before : (name : List ℕ) (ms : List Member) (i : ℕ) (d : Member) (here : Bool) → 0 < i → i ≤ length ms → here ≡ bytes_eq (get_or ms (i - 1) d).0.now name → here ≡ false →
+    last_under name (take i ms) ≡ last_under name (take (i - 1) ms)
+last_before name ms i d here some within is h =
+    last_step name ms i d some within ∙ ap (λ b. option_or (cond b (Some (get_or ms (i - 1) d).1) None) (last_under name (take (i - 1) ms))) (sym is ∙ h)
 
 found_first : {A B : Type 0} (f : A → B) (last : Option A) (p : A) (before : Option B) (d : B) → f p ≡ d → option_or (option_map f last) (Some d) ≡ option_or (option_map f (option_or last (Some p))) before
 found_first f None p before d e = ap Some (sym e)

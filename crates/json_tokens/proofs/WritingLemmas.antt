@@ -42,18 +42,6 @@ module _ (w v : Inside) (h : IsWriting w) (t : Token) (printable : IsPrintable t
   pub pushed_before : (written v).before ≡ (written w).before
   pushed_before = (λ i. take (start i) (items i)) ∙ take-append-le w.start w.out.items _ h.within
 
--- the same bytes
-pub same_bytes : (w v : Inside) → IsWriting w → v.start ≡ w.start → v.out.items ≡ w.out.items → v.after_value ≡ w.after_value → IsWriting v
-same_bytes w v h start items place =
-    record {
-      within = omega (arith, h.within, ap length items);
-      printed = h.printed;
-      printable = h.printable;
-      small = h.small;
-      text = (λ i. drop (start i) (items i)) ∙ h.text;
-      place = place ∙ h.place;
-    }
-
 -- what can be put is a token of such a text
 pub printable : (t : Token) → CanBePut t → IsPrintable t
 printable Token.begin_object h = tt

@@ -140,28 +140,15 @@ fn has_minus(digits: &[u8]) -> bool
     !digits.is_empty() && digits[0] == b'-'
 }
 
-// The last value under a name.
+// The last value under a name. The members are looked at from the last one on.
 fn last_of<'a>(members: &[(&'a str, Scalar<'a>)], name: &str) -> Option<Scalar<'a>>
     ensures { result ≡ last_under name.now members.now }
 {
-    let mut found = None;
-    for member in members {
-        found = later(found, member, name);
+    for i in (0..members.len()).rev() {
+        let (key, value) = members[i];
+        if key == name {
+            return Some(value);
+        }
     }
-    found
-}
-
-// The value of the member, if it stands under the name, else the one that was found.
-fn later<'a>(
-    found: Option<Scalar<'a>>,
-    member: &(&'a str, Scalar<'a>),
-    name: &str,
-) -> Option<Scalar<'a>>
-    ensures { result ≡ option_or (under name.now member.now) found.entry }
-{
-    if member.0 == name {
-        Some(member.1)
-    } else {
-        found
-    }
+    None
 }

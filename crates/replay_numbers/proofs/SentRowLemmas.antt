@@ -1,9 +1,9 @@
 -- Positions in a row.
-use Rattle.std.proofs.Common.{◌≡◌, ℕ, ◌<◌, ◌≤◌, Bool, true, false, cond, zero, suc, List, [], ◌∷◌, ◌++◌, length, Option, Some, None, refl, ap, ◌∙◌, sym, arith, set}
+use Rattle.std.proofs.Common.{◌≡◌, ℕ, ◌<◌, ◌≤◌, cond, zero, suc, List, [], ◌∷◌, ◌++◌, length, Option, Some, None, refl, ap, ◌∙◌, sym, arith, set}
 use Rattle.std.specs.Prelude.{◌==◌}
 use Rattle.std.proofs.Math.Dec.{eqb-suc-suc, eqb-zero-suc, eqb-suc-zero}
 use Rattle.std.specs.List.{slice_get}
-use Rattle.std.specs.Option.{option_or, option_flatten}
+use Rattle.std.specs.Option.{option_flatten}
 
 -- a place without a position adds none
 pub none_added : (row : List (Option ℕ)) (n : ℕ) → option_flatten (slice_get (row ++ None ∷ []) n) ≡ option_flatten (slice_get row n)
@@ -26,12 +26,3 @@ pub none_behind : (row : List (Option ℕ)) (n : ℕ) → length row ≤ n → o
 none_behind [] n h = refl
 none_behind (p ∷ row) zero h = absurd (omega (arith, h))
 none_behind (p ∷ row) (suc n) h = none_behind row n (omega (arith, h))
-
--- a position in the row goes first, and so does one aside where the row has none
-pub first_in_row : (same : Bool) (position : ℕ) (at aside : Option ℕ) → option_or (cond same (Some position) at) aside ≡ cond same (Some position) (option_or at aside)
-first_in_row true position at aside = refl
-first_in_row false position at aside = refl
-
-pub put_aside : (same : Bool) (position : ℕ) (at aside : Option ℕ) → (same ≡ true → at ≡ None) → option_or at (cond same (Some position) aside) ≡ cond same (Some position) (option_or at aside)
-put_aside true position at aside h = ap (λ o. option_or o (Some position)) (h refl)
-put_aside false position at aside h = refl

@@ -1,8 +1,6 @@
 -- The trees that are written have rising keys, and nest seven deep at most.
 use Rattle.std.proofs.Common.{◌≡◌, ℕ, suc, List, [], ◌∷◌, true, Option, Some, None, refl}
-use Rattle.std.specs.Prelude.{map}
 use Rattle.serde_json.specs.Data.{Data}
-use Rattle.serde_json.specs.View.{items_of}
 use Rattle.trip_plan.specs.declared.parts.Leg.{Leg}
 use Rattle.trip_plan.specs.declared.parts.UnitLoad.{UnitLoad}
 use Rattle.json_tokens.specs.Texts.{fields, or_null, text}
@@ -28,11 +26,7 @@ use Rattle.taf_messages.specs.declared.reply.Reply.{Reply}
 use Rattle.taf_messages.specs.declared.reply.Reply.TheVariants.{Accepted, Refused, One, Many, Items, Acknowledged}
 use Rattle.taf_messages.specs.declared.fault.RecordFault.{RecordFault}
 use Rattle.taf_messages.specs.declared.fault.RecordFault.TheVariants.{BadJson, BadKind, MissingField, BadField, BadPlan, Memory}
-use Rattle.json_tokens.proofs.ReadLemmas.{is_ordered, items_are_ordered, items_are_ordered-map}
-
--- a list of trees
-lists : {X : Type 0} (shape : X → Data) (n : ℕ) → ((x : X) → is_ordered (shape x) n ≡ true) → (xs : List X) → items_are_ordered (items_of (map shape xs)) n ≡ true
-lists = items_are_ordered-map
+use Rattle.json_tokens.proofs.ReadLemmas.{is_ordered, items_are_ordered-map}
 
 leg_ordered : (n : ℕ) (l : Leg) → is_ordered (leg_data l) (suc n) ≡ true
 unfolding leg_fields
@@ -56,9 +50,9 @@ or_null_ordered shape n h (Some x) = h x
 
 plan_at : (n : ℕ) (by : List ℕ) (number : ℕ) (p : Trip) (us : List UnitLoad) → p.units ≡ us → is_ordered (fields (body_fields by number (body.Plan p))) (suc (suc (suc n))) ≡ true
 unfolding body_fields first_plan_fields last_plan_fields unit_fields
-plan_at n by number p [] h = rw (h, lists leg_data (suc n) (leg_ordered n) p.legs, lists wagon_text (suc n) (wagon_ordered (suc n)) p.wagons) refl
+plan_at n by number p [] h = rw (h, items_are_ordered-map leg_data (suc n) (leg_ordered n) p.legs, items_are_ordered-map wagon_text (suc n) (wagon_ordered (suc n)) p.wagons) refl
 plan_at n by number p (u ∷ us) h =
-    rw (h, lists leg_data (suc n) (leg_ordered n) p.legs, lists wagon_text (suc n) (wagon_ordered (suc n)) p.wagons, lists unit_data (suc n) (unit_ordered n) us) refl
+    rw (h, items_are_ordered-map leg_data (suc n) (leg_ordered n) p.legs, items_are_ordered-map wagon_text (suc n) (wagon_ordered (suc n)) p.wagons, items_are_ordered-map unit_data (suc n) (unit_ordered n) us) refl
 
 movement_at : (n : ℕ) (by : List ℕ) (number w at : ℕ) (what : MovementKind) → is_ordered (fields (body_fields by number (body.Movement (record { wagon = w; at = at; what = what })))) (suc n) ≡ true
 unfolding body_fields movement_fields
@@ -73,8 +67,8 @@ movement_at n by number w at Delivery = refl
 
 answer_at : (n : ℕ) (by : List ℕ) (number : ℕ) (a : TrainAnswer) (manager : Option (List ℕ)) → a.manager ≡ manager → is_ordered (fields (body_fields by number (body.Answer a))) (suc (suc n)) ≡ true
 unfolding body_fields answer_fields
-answer_at n by number a None h = rw (h, lists wagon_text n (wagon_ordered n) a.received, lists wagon_text n (wagon_ordered n) a.refused) refl
-answer_at n by number a (Some manager) h = rw (h, lists wagon_text n (wagon_ordered n) a.received, lists wagon_text n (wagon_ordered n) a.refused) refl
+answer_at n by number a None h = rw (h, items_are_ordered-map wagon_text n (wagon_ordered n) a.received, items_are_ordered-map wagon_text n (wagon_ordered n) a.refused) refl
+answer_at n by number a (Some manager) h = rw (h, items_are_ordered-map wagon_text n (wagon_ordered n) a.received, items_are_ordered-map wagon_text n (wagon_ordered n) a.refused) refl
 
 body_ordered : (n : ℕ) (by : List ℕ) (number : ℕ) (b : Body) → is_ordered (fields (body_fields by number b)) (suc (suc (suc n))) ≡ true
 unfolding body_fields offer_fields leg_time_fields
@@ -82,10 +76,10 @@ body_ordered n by number (body.Plan p) = plan_at n by number p p.units refl
 body_ordered n by number (body.Movement m) = movement_at (suc (suc n)) by number m.wagon m.at m.what
 body_ordered n by number (body.EtiAsk w) = refl
 body_ordered n by number (body.LegTime w leg minutes) = refl
-body_ordered n by number (body.Offer o) = rw (lists wagon_text (suc n) (wagon_ordered (suc n)) o.wagons) refl
+body_ordered n by number (body.Offer o) = rw (items_are_ordered-map wagon_text (suc n) (wagon_ordered (suc n)) o.wagons) refl
 body_ordered n by number (body.Answer a) = answer_at (suc n) by number a a.manager refl
 body_ordered n by number (body.Withdraw at offer) = refl
-body_ordered n by number (body.Reroute w route) = rw (lists leg_data (suc n) (leg_ordered n) route) refl
+body_ordered n by number (body.Reroute w route) = rw (items_are_ordered-map leg_data (suc n) (leg_ordered n) route) refl
 
 pub message_ordered : (n : ℕ) (m : Message) → is_ordered (message_data m) (suc (suc (suc n))) ≡ true
 message_ordered n m = body_ordered n m.by m.no m.body
@@ -137,8 +131,8 @@ unfolding first_record_fields middle_record_fields last_record_fields
 record_at n r [] h =
     rw (
       h,
-      lists estimate_data (suc n) (estimate_ordered n) r.estimates,
-      lists event_data (suc n) (event_ordered n) r.events,
+      items_are_ordered-map estimate_data (suc n) (estimate_ordered n) r.estimates,
+      items_are_ordered-map event_data (suc n) (event_ordered n) r.events,
       or_null_ordered at_text (suc (suc n)) (wagon_ordered (suc (suc n))) r.eta,
       or_null_ordered text (suc (suc n)) (text_ordered (suc (suc n))) r.place,
       or_null_ordered text (suc (suc n)) (text_ordered (suc (suc n))) r.responsible,
@@ -146,12 +140,12 @@ record_at n r [] h =
 record_at n r (u ∷ us) h =
     rw (
       h,
-      lists estimate_data (suc n) (estimate_ordered n) r.estimates,
-      lists event_data (suc n) (event_ordered n) r.events,
+      items_are_ordered-map estimate_data (suc n) (estimate_ordered n) r.estimates,
+      items_are_ordered-map event_data (suc n) (event_ordered n) r.events,
       or_null_ordered at_text (suc (suc n)) (wagon_ordered (suc (suc n))) r.eta,
       or_null_ordered text (suc (suc n)) (text_ordered (suc (suc n))) r.place,
       or_null_ordered text (suc (suc n)) (text_ordered (suc (suc n))) r.responsible,
-      lists text (suc n) (text_ordered (suc n)) us,
+      items_are_ordered-map text (suc n) (text_ordered (suc n)) us,
     ) refl
 
 pub record_ordered : (n : ℕ) (r : Record) → is_ordered (record_data r) (suc (suc (suc n))) ≡ true
@@ -162,7 +156,7 @@ record_ordered n r = record_at n r r.units refl
 item_at : (n number : ℕ) (b : ItemBody) → is_ordered (fields (item_fields number b)) (suc (suc (suc (suc n)))) ≡ true
 unfolding item_fields sub_fields eti_fields
 item_at n number (Notice m) = rw (message_ordered n m) refl
-item_at n number (Sub s) = rw (lists wagon_text (suc (suc n)) (wagon_ordered (suc (suc n))) s.wagons) refl
+item_at n number (Sub s) = rw (items_are_ordered-map wagon_text (suc (suc n)) (wagon_ordered (suc (suc n))) s.wagons) refl
 item_at n number (Eti w leg at) = refl
 item_at n number (Eta w at) = refl
 item_at n number (AlertBegins w late_by) = refl
@@ -183,8 +177,8 @@ reply_ordered n (Refused (Some number) why None (Some last)) = refl
 reply_ordered n (Refused (Some number) why (Some w) None) = refl
 reply_ordered n (Refused (Some number) why (Some w) (Some last)) = refl
 reply_ordered n (One r) = rw (record_ordered (suc (suc n)) r) refl
-reply_ordered n (Many rs) = rw (lists record_data (suc (suc (suc (suc n)))) (record_ordered (suc n)) rs) refl
-reply_ordered n (Items is) = rw (lists item_data (suc (suc (suc (suc n)))) (item_ordered n) is) refl
+reply_ordered n (Many rs) = rw (items_are_ordered-map record_data (suc (suc (suc (suc n)))) (record_ordered (suc n)) rs) refl
+reply_ordered n (Items is) = rw (items_are_ordered-map item_data (suc (suc (suc (suc n)))) (item_ordered n) is) refl
 reply_ordered n (Acknowledged number) = refl
 
 pub fault_ordered : (n : ℕ) (f : RecordFault) → is_ordered (fault_data f) (suc n) ≡ true

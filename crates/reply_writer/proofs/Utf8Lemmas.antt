@@ -1,5 +1,5 @@
 -- The text of a message's tree is UTF-8, and its numbers are below 2^64.
-use Rattle.std.proofs.Common.{◌≡◌, ℕ, ◌<◌, ◌≤◌, ◌==◌, ◌||◌, List, [], ◌∷◌, ◌++◌, Bool, true, false, Ok, IsUtf8, refl, ap, subst, arith, take, drop, nat_lt, lt-ltb, Result, Err, if◌then◌else◌}
+use Rattle.std.proofs.Common.{◌≡◌, ℕ, ◌<◌, ◌≤◌, ◌||◌, List, [], ◌∷◌, ◌++◌, Bool, true, false, Ok, IsUtf8, refl, ap, subst, arith, take, drop, nat_lt, lt-ltb, Result, Err, if◌then◌else◌}
 use Rattle.std.specs.Prelude.{⊤, map, codes}
 use Rattle.std.specs.Char.{is_ascii_digit, is_ascii_uppercase}
 use Rattle.std.specs.List.{list_all}
@@ -21,7 +21,7 @@ use Rattle.taf_moment.specs.declared.fault.BadMoment.{BadMoment}
 use Rattle.taf_moment.proofs.TextLemmas as moments
 use Rattle.taf_moment.specs.Calendar.{last_minute, moment_text, digit_as_zero, is_moment, has_form, minutes_shown}
 use Rattle.taf_codes.specs.Codes.{is_railway, is_place, is_name, is_unit_code, are_code_letters, are_letters_then_digits}
-use Rattle.taf_codes.proofs.CodeLemmas.{IsAscii-unit, IsAscii-name}
+use Rattle.taf_codes.proofs.CodeLemmas.{IsAscii-unit, IsAscii-name, letter_below, digit_below}
 use Rattle.json_tokens.specs.SmallNumbers.{IsSmall, HasSmallNumbers, ItemsHaveSmallNumbers, MembersHaveSmallNumbers}
 
 -- ---- trees whose keys and texts are UTF-8
@@ -97,9 +97,6 @@ from_test test below text h = IsUtf8-from_ascii text (IsAscii-from_all text (λ 
 code_letter : (letter : ℕ) → (is_ascii_uppercase letter || is_ascii_digit letter) ≡ true → letter < 128
 code_letter letter h = grind (arith, common_steps)
 
-name_letter : (letter : ℕ) → (is_ascii_uppercase letter || is_ascii_digit letter || (letter == 45)) ≡ true → letter < 128
-name_letter letter h = grind (arith, common_steps)
-
 pub utf8-railway : (by : List ℕ) → is_railway by ≡ true → IsUtf8 by
 utf8-railway by h = from_test _ code_letter by (and_parts _ (are_code_letters by) h).1
 
@@ -112,20 +109,14 @@ utf8-unit unit h = IsUtf8-from_ascii unit (IsAscii-unit unit h)
 pub utf8-wagon : (w : ℕ) → IsVehicleNumber w → IsUtf8 (text_of w)
 utf8-wagon w h = IsUtf8-from_ascii _ (letters.IsAscii-letters (digits_of w) h.valid.digits)
 
-upper_letter : (letter : ℕ) → is_ascii_uppercase letter ≡ true → letter < 128
-upper_letter letter h = grind (arith, common_steps)
-
-digit_letter : (letter : ℕ) → is_ascii_digit letter ≡ true → letter < 128
-digit_letter letter h = grind (arith, common_steps)
-
 pub utf8-place : (place : List ℕ) → is_place place ≡ true → IsUtf8 place
 utf8-place place h =
     let parts = and_parts (list_all is_ascii_uppercase (take 2 place)) (list_all is_ascii_digit (drop 2 place)) (and_parts _ (are_letters_then_digits 2 place) h).1 in
-    subst IsUtf8 (take-append-drop 2 place) (IsUtf8-append _ _ (from_test is_ascii_uppercase upper_letter (take 2 place) parts.0) (from_test is_ascii_digit digit_letter (drop 2 place) parts.1))
+    subst IsUtf8 (take-append-drop 2 place) (IsUtf8-append _ _ (from_test is_ascii_uppercase letter_below (take 2 place) parts.0) (from_test is_ascii_digit digit_below (drop 2 place) parts.1))
 
 -- a letter that is a digit, or as its form
 formed_letter : (letter : ℕ) (b : Bool) → is_ascii_digit letter ≡ b → nat_lt (if b then 48 else letter) 128 ≡ true → letter < 128
-formed_letter letter true is h = digit_letter letter is
+formed_letter letter true is h = digit_below letter is
 formed_letter letter false is h = ltb-true letter 128 h
 
 utf8-formed : (text : List ℕ) → are_ascii (map digit_as_zero text) ≡ true → IsUtf8 text

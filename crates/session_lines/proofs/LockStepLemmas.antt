@@ -20,6 +20,7 @@ use Rattle.session_lines.specs.Steps.{saying_step, after_saying, with_job, sound
 use Rattle.session_lines.specs.LockStep.{Transcript, Answers, lock_step, transcript_after, new_transcript}
 use Rattle.session_lines.specs.Runs.{Event, LineRead, LineReadWithoutMemory, DoneTaken, DoneTakenWithoutMemory, HeldLineTaken, Run, run_with_line, after_event, new_run, run, oldest_index, HasOwnDones, slot_lines, tally_with_slots, completed_transcript, step_lines, step_jobs, optional_line}
 use Rattle.session_lines.proofs.SlotLemmas.{jobs_out-held, jobs_out-job, jobs_out-front}
+use Rattle.session_lines.proofs.EventLemmas.{sound-named}
 
 pub append_nil : {A : Type 0} (xs : List A) → xs ≡ xs ++ []
 append_nil [] = refl
@@ -120,12 +121,6 @@ has_failed-sound s (Hello railway) = refl
 has_failed-sound s (Wrong fault) = refl
 has_failed-sound s (Calls call) = refl
 
-id-sound : (s : State) (m : Meaning) → (after_sound s m).id ≡ s.id
-id-sound s Blank = refl
-id-sound s (Hello railway) = refl
-id-sound s (Wrong fault) = refl
-id-sound s (Calls call) = refl
-
 length-jobs-saying : (jobs : List Job) (slots : List Slot) (line : List ℕ) → length (jobs ++ step_jobs (step_with slots line)) ≡ length jobs
 length-jobs-saying jobs slots line = ap (λ js. length (jobs ++ js)) (step_jobs-saying slots line) ∙ ap length (sym (append_nil jobs))
 
@@ -162,8 +157,8 @@ IsLockStep-line id answers r line l =
     let is : run_with_line r line m ≡ next =
     λ i. stepped r line (cond (l.sound i) Ended (sound_step r.state m)) (cond (l.sound i) r.state (after_sound r.state m)) in
     let after : IsLockStep id answers next = record {
-      named = l.named ∙ sym (id-sound r.state m);
-      same = ap (λ id. lock_step id answers (r.input ++ line ∷ [])) (id-sound r.state m)
+      named = l.named ∙ sym (sound-named r.state m);
+      same = ap (λ id. lock_step id answers (r.input ++ line ∷ [])) (sound-named r.state m)
           ∙ lock_step-line r.state.id answers r.input line (completed_transcript answers r) l.same
           ∙ completed-sound answers r line m l.count l.within;
       sound = has_failed-sound r.state m ∙ l.sound;

@@ -1,10 +1,10 @@
 -- How many jobs are out in a list of slots.
-use Rattle.std.proofs.Common.{◌≡◌, ℕ, ◌+◌, ◌≤◌, List, [], ◌∷◌, ◌++◌, length, true, false, None, refl, ap, arith, rules, tests}
+use Rattle.std.proofs.Common.{◌≡◌, ℕ, ◌+◌, ◌≤◌, List, [], ◌∷◌, ◌++◌, length, refl, ap, arith}
 use Rattle.taf_messages.specs.declared.call.Call.{Call}
 use Rattle.session_lines.specs.declared.session.Slot.{Slot}
 use Rattle.session_lines.specs.declared.session.Slot.TheVariants.{JobOut, HeldLine}
 use Rattle.session_lines.specs.States.{jobs_out}
-use Rattle.session_lines.specs.Steps.{is_job_in_front, front_line, slots_after_front}
+use Rattle.session_lines.specs.Steps.{slots_after_front}
 
 -- a line that is held is no job
 pub jobs_out-held : (slots : List Slot) (line : List ℕ) → jobs_out (slots ++ HeldLine line ∷ []) ≡ jobs_out slots
@@ -27,23 +27,3 @@ pub jobs_out-front : (slots : List Slot) → jobs_out (slots_after_front slots) 
 jobs_out-front [] = refl
 jobs_out-front (JobOut call ∷ slots) = refl
 jobs_out-front (HeldLine line ∷ slots) = refl
-
-pub length-front : (slots : List Slot) → length (slots_after_front slots) ≤ length slots
-length-front [] = omega arith
-length-front (JobOut call ∷ slots) = omega arith
-length-front (HeldLine line ∷ slots) = omega arith
-
--- where all slots are taken and the front is no held line, it is a job
-pub full_has_job : (slots : List Slot) → front_line slots ≡ None → length slots ≡ 16 → is_job_in_front slots ≡ true
-full_has_job [] front full = absurd (omega (arith, full))
-full_has_job (JobOut call ∷ slots) front full = refl
-full_has_job (HeldLine line ∷ slots) front full = absurd (search (rules, tests, front))
-
--- where the front is neither, no slot is taken
-pub no_slot : (slots : List Slot) → front_line slots ≡ None → is_job_in_front slots ≡ false → slots ≡ []
-no_slot [] front out = refl
-no_slot (JobOut call ∷ slots) front out = absurd (search (rules, tests, out))
-no_slot (HeldLine line ∷ slots) front out = absurd (search (rules, tests, front))
-
-pub false_true : false ≡ true → ⊥
-false_true e = cc

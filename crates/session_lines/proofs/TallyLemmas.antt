@@ -1,5 +1,6 @@
 -- The tally of a session is its own.
 use Rattle.std.proofs.Common.{◌≡◌, ℕ, ◌+◌, ◌==◌, Bool, true, false, cond, List, [], ◌∷◌, ◌++◌, length, refl, ap, sym, ◌∙◌, append_assoc, subst, length-append, arith, rules, tests}
+use Rattle.std.proofs.lemmas.Bool.{false≢true}
 use Rattle.taf_messages.specs.declared.call.Call.{Call}
 use Rattle.tallies.specs.declared.tally.Told.{Told}
 use Rattle.inbox.specs.declared.rule.Job.{Job}
@@ -15,7 +16,6 @@ use Rattle.session_lines.specs.Meanings.{meaning, meaning_without_memory}
 use Rattle.session_lines.specs.Steps.{sound_step, after_sound, done_line, done_line_without_memory, is_own, is_job_in_front, with_answer, after_done, after_stranger, slots_after_front, with_entry, slots_with, step_with, job}
 use Rattle.session_lines.specs.Runs.{Event, LineRead, LineReadWithoutMemory, DoneTaken, DoneTakenWithoutMemory, HeldLineTaken, Run, run_with_line, run_with_done, after_event, new_run, run}
 use Rattle.session_lines.specs.Tallies.{own_done, own_done_in, own_dones, tally_with, AreJobsFrom, AreDonesFrom, IsOwnTally}
-use Rattle.session_lines.proofs.SlotLemmas.{false_true}
 use Rattle.session_lines.proofs.LockStepLemmas.{append_nil, stepped, step_jobs-saying, and-left, and-right}
 
 -- ---- the calls of the jobs that are out
@@ -133,7 +133,7 @@ HasOwnTally-saying id r dones read line s sound named count tally failed slots h
     named count tally
     (λ f. sound)
     (λ f. ap calls_out slots ∙ calls_out-saying r.state.slots line)
-    (λ f. absurd (false_true (sym sound ∙ sym failed ∙ f)))
+    (λ f. absurd (false≢true (sym sound ∙ sym failed ∙ f)))
     h
 
 HasOwnTally-job : (id : ℕ) (r : Run) (dones : List Done) (read : List ℕ) (call : Call) → r.state.has_failed ≡ false → HasOwnTally id r dones → HasOwnTally id (stepped r read (sound_step r.state (Calls call)) (after_sound r.state (Calls call))) dones
@@ -150,12 +150,12 @@ HasOwnTally-job id r dones read call sound h =
       dones_in_order = h.dones_in_order;
       entries = h.entries;
       calls = λ f. calls_of-append h.waiting (asked ∷ []) ∙ ap (λ cs. cs ++ call ∷ []) (h.calls sound) ∙ sym (calls_out-job r.state.slots call);
-      idle = λ f. absurd (false_true (sym sound ∙ f));
+      idle = λ f. absurd (false≢true (sym sound ∙ f));
     }
 
 HasOwnTally-sound : (id : ℕ) (r : Run) (dones : List Done) (read : List ℕ) (m : Meaning) → r.state.has_failed ≡ false → HasOwnTally id r dones → HasOwnTally id (stepped r read (sound_step r.state m) (after_sound r.state m)) dones
 HasOwnTally-sound id r dones read Blank sound h =
-    HasOwnTally-same id r _ dones (sym (append_nil r.jobs)) refl refl refl (λ f. sound) (λ f. refl) (λ f. absurd (false_true (sym sound ∙ f))) h
+    HasOwnTally-same id r _ dones (sym (append_nil r.jobs)) refl refl refl (λ f. sound) (λ f. refl) (λ f. absurd (false≢true (sym sound ∙ f))) h
 HasOwnTally-sound id r dones read (Hello railway) sound h = HasOwnTally-saying id r dones read (hello_text railway) _ sound refl refl refl refl refl h
 HasOwnTally-sound id r dones read (Wrong fault) sound h = HasOwnTally-saying id r dones read fault _ sound refl refl refl refl refl h
 HasOwnTally-sound id r dones read (Calls call) sound h = HasOwnTally-job id r dones read call sound h
@@ -193,7 +193,7 @@ HasOwnTally-answer id r dones d output call slots asked waiting h front sound sa
       dones_in_order = AreDonesFrom-append id 0 dones d h.dones_in_order (own ∙ h.named) (omega (arith, ap length parts, length-append h.answered (asked ∷ waiting), h.count, h.matched, index, size));
       entries = ap (λ t. with_entry t call d.answer) h.entries ∙ ap (λ c. with_entry (tally_with [] h.answered dones) c d.answer) (sym same) ∙ sym (tally_with-done [] h.answered dones asked d h.matched);
       calls = λ f. calls;
-      idle = λ f. absurd (false_true (sym sound ∙ f));
+      idle = λ f. absurd (false≢true (sym sound ∙ f));
     }
 
 HasOwnTally-waiting : (id : ℕ) (r : Run) (dones : List Done) (d : Done) (output : List (List ℕ)) (call : Call) (slots : List Slot) (waiting : List Job) (h : HasOwnTally id r dones) → h.waiting ≡ waiting → r.state.has_failed ≡ false → calls_of waiting ≡ call ∷ calls_out slots → d.session ≡ r.state.id → d.index + jobs_out (JobOut call ∷ slots) ≡ r.state.job_count → HasOwnTally id (record r { state = with_answer r.state (JobOut call ∷ slots) d.answer; output = output }) (dones ++ d ∷ [])
@@ -206,8 +206,8 @@ sound_with_slots s slot slots false e idle some = e
 sound_with_slots s slot slots true e idle some = absurd (omega (arith, ap length (sym some ∙ idle e)))
 
 HasOwnTally-own : (id : ℕ) (r : Run) (dones : List Done) (d : Done) (output : List (List ℕ)) (slots : List Slot) → r.state.slots ≡ slots → is_job_in_front slots ≡ true → d.session ≡ r.state.id → d.index + jobs_out slots ≡ r.state.job_count → HasOwnTally id r dones → HasOwnTally id (record r { state = with_answer r.state slots d.answer; output = output }) (dones ++ d ∷ [])
-HasOwnTally-own id r dones d output [] e front own index h = absurd (false_true front)
-HasOwnTally-own id r dones d output (HeldLine line ∷ slots) e front own index h = absurd (false_true front)
+HasOwnTally-own id r dones d output [] e front own index h = absurd (false≢true front)
+HasOwnTally-own id r dones d output (HeldLine line ∷ slots) e front own index h = absurd (false≢true front)
 HasOwnTally-own id r dones d output (JobOut call ∷ slots) e front own index h =
     let sound = sound_with_slots r.state (JobOut call) slots r.state.has_failed refl h.idle e in
     HasOwnTally-waiting id r dones d output call slots h.waiting h refl sound (h.calls sound ∙ ap calls_out e) own index
@@ -215,7 +215,7 @@ HasOwnTally-own id r dones d output (JobOut call ∷ slots) e front own index h 
 HasOwnTally-stranger : (id : ℕ) (r : Run) (dones : List Done) (output : List (List ℕ)) → HasOwnTally id r dones → HasOwnTally id (record r { state = after_stranger r.state; output = output }) dones
 HasOwnTally-stranger id r dones output h =
     HasOwnTally-same id r (record r { state = after_stranger r.state; output = output }) dones refl refl refl refl
-    (λ f. absurd (false_true (sym f))) (λ f. absurd (false_true (sym f))) (λ f. refl) h
+    (λ f. absurd (false≢true (sym f))) (λ f. absurd (false≢true (sym f))) (λ f. refl) h
 
 -- a Done, where a job is in front
 HasOwnTally-taken : (id : ℕ) (r : Run) (dones : List Done) (d : Done) (output : List (List ℕ)) (own : Bool) → is_job_in_front r.state.slots ≡ true → is_own r.state d ≡ own → HasOwnTally id r dones → HasOwnTally id (record r { state = after_done r.state d; output = output }) (dones ++ cond (is_own r.state d) (d ∷ []) [])

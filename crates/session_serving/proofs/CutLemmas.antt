@@ -7,10 +7,7 @@ use Rattle.std.proofs.lemmas.List.{take_more, get_or-drop}
 use Rattle.call_lines.specs.Lines.{has_no_newline}
 use Rattle.call_lines.proofs.LineLemmas.{not_newline, rest_unbroken}
 use Rattle.session_serving.specs.Bytes.{Cut, max_kept, max_kept_is, add_byte, cut_after, CutsNext}
-
-append_nil : {A : Type 0} (xs : List A) → xs ≡ xs ++ []
-append_nil [] = refl
-append_nil (x ∷ xs) = ap (λ ys. x ∷ ys) (append_nil xs)
+use Rattle.session_lines.proofs.LockStepLemmas.{append_nil}
 
 -- a cut behind lines that came before
 abbrev pub behind : List (List ℕ) → Cut → Cut
@@ -57,9 +54,6 @@ is_max_kept = max_kept_is
 
 pub cut-plain : (rest : List ℕ) (b : ℕ) → eqb b 10 ≡ false → cut_after rest (b ∷ []) ≡ record { whole = []; rest = take max_kept (rest ++ b ∷ []) }
 cut-plain rest b e = λ i. cond (e i) (record { whole = [] ++ rest ∷ []; rest = [] }) (record { whole = []; rest = take max_kept (rest ++ b ∷ []) })
-
-pub cut-newline : (rest : List ℕ) (b : ℕ) → eqb b 10 ≡ true → cut_after rest (b ∷ []) ≡ record { whole = rest ∷ []; rest = [] }
-cut-newline rest b e = λ i. cond (e i) (record { whole = [] ++ rest ∷ []; rest = [] }) (record { whole = []; rest = take max_kept (rest ++ b ∷ []) })
 
 pub length-take-most : (n : ℕ) (xs : List ℕ) → length (take n xs) ≤ n
 length-take-most zero xs = omega arith

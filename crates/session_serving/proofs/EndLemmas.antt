@@ -2,6 +2,7 @@
 use Rattle.std.proofs.Common.{◌≡◌, ◌≤◌, ◌+◌, ℕ, Bool, true, false, List, [], ◌++◌, length, Option, Result, Ok, Err, is_ok, refl, ap, sym, ◌∙◌, append-nil, length-append, subst, arith}
 use Rattle.std.proofs.KnownBytes.{Consumes-nil, Consumes-trans, Consumes-kept, Appends-nil}
 use Rattle.std.specs.Io.KnownBytes.{Consumes, Keeps, IsAtEnd}
+use Rattle.std.proofs.lemmas.Bool.{false≢true}
 use Rattle.inbox.specs.declared.rule.Job.{Job}
 use Rattle.session_lines.specs.States.{State}
 use Rattle.session_serving.specs.declared.fault.SessionFault.{SessionFault}
@@ -12,7 +13,7 @@ use Rattle.session_serving.specs.Faults.{Blames, FirstFails, writes_all, sends_a
 use Rattle.session_serving.specs.Serving.{Exchange, exchange_of, Serves, ServesFirst, StillServes, ReadsLines, Traffic, traffic_of, IsServed}
 use Rattle.session_serving.proofs.CutLemmas.{cut-append}
 use Rattle.session_serving.proofs.EventLemmas.{advances-none}
-use Rattle.session_serving.proofs.WriteLemmas.{false_true, writes-then}
+use Rattle.session_serving.proofs.WriteLemmas.{writes-then}
 use Rattle.session_serving.proofs.ServeLemmas.{serves_none, sends_none, first-then, first-whole}
 
 -- ---- faults
@@ -57,7 +58,7 @@ first_fails Memory r r2 w w1 w2 p p1 p2 e f g b = absurd b
 -- ---- a part that was written, or not
 
 writes-weak : (a b : Option (List ℕ)) (p q t : List ℕ) (full : Bool) → Writes (output_of a p) (output_of b q) full t → Writes (output_of a p) (output_of b q) false t
-writes-weak a b p q t full f = record { front = f.front; left = f.left; moved = f.moved; parts = f.parts; all = λ e. absurd (false_true e) }
+writes-weak a b p q t full f = record { front = f.front; left = f.left; moved = f.moved; parts = f.parts; all = λ e. absurd (false≢true e) }
 
 pub serves-weak : (a b : Exchange) (reads : List (List ℕ)) (full all : Bool) → Serves a reads b full all → Serves a reads b false all
 serves-weak a b reads full all f = record { said = f.said; jobs = f.jobs; advances = f.advances; writes = writes-weak a.written b.written a.pending b.pending (text f.said) full f.writes; sends = f.sends }
@@ -82,7 +83,7 @@ pub first-written : (a b : Exchange) (w : Option (List ℕ)) (p : List ℕ) (lin
 first-written a b w p lines full all on f g = record { reads = f.reads; more = f.more; parts = f.parts; serves = serves-written a b w p f.reads full all f.serves g; each = f.each }
 
 pub first-stops : (a b : Exchange) (w : Option (List ℕ)) (p : List ℕ) (lines : List (List ℕ)) (full all on : Bool) → ServesFirst a lines b true all on → Writes (output_of b.written b.pending) (output_of w p) full [] → ServesFirst a lines (exchange_of b.state w p b.sent) full all false
-first-stops a b w p lines full all on f g = record { reads = f.reads; more = f.more; parts = f.parts; serves = serves-written a b w p f.reads full all f.serves g; each = λ e. absurd (false_true e) }
+first-stops a b w p lines full all on f g = record { reads = f.reads; more = f.more; parts = f.parts; serves = serves-written a b w p f.reads full all f.serves g; each = λ e. absurd (false≢true e) }
 
 -- ---- from read to read
 
@@ -125,7 +126,7 @@ progress-stop a b c r t u line chunk total result on over lost other most p more
       consumed = Consumes-trans r t u p.bytes chunk p.consumed more;
       given = k.parts ∙ sym (ap (λ (d : Cut). d.whole) cut);
       serves = k.serves;
-      all = λ e sound. absurd (false_true (sym sound ∙ lost e));
+      all = λ e sound. absurd (false≢true (sym sound ∙ lost e));
       few = omega (arith, length-append p.bytes chunk, p.size, most);
       no_end = λ e. absurd (other e);
     }
@@ -153,7 +154,7 @@ progress-fails a b r t u line total most p kept = record {
   consumed = Consumes-kept r t u p.bytes p.consumed kept;
   given = append-nil (whole_lines p.bytes);
   serves = p.serves;
-  all = λ e. absurd (false_true e);
+  all = λ e. absurd (false≢true e);
   few = omega (arith, p.size, most);
   no_end = λ e. absurd (read_is_no_end (same_fault _ Read NoEnd refl e));
 }
@@ -167,7 +168,7 @@ progress-never a b r t line total most p = record {
   consumed = p.consumed;
   given = append-nil (whole_lines p.bytes);
   serves = p.serves;
-  all = λ e. absurd (false_true e);
+  all = λ e. absurd (false≢true e);
   few = omega (arith, p.size, most);
   no_end = λ _. p.size ∙ most;
 }
@@ -212,8 +213,8 @@ served-err s mid n r r2 w w3 p p3 j j3 fault e f then =
       written = g.writes.moved;
       parts = g.writes.parts ∙ ap (λ l. l ++ text g.said) e;
       sends = g.sends;
-      whole = λ x. absurd (false_true x);
-      all = λ x. absurd (false_true x);
+      whole = λ x. absurd (false≢true x);
+      all = λ x. absurd (false≢true x);
       few = f.few;
       no_end = f.no_end;
     }
@@ -235,7 +236,7 @@ never-began s t result lost other = record {
   parts = refl;
   sends = sends_none t.sent (sends_all result);
   whole = λ _. refl;
-  all = λ x sound. absurd (false_true (sym sound ∙ lost x));
+  all = λ x sound. absurd (false≢true (sym sound ∙ lost x));
   few = omega arith;
   no_end = λ e. absurd (other e);
 }

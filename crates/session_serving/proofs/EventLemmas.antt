@@ -1,5 +1,5 @@
 -- How a session goes on, event by event.
-use Rattle.std.proofs.Common.{◌≡◌, ◌≢◌, ◌⊎◌, inl, inr, ◌<◌, ◌≤◌, ℕ, Bool, true, false, cond, List, [], ◌∷◌, ◌++◌, Some, None, length, refl, ap, sym, ◌∙◌, append_assoc, append-nil, subst, arith, rules, tests}
+use Rattle.std.proofs.Common.{◌≡◌, ◌⊎◌, inl, inr, ◌≤◌, ℕ, Bool, true, false, cond, List, [], ◌∷◌, ◌++◌, Some, None, length, refl, ap, sym, ◌∙◌, append_assoc, append-nil, subst, arith, rules, tests}
 use Rattle.std.proofs.lemmas.List.Sums.{fold-append}
 use Rattle.inbox.specs.declared.rule.Job.{Job}
 use Rattle.session_lines.specs.declared.meaning.Meaning.{Meaning}
@@ -143,12 +143,6 @@ front_fewer [] = omega arith
 front_fewer (JobOut call ∷ slots) = omega arith
 front_fewer (HeldLine line ∷ slots) = omega arith
 
--- a held line in front leaves its slot
-pub held_fewer : (slots : List Slot) (line : List ℕ) → Some line ≡ front_line slots → length (slots_after_front slots) < length slots
-held_fewer [] line e = absurd (search (rules, tests, e))
-held_fewer (JobOut call ∷ slots) line e = absurd (search (rules, tests, e))
-held_fewer (HeldLine held ∷ slots) line e = omega arith
-
 -- where all slots are taken and the front is no held line, it is a job
 pub full_has_job : (slots : List Slot) → front_line slots ≡ None → length slots ≡ 16 → is_job_in_front slots ≡ true
 full_has_job [] front full = absurd (omega (arith, full))
@@ -160,9 +154,3 @@ pub no_slot : (slots : List Slot) → front_line slots ≡ None → is_job_in_fr
 no_slot [] front out = refl
 no_slot (JobOut call ∷ slots) front out = absurd (search (rules, tests, out))
 no_slot (HeldLine line ∷ slots) front out = absurd (search (rules, tests, front))
-
--- a front that is no job, in slots that are not empty, is a held line
-pub front_is_held : (slots : List Slot) → is_job_in_front slots ≡ false → slots ≢ [] → length (slots_after_front slots) < length slots
-front_is_held [] out some = absurd (some refl)
-front_is_held (JobOut call ∷ slots) out some = absurd (search (rules, tests, out))
-front_is_held (HeldLine line ∷ slots) out some = omega arith

@@ -1,5 +1,6 @@
 -- How what a session does between a writer and a port is put together.
-use Rattle.std.proofs.Common.{◌≡◌, ℕ, Bool, true, false, List, [], ◌∷◌, ◌++◌, take, drop, Option, Some, None, refl, ap, sym, ◌∙◌, append_assoc, append-nil, subst, arith}
+use Rattle.std.proofs.Common.{◌≡◌, ℕ, Bool, true, false, List, [], ◌∷◌, ◌++◌, take, drop, Some, None, refl, ap, sym, ◌∙◌, append_assoc, append-nil, subst, arith}
+use Rattle.std.proofs.lemmas.Bool.{false≢true}
 use Rattle.inbox.specs.declared.rule.Job.{Job}
 use Rattle.session_lines.specs.States.{State}
 use Rattle.session_serving.specs.Bytes.{text, cut_after, CutsNext}
@@ -8,7 +9,7 @@ use Rattle.session_serving.specs.Output.{Output, output_of, Writes, Says}
 use Rattle.session_serving.specs.Serving.{Sends, Exchange, exchange_of, Serves, ServesFirst}
 use Rattle.session_serving.proofs.CutLemmas.{cut-left, chunk-cut, chunk-last}
 use Rattle.session_serving.proofs.EventLemmas.{advances-none, advances-then}
-use Rattle.session_serving.proofs.WriteLemmas.{false_true, writes_none, writes-then, writes-part}
+use Rattle.session_serving.proofs.WriteLemmas.{writes_none, writes-then, writes-part}
 
 text-append : (xs ys : List (List ℕ)) → text (xs ++ ys) ≡ text xs ++ text ys
 text-append [] ys = refl
@@ -18,13 +19,6 @@ text-append (x ∷ xs) ys = ap (λ t. (x ++ 10 ∷ []) ++ t) (text-append xs ys)
 
 pub sends_none : (a : List Job) (all : Bool) → Sends a a all []
 sends_none a all = record { lost = []; parts = refl; few = omega arith; none = λ _. refl }
-
-pub sends_one : (a b : List Job) (job : Job) (all : Bool) → b ≡ a ++ job ∷ [] → Sends a b all (job ∷ [])
-sends_one a b job all e = record { lost = []; parts = append-nil b ∙ e; few = omega arith; none = λ _. refl }
-
--- the port failed
-pub sends_lost : (a b : List Job) (job : Job) → b ≡ a → Sends a b false (job ∷ [])
-sends_lost a b job e = record { lost = job ∷ []; parts = ap (λ l. l ++ job ∷ []) e; few = omega arith; none = λ f. absurd (false_true f) }
 
 sends-then : (a b c : List Job) (all : Bool) (j1 j2 : List Job) → Sends a b true j1 → Sends b c all j2 → Sends a c all (j1 ++ j2)
 sends-then a b c all j1 j2 f g =
@@ -82,24 +76,6 @@ serves-says s n a b sent new full all e f = record {
   sends = subst (λ l. Sends sent l all []) (sym e) (sends_none sent all);
 }
 
--- a line is read that leads to nothing
-pub serves-quiet : (s n : State) (w : Option (List ℕ)) (p : List ℕ) (sent : List Job) (line : List ℕ) (full all : Bool) → Advances s (line ∷ []) [] [] n → Serves (exchange_of s w p sent) (line ∷ []) (exchange_of n w p sent) full all
-serves-quiet s n w p sent line full all g = record { said = []; jobs = []; advances = g; writes = writes_none (output_of w p) full; sends = sends_none sent all }
-
--- a line is said
-pub serves-line : (s n : State) (a b : Output) (sent : List Job) (line said : List ℕ) (full all : Bool) → Advances s (line ∷ []) [] (said ∷ []) n → Writes a b full (said ++ 10 ∷ []) → Serves (exchange_of s a.written a.pending sent) (line ∷ []) (exchange_of n b.written b.pending sent) full all
-serves-line s n a b sent line said full all g w = record {
-  said = said ∷ [];
-  jobs = [];
-  advances = g;
-  writes = subst (λ t. Writes a b full t) (sym (append-nil (said ++ 10 ∷ []))) w;
-  sends = sends_none sent all;
-}
-
--- a job is given out
-pub serves-job : (s n : State) (w : Option (List ℕ)) (p : List ℕ) (sent new : List Job) (line : List ℕ) (job : Job) (full all : Bool) → Advances s (line ∷ []) (job ∷ []) [] n → Sends sent new all (job ∷ []) → Serves (exchange_of s w p sent) (line ∷ []) (exchange_of n w p new) full all
-serves-job s n w p sent new line job full all g f = record { said = []; jobs = job ∷ []; advances = g; writes = writes_none (output_of w p) full; sends = f }
-
 -- nothing more is read
 pub serves-on : (a b c : Exchange) (reads : List (List ℕ)) (full all : Bool) → Serves a reads b true true → Serves b [] c full all → Serves a reads c full all
 serves-on a b c reads full all f g = subst (λ l. Serves a l c full all) (append-nil reads) (serves-then a b c reads [] full all f g)
@@ -134,7 +110,7 @@ first-part a c lines more full all f = record {
   more = f.more ++ more;
   parts = sym (append_assoc f.reads f.more more) ∙ ap (λ l. l ++ more) f.parts;
   serves = f.serves;
-  each = λ e. absurd (false_true e);
+  each = λ e. absurd (false≢true e);
 }
 
 -- all lines were given
@@ -145,7 +121,7 @@ pub first-all : (a c : Exchange) (lines : List (List ℕ)) (full all on : Bool) 
 first-all a c lines full all on f = record { reads = lines; more = []; parts = append-nil lines; serves = f; each = λ _. refl }
 
 pub first-none : (a c : Exchange) (lines : List (List ℕ)) (full all : Bool) → Serves a [] c full all → ServesFirst a lines c full all false
-first-none a c lines full all f = record { reads = []; more = lines; parts = refl; serves = f; each = λ e. absurd (false_true e) }
+first-none a c lines full all f = record { reads = []; more = lines; parts = refl; serves = f; each = λ e. absurd (false≢true e) }
 
 pub first-same : (a c : Exchange) (lines others : List (List ℕ)) (full all on : Bool) → lines ≡ others → ServesFirst a lines c full all on → ServesFirst a others c full all on
 first-same a c lines others full all on e f = subst (λ l. ServesFirst a l c full all on) e f

@@ -1,18 +1,9 @@
 -- How what is written is put together.
-use Rattle.std.proofs.Common.{◌≡◌, ℕ, ◌-◌, ◌≤◌, Bool, true, false, List, [], ◌++◌, take, drop, length, Option, Some, None, refl, ap, ◌∙◌, sym, arith, subst, append_assoc, append-nil, length-drop, take-append-drop}
+use Rattle.std.proofs.Common.{◌≡◌, ℕ, ◌-◌, ◌≤◌, Bool, true, false, List, [], ◌++◌, take, drop, length, refl, ap, ◌∙◌, sym, arith, subst, append_assoc, append-nil, length-drop, take-append-drop}
 use Rattle.std.proofs.lemmas.List.{take_all}
 use Rattle.std.proofs.KnownBytes.{Appends-nil, Appends-trans}
-use Rattle.std.specs.Io.KnownBytes.{Appends, Keeps}
-use Rattle.session_serving.specs.Output.{Output, output_of, Writes}
-
-pub false_true : false ≡ true → ⊥
-false_true e = cc
-
-Appends-kept : (c d e : Option (List ℕ)) (xs : List ℕ) → Appends c d xs → Keeps d e → Appends c e xs
-Appends-kept None d e xs h k = tt
-Appends-kept (Some c) None e xs h k = absurd h
-Appends-kept (Some c) (Some d) None xs h k = absurd k
-Appends-kept (Some c) (Some d) (Some e) xs h k = k ∙ h
+use Rattle.std.proofs.lemmas.Bool.{false≢true}
+use Rattle.session_serving.specs.Output.{Output, Writes}
 
 -- what is left once some of it was taken
 pub pushed : (bytes front rest : List ℕ) (n : ℕ) → n ≤ length rest → bytes ≡ front ++ rest → bytes ≡ (front ++ take n rest) ++ take (length rest - n) (drop n rest)
@@ -43,31 +34,8 @@ writes-part a b full t u f = record {
   left = f.left ++ u;
   moved = f.moved;
   parts = sym (append_assoc f.front f.left u) ∙ ap (λ l. l ++ u) f.parts ∙ append_assoc a.pending t u;
-  all = λ e. absurd (false_true e);
+  all = λ e. absurd (false≢true e);
 }
-
--- the bytes are held back
-pub writes-held : (c : Option (List ℕ)) (old new bytes : List ℕ) → new ≡ old ++ bytes → Writes (output_of c old) (output_of c new) true bytes
-writes-held c old new bytes e = record { front = []; left = old ++ bytes; moved = Appends-nil c; parts = refl; all = λ _. e }
-
--- all that was pending is written
-pub writes-pending : (c d : Option (List ℕ)) (old new bytes : List ℕ) → bytes ≡ old → Appends c d bytes → new ≡ [] → Writes (output_of c old) (output_of d new) true []
-writes-pending c d old new bytes e moved none = record { front = bytes; left = []; moved = moved; parts = ap (λ l. l ++ []) e; all = λ _. none }
-
--- a front of it is
-pub stops-pending : (c d : Option (List ℕ)) (old new bytes front rest : List ℕ) → bytes ≡ old → bytes ≡ front ++ rest → Appends c d front → Writes (output_of c old) (output_of d new) false []
-stops-pending c d old new bytes front rest e parts moved = record { front = front; left = rest; moved = moved; parts = sym parts ∙ e ∙ sym (append-nil old); all = λ f. absurd (false_true f) }
-
--- nothing is pending, and the bytes are written
-pub writes-apart : (c d : Option (List ℕ)) (old bytes : List ℕ) → old ≡ [] → Appends c d bytes → Writes (output_of c old) (output_of d old) true bytes
-writes-apart c d old bytes none moved = record { front = bytes; left = []; moved = moved; parts = append-nil bytes ∙ ap (λ l. l ++ bytes) (sym none); all = λ _. none }
-
-pub stops-apart : (c d : Option (List ℕ)) (old new bytes front rest : List ℕ) → old ≡ [] → bytes ≡ front ++ rest → Appends c d front → Writes (output_of c old) (output_of d new) false bytes
-stops-apart c d old new bytes front rest none parts moved = record { front = front; left = rest; moved = moved; parts = sym parts ∙ ap (λ l. l ++ bytes) (sym none); all = λ f. absurd (false_true f) }
-
--- what is written is sent on
-pub writes-sent : (a : Output) (d e : Option (List ℕ)) (pending bytes : List ℕ) (full : Bool) → Writes a (output_of d pending) true bytes → Keeps d e → Writes a (output_of e pending) full bytes
-writes-sent a d e pending bytes full f kept = record { front = f.front; left = f.left; moved = Appends-kept a.written d e f.front f.moved kept; parts = f.parts; all = λ _. f.all refl }
 
 pub writes-line : (a b c : Output) (full : Bool) (t line u : List ℕ) → t ≡ line → Writes a b true t → Writes b c full u → Writes a c full (line ++ u)
 writes-line a b c full t line u e f g = subst (λ l. Writes a c full (l ++ u)) e (writes-then a b c full t u f g)

@@ -15,10 +15,10 @@ use Rattle.taf_codes.specs.Codes.{are_letters_then_digits, has_unit_form, is_nam
 IsAscii-from_test : (test : ℕ → Bool) → ((byte : ℕ) → test byte ≡ true → byte < 128) → (text : List ℕ) → list_all test text ≡ true → IsAscii text
 IsAscii-from_test test ascii text all = IsAscii-from_all text (λ k d within. ascii _ (AllPass-from_list_all test text all k d within))
 
-letter_below : (byte : ℕ) → is_ascii_uppercase byte ≡ true → byte < 128
+pub letter_below : (byte : ℕ) → is_ascii_uppercase byte ≡ true → byte < 128
 letter_below byte h = grind (arith, common_steps)
 
-digit_below : (byte : ℕ) → is_ascii_digit byte ≡ true → byte < 128
+pub digit_below : (byte : ℕ) → is_ascii_digit byte ≡ true → byte < 128
 digit_below byte h = grind (arith, common_steps)
 
 name_letter_below : (byte : ℕ) → (is_ascii_uppercase byte || is_ascii_digit byte || (byte == 45)) ≡ true → byte < 128

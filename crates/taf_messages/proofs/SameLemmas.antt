@@ -1,7 +1,6 @@
 -- `==` finds exactly the equal messages.
-use Rattle.std.proofs.Common.{◌≡◌, true, refl, ap, rules}
+use Rattle.std.proofs.Common.{◌≡◌, true, refl, ap}
 use Rattle.std.specs.Prelude.{◌==◌, bytes_eq}
-use Rattle.taf_messages.specs.Content.{same_message}
 use Rattle.taf_codes.specs.Equality.{IsEquality, texts, numbers, options_equal, both}
 use Rattle.trip_plan.specs.Content.{same_wagons}
 use Rattle.trip_plan.specs.SameContent.{plans, legs, wagons}
@@ -102,7 +101,3 @@ message_equal a b h =
 
 pub messages : IsEquality MessageEq.ghosts.eq
 messages = record { equal = message_equal; itself = MessageLaws.laws-law.refl }
-
--- the readable test is the same
-pub same_message_is : (a b : Message) → MessageEq.ghosts.eq a b ≡ same_message a b
-same_message_is a b = search rules

@@ -13,7 +13,7 @@ fourth false false true d rest h = cc
 fourth false false false true rest h = cc
 fourth false false false false rest h = refl
 
-neither : (a b : Bool) → (a || b) ≡ false → (a ≡ false) × (b ≡ false)
+pub neither : (a b : Bool) → (a || b) ≡ false → (a ≡ false) × (b ≡ false)
 neither true b h = cc
 neither false b h = (refl, h)
 

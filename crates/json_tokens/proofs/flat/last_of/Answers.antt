@@ -1,8 +1,20 @@
-use Rattle.std.proofs.Common.{refl}
-use Rattle.json_tokens.proofs.FlatLemmas.{last_so_far}
+use Rattle.std.proofs.Common.{◌≡◌, ap, sym, ◌∙◌, take, take_all, arith}
+use Rattle.json_tokens.specs.Flat.{last_under}
+use Rattle.json_tokens.proofs.FlatLemmas.{last_here, last_before}
 use Rattle.json_tokens.proofs.flat.last_of.Goals as goal
 
-pub loop-member-preserved : goal.loop-member-preserved
-loop-member-preserved c =
-    last_so_far c.args.name.now c.args.members.now c.loop-member.member-index _ _ _ _ c.loop-member-test.true refl
-    c.loop-member.invariant c.later-found.ensures
+pub loop-i-init : goal.loop-i-init
+loop-i-init c = ap (last_under c.args.name.now) (sym (take_all _ c.args.members.now (omega arith)))
+
+pub returns-then-eq : goal.returns-then-eq
+returns-then-eq c =
+    sym (c.loop-i.invariant ∙ last_here c.args.name.now c.args.members.now c.loop-i.i _ c.eq.result c.loop-i-test.true c.loop-i.auto.i c.eq.ensures c.if-eq.true)
+
+pub loop-i-preserved : goal.loop-i-preserved
+loop-i-preserved c =
+    c.loop-i.invariant ∙ last_before c.args.name.now c.args.members.now c.loop-i.i _ c.eq.result c.loop-i-test.true c.loop-i.auto.i c.eq.ensures c.if-eq.false
+
+pub returns : goal.returns
+returns c =
+    let none : c.loop-i.i ≡ 0 = omega arith in
+    sym (c.loop-i.invariant ∙ ap (λ k. last_under c.args.name.now (take k c.args.members.now)) none)

@@ -2,6 +2,6 @@ use Rattle.std.proofs.Common.{◌≡◌, take}
 use Rattle.json_tokens.specs.Flat.{last_under}
 use Rattle.json_tokens.proofs.flat.last_of.Given as goal
 
--- the last one of those so far
-abbrev pub invariant-loop-member : goal.invariant-loop-member
-invariant-loop-member l = l.found ≡ last_under l.name (take l.member-index l.members)
+-- the last one is among those that are left
+abbrev pub invariant-loop-i : goal.invariant-loop-i
+invariant-loop-i l = last_under l.name l.members ≡ last_under l.name (take l.i l.members)

@@ -1,6 +1,6 @@
 use Rattle.std.proofs.Common.{false, take, length, length-take-le, refl, ap, ◌∙◌, ◌<◌, Ok, Err, arith, rules}
+use Rattle.std.proofs.lemmas.Bool.{false≢true}
 use Rattle.session_serving.proofs.EndLemmas.{progress-start, progress-on, progress-stop, progress-end, progress-fails, progress-never, ok_is_no_end, err_is_no_end, err_is_memory, first_fails}
-use Rattle.session_serving.proofs.WriteLemmas.{false_true}
 use Rattle.session_serving.proofs.serve.serve_reader.Goals as goal
 
 pub loop-total-init : goal.loop-total-init
@@ -42,7 +42,7 @@ returns-in-Err-clause-reads g c =
     let i = c.loop-total.invariant in
     let len = length-take-le c.in-Ok.count c.read_more.new.room c.in-Ok.ensures.bound in
     let fits = length-take-le c.min-most.result c.loop-total.room (omega arith) in
-    progress-stop _ _ _ _ _ _ _ (take c.in-Ok.count c.read_more.new.room) _ (Err c.in-Err.fault) false refl (λ e. absurd (false_true e)) (err_is_no_end c.in-Err.fault _ _ _ _ _ c.in-Err.ensures.blames refl) (omega (arith, len, fits, c.in-Ok.ensures.bound, c.read_more.auto.room)) i.progress c.in-Ok.ensures.bytes.0 c.in-Err.ensures.serves
+    progress-stop _ _ _ _ _ _ _ (take c.in-Ok.count c.read_more.new.room) _ (Err c.in-Err.fault) false refl (λ e. absurd (false≢true e)) (err_is_no_end c.in-Err.fault _ _ _ _ _ c.in-Err.ensures.blames refl) (omega (arith, len, fits, c.in-Ok.ensures.bound, c.read_more.auto.room)) i.progress c.in-Ok.ensures.bytes.0 c.in-Err.ensures.serves
 
 pub returns-in-Err-clause-fails : goal.returns-in-Err-clause-fails
 returns-in-Err-clause-fails g c =
