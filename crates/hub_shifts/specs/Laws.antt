@@ -15,10 +15,10 @@ use Rattle.session_serving.specs.Serving.{traffic_of, IsServed}
 use Rattle.hub_shifts.specs.declared.shift.Shift.{Shift}
 use Rattle.hub_shifts.specs.Shifts.{SessionState, WorkerState, IsShift}
 
--- A new session of this number was given the first of the whole lines of its reader, and what it said was written to its writer.
--- It put the jobs that it gave out in their order, all but the last where its port failed. Its tally has the answers that were
--- Ok of these jobs, in the order of its lines. Where it ended well, these are the jobs that it put, each has its answer, all that
--- there was to read was read, all whole lines were given, and all that it said was written.
+-- A new session of this number was given the first of the whole lines of its reader, and a first part of what it said was written
+-- to its writer. It put the jobs that it gave out in their order, all but the last where its port failed. Its tally has the
+-- answers that were Ok of these jobs, in the order of its lines. Where it ended well, these are the jobs that it put, each has its
+-- answer, all that there was to read was read, all whole lines were given, and all that it said was written.
 pub record TellsOwnJobs (number : ℕ) (s : SessionState) : Type 0 where
   pub served : Result (Unit {0}) SessionFault
   pub state : State

@@ -27,9 +27,10 @@ abbrev pub streams_of : Option (List ℕ) → Option (List ℕ) → Streams
 streams_of remaining written = record { remaining = remaining; written = written }
 
 -- A new session of this number, which began with these streams, was served: it was given the first of the whole lines of its
--- reader, what it said was written to its writer, and its jobs were put, in order, all but the last where the port failed. Its
--- tally is this. Where serving answered Ok no slot is taken.
-pub record HasEnded (session : ℕ) (began : Streams) (end : SessionEnd) (told : List Told) (put : List Job) : Type 0 where
+-- reader, a first part of what it said was written to its writer, and its jobs were put, in order, all but the last where the
+-- port failed. Its tally is this. Where serving answered Ok no slot is taken.
+pub record HasEnded (session : ℕ) (began : Streams) (end : SessionEnd) (told : List Told)
+    (put : List Job) : Type 0 where
   pub served : Result (Unit {0}) SessionFault
   pub state : State
   pub left : Streams
