@@ -1,10 +1,10 @@
-use Rattle.std.proofs.Common.{◌≡◌, ap, sym, ◌∙◌, take, take_all, arith}
+use Rattle.std.proofs.Common.{◌≡◌, ap, sym, ◌∙◌, length, take, take_all, arith}
 use Rattle.json_tokens.specs.Flat.{last_under}
 use Rattle.json_tokens.proofs.FlatLemmas.{last_here, last_before}
 use Rattle.json_tokens.proofs.flat.last_of.Goals as goal
 
 pub loop-i-init : goal.loop-i-init
-loop-i-init c = ap (last_under c.args.name.now) (sym (take_all _ c.args.members.now (omega arith)))
+loop-i-init c = ap (last_under c.args.name.now) (sym (take_all (length c.args.members.now) c.args.members.now (omega arith)))
 
 pub returns-then-eq : goal.returns-then-eq
 returns-then-eq c =
