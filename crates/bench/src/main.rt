@@ -1,4 +1,4 @@
-//! The program `bench`: its words and standard output. What is measured is told in `benchmarks`.
+//! The program `bench`: its words and standard output. What is measured is described in `benchmarks`.
 #![tactic(auto)]
 
 use anyhow::Result;

@@ -1,6 +1,6 @@
 //! The connections of a listener: as many as a shift has sessions, each with its two ends.
 //!
-//! [`accept_all`] accepts them one after another, and gives a reader and a writer of each. What is served over them is told in
+//! [`accept_all`] accepts them one after another, and gives a reader and a writer of each. What is served over them is described in
 //! the crates above: this one knows neither sessions nor the hub.
 //!
 //! # What is promised

@@ -1,7 +1,8 @@
 -- What the threads give back, by what they began with.
-use Rattle.std.proofs.Common.{Result, Ok, Err, IfOk, ◌≡◌, ℕ, ◌<◌, List, [], ◌∷◌, length, get_or, ◌∙◌, subst, arith}
+use Rattle.std.proofs.Common.{Result, Ok, Err, IfOk, ◌≡◌, ℕ, ◌<◌, List, [], ◌∷◌, ◌++◌, length, get_or, ◌∙◌, subst, sym, arith}
 use Rattle.inbox.specs.States.{PassState}
 use Rattle.session_lanes.specs.Lanes.{EachAt, EachPair}
+use Rattle.session_lanes.proofs.FallLemmas.{EachPair-push}
 use Rattle.hub_shifts.proofs.KeptLemmas.{some_item}
 
 -- from what the threads began with, by their handles, to what they gave back
@@ -16,6 +17,10 @@ through A P Q S f xs (h ∷ hs) rs a p q = (
   q.0 ∙ p.0,
   λ k d e low. let alike = p.0 in f k (get_or xs k d) (get_or (h ∷ hs) k h) (get_or rs k e) (a k d low) (p.1 k d h low) (q.1 k h e (omega (arith, alike, low))),
 )
+
+-- one more thread, whose handle comes last
+pub another_handle : {X H : Type 0} (P : ℕ → X → H → Type 0) (xs : List X) (x : X) (old new : List H) → EachPair P xs old → (h : H) × (new ≡ old ++ h ∷ []) × P (length xs) x h → EachPair P (xs ++ x ∷ []) new
+another_handle P xs x old new each last = subst (EachPair P (xs ++ x ∷ [])) (sym last.1) (EachPair-push P xs old x last.0 each last.2)
 
 -- of two facts of an Ok a third
 pub if_ok_two : {T E : Type 0} (A B C : T → Type 0) → ((b : T) → A b → B b → C b) → (r : Result T E) → IfOk r A → IfOk r B → IfOk r C

@@ -8,7 +8,7 @@
 //!
 //! [`task_of`] reads them, by clap. Arguments that name no task are an error of clap's, which has the text to print: for
 //! `--help` the help, which ends with an example and the statuses, for `--version` the version, and else what is wrong with
-//! them. What a task does is told in the crate of the commands.
+//! them. What a task does is described in the crate of the commands.
 #![tactic(auto)]
 
 mod help;

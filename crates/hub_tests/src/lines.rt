@@ -1,7 +1,8 @@
-use crate::play::{INTERCHANGE, Script, first_output_of, no_difference};
+use crate::play::{INTERCHANGE, first_output_of, no_difference};
 use std::alloc::Global;
 use std::test::Fail;
 use std::thread::Threads;
+use test_scripts::{Script, count_lines, first_lines};
 
 // A session's first line is no call, and without sessions anyone may ask.
 pub(crate) const BAD_LINES: &str = r#"{"kind":"ask","from":"DE
@@ -96,31 +97,6 @@ fn long_lines_and_blank_ones(rt: HostRuntime) -> Result<(), Fail> {
         no_difference(&output, wanted.as_bytes())?;
     }
     Ok(())
-}
-
-/// How many newlines there are.
-pub(crate) fn count_lines(bytes: &[u8]) -> usize {
-    let mut lines: usize = 0;
-    for byte in bytes {
-        if *byte == b'\n' {
-            lines = lines.saturating_add(1);
-        }
-    }
-    lines
-}
-
-/// The first lines, so many of them.
-pub(crate) fn first_lines(lines: &[u8], many: usize) -> &[u8] {
-    let mut left = many;
-    for (i, byte) in lines.iter().enumerate() {
-        if left == 0 {
-            return lines.get(..i).unwrap_or(lines);
-        }
-        if *byte == b'\n' {
-            left -= 1;
-        }
-    }
-    lines
 }
 
 // The answers to an input that is cut. Whole lines have theirs. A rest has the answer to its call where the cut took the

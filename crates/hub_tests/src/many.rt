@@ -1,9 +1,10 @@
-use crate::play::{DEPARTED, Script, add_line, first_output_of, new_hub, no_difference, plays_on};
+use crate::play::{DEPARTED, first_output_of, new_hub, no_difference, plays_on};
 use call_reader::read_call;
 use hub_core::{Hub, HubFault};
 use std::alloc::Global;
 use std::test::Fail;
 use taf_messages::{Call, copy_call};
+use test_scripts::{Script, add_line};
 
 /// A plan of 60 wagons over eight legs.
 pub(crate) const MOST_WAGONS_AND_LEGS: &str =
@@ -98,7 +99,7 @@ pub(crate) static EXAMPLES: &[(&str, &[&str])] = &[
 fn add_numbered(lines: &mut Vec<u8>, before: &str, number: &str, behind: &str) -> Result<(), Fail> {
     lines.extend_from_slice(before.as_bytes())?;
     lines.extend_from_slice(number.as_bytes())?;
-    add_line(lines, behind)
+    Ok(add_line(lines, behind.as_bytes())?)
 }
 
 static DELAY: &str = r#"{"kind":"exception","from":"R101","no":"#;

@@ -7,6 +7,7 @@ use std::str;
 use std::test::Fail;
 use std::thread::Threads;
 use taf_codes::Std;
+use test_scripts::Script;
 
 /// Up to the departure of the first wagon.
 pub(crate) const DEPARTED: &str =
@@ -46,45 +47,6 @@ pub(crate) const ANSWERED: &str =
 
 /// The interchange of a train.
 pub(crate) static INTERCHANGE: &[&str] = &[DEPARTED, BOTH_DEPARTED, OFFERED, ANSWERED];
-
-/// Adds a line with its newline.
-pub(crate) fn add_line(lines: &mut Vec<u8>, line: &str) -> Result<(), Fail> {
-    lines.extend_from_slice(line.as_bytes())?;
-    lines.push(b'\n')?;
-    Ok(())
-}
-
-/// The lines of calls, and those of the answers that are wanted.
-#[derive(Drop)]
-pub(crate) struct Script {
-    pub(crate) input: Vec<u8>,
-    pub(crate) wanted: Vec<u8>,
-}
-
-impl Script {
-    /// The lines of an example.
-    pub(crate) fn of(alloc: Global, example: &[&str]) -> Result<Script, Fail> {
-        let mut script = Script {
-            input: Vec::new(alloc),
-            wanted: Vec::new(alloc),
-        };
-        for part in example {
-            script.add(part)?;
-        }
-        Ok(script)
-    }
-
-    /// Adds the lines of a part.
-    pub(crate) fn add(&mut self, part: &str) -> Result<(), Fail> {
-        for line in part.lines() {
-            match line.strip_prefix("> ") {
-                Some(answer) => add_line(&mut self.wanted, answer)?,
-                None => add_line(&mut self.input, line)?,
-            }
-        }
-        Ok(())
-    }
-}
 
 /// A hub that has taken no call. It lies on the heap, since what owns a hub itself takes the prover long.
 pub(crate) fn new_hub(alloc: Global) -> Result<Box<Hub>, Fail> {

@@ -1,9 +1,8 @@
 //! The report of the wagons: by one thread and by many, of many wagons, and with each growth refused in turn.
 
 use crate::changes::WITH_UNIT;
-use crate::lines::count_lines;
 use crate::many::{MOST_WAGONS_AND_LEGS, NINE_LEGS, WAGONS_61, delays};
-use crate::play::{DEPARTED, Script, add_line, new_hub, no_difference, output_of};
+use crate::play::{DEPARTED, new_hub, no_difference, output_of};
 use hub_core::View;
 use memory_limit::MemoryLimit;
 use std::alloc::Global;
@@ -11,6 +10,7 @@ use std::test::Fail;
 use std::thread::Threads;
 use taf_codes::Memory;
 use taf_messages::Record;
+use test_scripts::{Script, add_line, count_lines};
 use wimo_report::{lines, plain_lines};
 
 const OF_TWO: &str = "wagons 2
@@ -72,7 +72,7 @@ fn view_after(rt: &impl Threads, alloc: Global, input: &[u8]) -> Result<View, Fa
 fn joined(alloc: Global, lines: &[String]) -> Result<Vec<u8>, Fail> {
     let mut text = Vec::new(alloc);
     for line in lines {
-        add_line(&mut text, line)?;
+        add_line(&mut text, line.as_bytes())?;
     }
     Ok(text)
 }

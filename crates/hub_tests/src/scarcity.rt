@@ -1,6 +1,6 @@
 //! Each growth refused in turn: of a hub that takes the calls of an interchange, and of a view of it.
 
-use crate::play::{INTERCHANGE, Script, new_hub, no_difference, plays_on};
+use crate::play::{INTERCHANGE, new_hub, no_difference, plays_on};
 use crate::trains::AFTER_INTERCHANGE;
 use call_reader::read_call;
 use hub_core::{Hub, View};
@@ -10,6 +10,7 @@ use std::alloc::Global;
 use std::test::Fail;
 use std::thread::Threads;
 use taf_messages::{Call, Reply};
+use test_scripts::Script;
 
 static AFTERWARDS: &[&str] = &[AFTER_INTERCHANGE];
 

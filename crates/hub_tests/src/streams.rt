@@ -3,16 +3,17 @@
 ghost use Rattle.std.specs.Prelude.{None};
 ghost use Rattle.taf_codes.specs.Counting.{count};
 
-use crate::lines::{BAD_LINES, count_lines, first_lines};
+use crate::lines::BAD_LINES;
 use crate::many::delays;
 use crate::movement::AFTER_DEPARTURE;
-use crate::play::{DEPARTED, Script, new_hub};
+use crate::play::{DEPARTED, new_hub};
 use hub_core::Hub;
 use hub_replay::{Counts, RunFault, run};
 use memory_limit::MemoryLimit;
 use std::test::Fail;
 use std::thread::Threads;
 use taf_codes::{Failed, Failures, Sink, Source};
+use test_scripts::{Script, count_answered, count_lines, first_lines};
 
 const BLANK_LINES: &str = "\n \t\n  ";
 
@@ -210,21 +211,6 @@ fn is_front(ran: &Ran, output: &[u8]) -> bool {
         && ran.entries <= replies.saturating_add(1)
 }
 
-// How many whole lines there are that aren't blank.
-fn count_answered(input: &[u8]) -> usize {
-    let mut lines: usize = 0;
-    let mut is_blank = true;
-    for byte in input {
-        if *byte > b' ' {
-            is_blank = false;
-        } else if *byte == b'\n' {
-            lines = lines.saturating_add(usize::from(!is_blank));
-            is_blank = true;
-        }
-    }
-    lines
-}
-
 // The answers to the whole lines among the first bytes of the input, so many of them.
 fn answers_to_first(script: &Script, size: usize) -> &[u8] {
     let input = script.input.as_slice();
@@ -321,7 +307,7 @@ fn each_write_fails(rt: HostRuntime) -> Result<(), Fail> {
     Ok(())
 }
 
-// Many lines are read at once, so the next are heard while some are answered.
+// Many lines are read at once, so the next are parsed while some are answered.
 #[test]
 fn a_write_fails_among_many_lines(rt: HostRuntime) -> Result<(), Fail> {
     let script = delays(rt.alloc())?;

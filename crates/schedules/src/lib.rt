@@ -1,4 +1,5 @@
-//! Sessions and workers that take turns in one thread, in an order that is drawn from a seed. Nothing but tests uses it.
+//! Sessions and workers that take turns in one thread, in an order that is drawn from a seed. Nothing but tests and
+//! benchmarks uses it.
 //!
 //! A schedule draws from its seed how many sessions and workers there are, up to 64 and 8, which lines each session reads,
 //! how many places each lane has, and then who goes on, turn by turn. A session reads a line, puts its job into its lane,

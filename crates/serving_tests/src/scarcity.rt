@@ -3,12 +3,13 @@ ghost use Rattle.std.specs.Prelude.{◌≡◌};
 ghost use Rattle.session_lines.specs.States.{new_state};
 
 use crate::ends::{Ends, Served};
-use crate::served::{Script, count_lines, example, is_whole};
+use crate::served::{example, is_whole};
 use crate::streams::FAR;
 use memory_limit::MemoryLimit;
 use session_serving::SessionFault;
 use std::alloc::Global;
 use std::test::Fail;
+use test_scripts::{Script, count_lines};
 
 const NO_MEMORY: &[u8] = b"{\"fault\":\"no_memory\"}";
 

@@ -5,6 +5,7 @@ use crate::streams::{FAR, Giving, MANY, Reach};
 use session_serving::SessionFault;
 use std::alloc::Global;
 use std::test::Fail;
+use test_scripts::{Script, add_line, count_answered, first_lines};
 
 // The hello of a railway.
 const HELLO: &str = r#"{"kind":"hello","from":"R100"}"#;
@@ -18,7 +19,7 @@ const UNKNOWN: &str = r#"{"reply":"refused","wagon":"318066552148","why":"unknow
 const BAD_JSON: &str = r#"{"fault":"bad_json"}"#;
 
 // What a railway sends of its wagon, with lines that are no calls of it. It has five jobs.
-const EXAMPLE: &str = r#"{"kind":"hello","from":"R100"}
+const EXAMPLE_TEXT: &str = r#"{"kind":"hello","from":"R100"}
 > {"hello":"R100"}
 {"kind":"plan","from":"R100","no":1,"consignment":"C-1","load":"loaded","commit":"2025-03-01T15:30Z","wagons":["218124712173"],"legs":[{"ru":"R101","origin":"DE00001","target":"AT00002","minutes":300},{"ru":"R102","origin":"AT00002","target":"IT00003","minutes":240}]}
 > {"no":1,"reply":"accepted"}
@@ -37,7 +38,7 @@ const EXAMPLE: &str = r#"{"kind":"hello","from":"R100"}
 > {"items":[],"reply":"items"}"#;
 
 // The interchange of a train, as the session of one of its railways reads it. Its hub knows none of the wagons.
-const INTERCHANGE: &str = r#"{"kind":"hello","from":"R101"}
+const INTERCHANGE_TEXT: &str = r#"{"kind":"hello","from":"R101"}
 > {"hello":"R101"}
 {"kind":"plan","from":"R100","no":1,"consignment":"C-1","load":"loaded","commit":"2025-03-01T15:30Z","wagons":["218124712173","338478961232"],"legs":[{"ru":"R101","origin":"DE00001","target":"AT00002","minutes":300},{"ru":"R102","origin":"AT00002","target":"IT00003","minutes":240}]}
 > {"fault":"wrong_sender"}
@@ -63,7 +64,7 @@ const INTERCHANGE: &str = r#"{"kind":"hello","from":"R101"}
 > {"fault":"wrong_sender"}"#;
 
 // A line before the hello, one of another railway, and a call whose answer is a stranger's.
-const STRANGER: &str = r#"{"kind":"ask","from":"R100","wagon":"218124712173"}
+const STRANGER_TEXT: &str = r#"{"kind":"ask","from":"R100","wagon":"218124712173"}
 > {"fault":"no_hello"}
 {"kind":"hello","from":"R100"}
 > {"hello":"R100"}
@@ -76,36 +77,17 @@ const STRANGER: &str = r#"{"kind":"ask","from":"R100","wagon":"218124712173"}
 // A last line that has no newline, and is dropped.
 const DROPPED: &str = r#"{"kind":"ask","from":"R100","wagon":"218124712173"}"#;
 
-/// The lines of an example, with a piece of a line behind them, and those that are to be said.
-#[derive(Drop)]
-pub(crate) struct Script {
-    pub(crate) input: Vec<u8>,
-    pub(crate) wanted: Vec<u8>,
-}
+static EXAMPLE: &[&str] = &[EXAMPLE_TEXT];
 
-// Adds a line with its newline.
-fn add_line(lines: &mut Vec<u8>, line: &str, newline: &str) -> Result<(), Fail> {
-    lines.extend_from_slice(line.as_bytes())?;
-    lines.extend_from_slice(newline.as_bytes())?;
-    Ok(())
-}
+static INTERCHANGE: &[&str] = &[INTERCHANGE_TEXT];
 
-// The lines of an example, each of which ends in this newline.
-fn script_with(alloc: Global, example: &str, newline: &str) -> Result<Script, Fail> {
-    let mut input = Vec::new(alloc);
-    let mut wanted = Vec::new(alloc);
-    for line in example.lines() {
-        match line.strip_prefix("> ") {
-            Some(said) => add_line(&mut wanted, said, "\n")?,
-            None => add_line(&mut input, line, newline)?,
-        }
-    }
-    input.extend_from_slice(DROPPED.as_bytes())?;
-    Ok(Script { input, wanted })
-}
+static STRANGER: &[&str] = &[STRANGER_TEXT];
 
-fn script_of(alloc: Global, example: &str) -> Result<Script, Fail> {
-    script_with(alloc, example, "\n")
+// The lines of an example with a piece of a line behind them, and those that are to be said.
+fn script_of(alloc: Global, example: &[&str]) -> Result<Script, Fail> {
+    let mut script = Script::of(alloc, example)?;
+    script.input.extend_from_slice(DROPPED.as_bytes())?;
+    Ok(script)
 }
 
 /// The example of a railway's wagon.
@@ -125,40 +107,6 @@ pub(crate) fn is_whole(served: &Served, script: &Script) -> bool {
         && served.output == script.wanted
         && (served.sent, served.told) == (5, 5)
         && served.left == 0
-}
-
-/// How many lines there are.
-pub(crate) fn count_lines(bytes: &[u8]) -> usize {
-    bytes.iter().filter(|byte| **byte == b'\n').count()
-}
-
-// How many whole lines there are that aren't blank.
-fn count_answered(input: &[u8]) -> usize {
-    let mut lines: usize = 0;
-    let mut is_blank = true;
-    for byte in input {
-        if *byte > b' ' {
-            is_blank = false;
-        } else if *byte == b'\n' {
-            lines = lines.saturating_add(usize::from(!is_blank));
-            is_blank = true;
-        }
-    }
-    lines
-}
-
-// The first lines, so many of them.
-fn first_lines(lines: &[u8], many: usize) -> &[u8] {
-    let mut left = many;
-    for (i, byte) in lines.iter().enumerate() {
-        if left == 0 {
-            return lines.get(..i).unwrap_or(lines);
-        }
-        if *byte == b'\n' {
-            left -= 1;
-        }
-    }
-    lines
 }
 
 // The first bytes, so many of them.
@@ -201,11 +149,24 @@ fn chunks_of_each_kind(rt: HostRuntime) -> Result<(), Fail> {
     Ok(())
 }
 
+// The lines with a carriage return before each newline.
+fn with_carriage_returns(alloc: Global, lines: &[u8]) -> Result<Vec<u8>, Fail> {
+    let mut bytes = Vec::new(alloc);
+    for byte in lines {
+        if *byte == b'\n' {
+            bytes.push(b'\r')?;
+        }
+        bytes.push(*byte)?;
+    }
+    Ok(bytes)
+}
+
 #[test]
 fn a_carriage_return_is_a_blank(rt: HostRuntime) -> Result<(), Fail> {
-    let script = script_with(rt.alloc(), EXAMPLE, "\r\n")?;
+    let script = example(rt.alloc())?;
+    let input = with_carriage_returns(rt.alloc(), &script.input)?;
     for step in [1usize, 50, MANY] {
-        let served = serve_input(rt.alloc(), &script.input, Reach { step, ..FAR })?;
+        let served = serve_input(rt.alloc(), &input, Reach { step, ..FAR })?;
         assert!(rt; is_whole(&served, &script), "by {step}");
     }
     Ok(())
@@ -217,8 +178,8 @@ fn two_hellos(alloc: Global, size: usize) -> Result<Vec<u8>, Fail> {
     for _ in HELLO.len()..size {
         input.push(b' ')?;
     }
-    add_line(&mut input, "", "\n")?;
-    add_line(&mut input, HELLO, "\n")?;
+    add_line(&mut input, b"")?;
+    add_line(&mut input, HELLO.as_bytes())?;
     Ok(input)
 }
 
@@ -505,18 +466,15 @@ fn a_strange_answer_ends_the_session(rt: HostRuntime) -> Result<(), Fail> {
 // A line and what is said to it, again and again.
 fn repeat(script: &mut Script, line: &str, said: &str, times: u32) -> Result<(), Fail> {
     for _ in 0..times {
-        add_line(&mut script.input, line, "\n")?;
-        add_line(&mut script.wanted, said, "\n")?;
+        add_line(&mut script.input, line.as_bytes())?;
+        add_line(&mut script.wanted, said.as_bytes())?;
     }
     Ok(())
 }
 
 // A hello.
 fn greeting(alloc: Global) -> Result<Script, Fail> {
-    let mut script = Script {
-        input: Vec::new(alloc),
-        wanted: Vec::new(alloc),
-    };
+    let mut script = Script::new(alloc);
     repeat(&mut script, HELLO, "{\"hello\":\"R100\"}", 1)?;
     Ok(script)
 }

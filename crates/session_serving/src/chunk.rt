@@ -1,5 +1,5 @@
 //! What was read at once.
-ghost use Rattle.std.specs.Prelude.{◌≡◌, ◌<◌, ◌≤◌, ◌+◌, ◌^◌, ◌∷◌, [], None, true, false, length, OnOk};
+ghost use Rattle.std.specs.Prelude.{◌≡◌, ◌<◌, ◌≤◌, ◌+◌, ◌^◌, ◌∷◌, [], None, true, false, length};
 ghost use Rattle.inbox.specs.declared.rule.Job.{Job};
 ghost use Rattle.session_lines.specs.declared.session.Step.TheVariants.{Ask, Ended};
 ghost use Rattle.session_lines.specs.Steps.{front_line};
@@ -13,7 +13,7 @@ ghost use Rattle.session_serving.specs.Faults.{Blames, goes_on, sends_all, write
 use crate::answers::{make_room, take_all};
 use crate::fault::SessionFault;
 use crate::lines::next_line;
-use crate::output::{put_line, write_out};
+use crate::output::put_line;
 use crate::port::Port;
 use session_lines::{Session, Step};
 use taf_codes::{Failed, Sink};
@@ -123,8 +123,8 @@ fn end_line<K: Sink, P: Port>(
     Ok(!session.has_failed())
 }
 
-// Bytes that were read, and then all answers. False where the session is over.
-fn serve_lines<K: Sink, P: Port>(
+/// Bytes that were read, and then all answers. False where the session is over.
+pub(crate) fn serve_chunk<K: Sink, P: Port>(
     writer: &mut K,
     port: &mut P,
     session: &mut Session,
@@ -159,42 +159,4 @@ fn serve_lines<K: Sink, P: Port>(
         from = end;
     }
     take_all(writer, &mut buffers.out, port, session)
-}
-
-/// Bytes that were read, then all answers, and all that was said is written. False where the
-/// session is over.
-pub(crate) fn serve_chunk<K: Sink, P: Port>(
-    writer: &mut K,
-    port: &mut P,
-    session: &mut Session,
-    buffers: &mut Buffers,
-    chunk: &[u8],
-) -> Result<bool, SessionFault>
-    requires ready { IsReady session.old }
-    requires room { session.old.job_count + length chunk.now < 2 ^ 62 }
-    requires mine { session.old.id ≡ P.session port.old }
-    requires fits { HaveRoom buffers.old }
-    ensures serves { ServesFirst
-        (exchange_of session.old (K.contents writer.old) buffers.old.out.items (P.sent port.old))
-        (cut_after buffers.old.line.items chunk.now).whole
-        (exchange_of session.new (K.contents writer.new) buffers.new.out.items (P.sent port.new))
-        (writes_all result) (sends_all result) (goes_on result) }
-    ensures blames { Blames result (K.failures writer.old) (K.failures writer.new)
-        (P.failures port.old) (P.failures port.new) }
-    ensures rest { goes_on result ≡ true
-        → buffers.new.line.items ≡ (cut_after buffers.old.line.items chunk.now).rest }
-    ensures count { session.new.job_count ≤ session.old.job_count + length chunk.now }
-    ensures mine { (session.new.id ≡ session.old.id) × (P.session port.new ≡ P.session port.old) }
-    ensures idle { IsIdleOrOver result session.new }
-    ensures written { OnOk result (buffers.new.out.items ≡ []) }
-    ensures fits { HaveRoom buffers.new }
-{
-    let on = match serve_lines(writer, port, session, buffers, chunk) {
-        Ok(on) => on,
-        Err(fault) => return Err(fault),
-    };
-    let Ok(()) = write_out(writer, &mut buffers.out) else {
-        return Err(SessionFault::Write);
-    };
-    Ok(on)
 }

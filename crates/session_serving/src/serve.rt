@@ -10,7 +10,7 @@ use crate::chunk::{Buffers, serve_chunk};
 use crate::ending::end_with;
 use crate::fault::SessionFault;
 use crate::lines::MAX_KEPT;
-use crate::output::MAX_PENDING;
+use crate::output::{MAX_PENDING, write_out};
 use crate::port::Port;
 use session_lines::Session;
 use std::alloc::Global;
@@ -52,7 +52,7 @@ fn read_more<S: Source>(reader: &mut S, session: &Session, room: &mut [u8]) -> R
     reader.pull(room)
 }
 
-// Reads to the end, or to a fault.
+// Reads to the end, or to a fault. All that was said is written before the next read.
 fn serve_reader<S: Source, K: Sink, P: Port>(
     reader: &mut S,
     writer: &mut K,
@@ -90,10 +90,15 @@ fn serve_reader<S: Source, K: Sink, P: Port>(
         if count == 0 {
             return Ok(());
         }
-        match serve_chunk(writer, port, session, buffers, &part[..count]) {
-            Ok(true) => {}
-            Ok(false) => return Ok(()),
+        let on = match serve_chunk(writer, port, session, buffers, &part[..count]) {
+            Ok(on) => on,
             Err(fault) => return Err(fault),
+        };
+        let Ok(()) = write_out(writer, &mut buffers.out) else {
+            return Err(SessionFault::Write);
+        };
+        if !on {
+            return Ok(());
         }
         total += count as u64;
     }

@@ -1,8 +1,9 @@
 //! Lines and answers mixed in every order.
 
-use crate::script_runner::{HELLO, ScriptResult, ScriptRunner, add_line, wanted};
+use crate::script_runner::{HELLO, ScriptResult, ScriptRunner};
 use std::alloc::Global;
 use std::test::Fail;
+use test_scripts::Script;
 
 // A fault and a foreign call among calls.
 const FAULTS: &str = r#"{"kind":"ask","from":"R100","wagon":"318066552148"}
@@ -107,10 +108,10 @@ fn run_in(runner: &mut ScriptRunner, lines: &str, order: &[Turn]) -> Result<Scri
 
 // What a session says to its hello and to the lines.
 fn wanted_lines(alloc: Global, lines: &str) -> Result<Vec<u8>, Fail> {
-    let mut said = Vec::new(alloc);
-    add_line(&mut said, b"{\"hello\":\"R100\"}")?;
-    said.extend_from_slice(&wanted(alloc, lines)?)?;
-    Ok(said)
+    let mut script = Script::new(alloc);
+    script.add("> {\"hello\":\"R100\"}")?;
+    script.add(lines)?;
+    Ok(script.wanted)
 }
 
 // Whether a session says these lines and has these replies in its tally in every order.

@@ -1,6 +1,6 @@
 //! Each growth of a session refused in turn.
 
-use crate::script_runner::{HELLO, ID, add_line, replies_of};
+use crate::script_runner::{HELLO, ID};
 use hub_core::Hub;
 use inbox::Job;
 use memory_limit::MemoryLimit;
@@ -9,6 +9,7 @@ use session_lines::{Done, Line, Session, Step};
 use std::alloc::Global;
 use std::mem::replace;
 use std::test::Fail;
+use test_scripts::{add_line, replies_of};
 
 // A hello, and lines that are calls or faults.
 static LINES: &str = r#"{"kind":"hello","from":"R100"}
@@ -152,7 +153,7 @@ impl Scarce {
     fn read_line(&mut self, line: &str) -> Result<(), Fail> {
         match self.step_again(line)? {
             Step::Ask(job) => self.answer(job),
-            Step::Say(line) => add_line(&mut self.said, line.bytes()),
+            Step::Say(line) => Ok(add_line(&mut self.said, line.bytes())?),
             _ => Ok(()),
         }
     }

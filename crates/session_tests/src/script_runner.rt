@@ -1,14 +1,13 @@
 //! A session that is driven by a script, command by command.
 
 use hub_core::{Hub, HubFault};
-use hub_shared::Tally;
 use inbox::Job;
-use reply_writer::append_reply;
 use session_lines::{Done, Session, Step};
 use std::alloc::Global;
 use std::mem::replace;
 use std::test::Fail;
 use taf_messages::{Reply, copy_call, copy_reply};
+use test_scripts::{add_line, replies_of};
 
 /// The hello of the railway whose session it is.
 pub(crate) const HELLO: &str = r#"{"kind":"hello","from":"R100"}"#;
@@ -45,34 +44,6 @@ pub(crate) struct ScriptResult {
     pub(crate) log: Vec<u8>,
     pub(crate) said: Vec<u8>,
     pub(crate) tally: Vec<u8>,
-}
-
-/// Adds a line with its newline.
-pub(crate) fn add_line(lines: &mut Vec<u8>, line: &[u8]) -> Result<(), Fail> {
-    lines.extend_from_slice(line)?;
-    lines.push(b'\n')?;
-    Ok(())
-}
-
-/// What is to come of a script.
-pub(crate) fn wanted(alloc: Global, script: &str) -> Result<Vec<u8>, Fail> {
-    let mut lines = Vec::new(alloc);
-    for line in script.lines() {
-        if let Some(line) = line.strip_prefix("> ") {
-            add_line(&mut lines, line.as_bytes())?;
-        }
-    }
-    Ok(lines)
-}
-
-/// The lines of the replies in a tally.
-pub(crate) fn replies_of(alloc: Global, tally: &Tally) -> Result<Vec<u8>, Fail> {
-    let mut lines = Vec::new(alloc);
-    for told in tally.entries() {
-        append_reply(alloc, &mut lines, &told.reply)?;
-        lines.push(b'\n')?;
-    }
-    Ok(lines)
 }
 
 // The job that a letter stands for: `a` is the first.
@@ -160,10 +131,15 @@ impl ScriptRunner {
         })
     }
 
+    // Notes what came of a command.
+    fn note(&mut self, line: &[u8]) -> Result<(), Fail> {
+        Ok(add_line(&mut self.log, line)?)
+    }
+
     // Notes what the session said.
     fn say(&mut self, line: &[u8]) -> Result<(), Fail> {
         add_line(&mut self.said, line)?;
-        add_line(&mut self.log, line)
+        self.note(line)
     }
 
     // The hub takes a job of the session.
@@ -188,21 +164,21 @@ impl ScriptRunner {
     /// Gives the session a line.
     pub(crate) fn read_line(&mut self, line: &[u8]) -> Result<(), Fail> {
         if self.session.busy() || self.session.job_count() >= MANY {
-            return add_line(&mut self.log, b"busy");
+            return self.note(b"busy");
         }
         match self.session.on_line(line) {
-            Step::Nothing => add_line(&mut self.log, b"nothing"),
+            Step::Nothing => self.note(b"nothing"),
             Step::Say(line) => self.say(line.bytes()),
-            Step::Held => add_line(&mut self.log, b"held"),
+            Step::Held => self.note(b"held"),
             Step::Ask(job) => self.take_job(job),
-            Step::Ended => add_line(&mut self.log, b"ended"),
+            Step::Ended => self.note(b"ended"),
         }
     }
 
     // Gives the session an answer.
     fn take_answer(&mut self, done: Done) -> Result<(), Fail> {
         if !self.session.has_job_in_front() {
-            return add_line(&mut self.log, b"no job");
+            return self.note(b"no job");
         }
         let line = self.session.on_done(done);
         self.say(line.bytes())
@@ -241,7 +217,7 @@ impl ScriptRunner {
         if self.say_held()? {
             return Ok(());
         }
-        add_line(&mut self.log, b"none")
+        self.note(b"none")
     }
 
     // Does one command: an answer, a held line that is asked for, or a line that is read.
@@ -255,10 +231,18 @@ impl ScriptRunner {
         self.read_line(command.as_bytes())
     }
 
-    /// Does the commands of a script.
-    pub(crate) fn run(&mut self, script: &str) -> Result<(), Fail> {
-        for command in script.lines().filter(|line| !line.starts_with("> ")) {
+    /// Does the commands of a text.
+    pub(crate) fn run_text(&mut self, text: &str) -> Result<(), Fail> {
+        for command in text.lines().filter(|line| !line.starts_with("> ")) {
             self.perform(command)?;
+        }
+        Ok(())
+    }
+
+    /// Does the commands of a script.
+    pub(crate) fn run(&mut self, script: &[&str]) -> Result<(), Fail> {
+        for text in script {
+            self.run_text(text)?;
         }
         Ok(())
     }

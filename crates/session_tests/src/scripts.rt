@@ -1,9 +1,10 @@
 //! Scripts of single lines, of sixteen jobs, of held lines and of answers that are not the session's.
 
-use crate::script_runner::{HELLO, ScriptRunner, wanted};
+use crate::script_runner::{HELLO, ScriptRunner};
 use std::alloc::Global;
 use std::str;
 use std::test::Fail;
+use test_scripts::{Script, count_lines};
 
 // A session from its hello to an answer that is not its own.
 const STRANGER: &str = r#"{"kind":"ask","from":"R100","wagon":"218124712173"}
@@ -59,8 +60,8 @@ const TWICE: &str = r#"{"kind":"hello","from":"R100"}
 {"kind":"ask","from":"R100","wagon":"318066552148"}
 > ended"#;
 
-// Sixteen jobs, and the answer to the second first.
-const SIXTEEN: &str = r#"{"kind":"hello","from":"R100"}
+// A hello, and fifteen jobs.
+const FIFTEEN_JOBS: &str = r#"{"kind":"hello","from":"R100"}
 > {"hello":"R100"}
 {"kind":"ask","from":"R100","wagon":"318066552148"}
 > job a
@@ -91,8 +92,10 @@ const SIXTEEN: &str = r#"{"kind":"hello","from":"R100"}
 {"kind":"ask","from":"R100","wagon":"318066552148"}
 > job n
 {"kind":"ask","from":"R100","wagon":"318066552148"}
-> job o
-{"kind":"ask","from":"R100","wagon":"318066552148"}
+> job o"#;
+
+// The sixteenth job, and the answer to the second first.
+const SIXTEENTH: &str = r#"{"kind":"ask","from":"R100","wagon":"318066552148"}
 > job p
 
 > busy
@@ -101,40 +104,8 @@ const SIXTEEN: &str = r#"{"kind":"hello","from":"R100"}
 {"kind":"ask","from":"R100","wagon":"318066552148"}
 > ended"#;
 
-// Fifteen jobs, and a line that is held behind them.
-const HELD: &str = r#"{"kind":"hello","from":"R100"}
-> {"hello":"R100"}
-{"kind":"ask","from":"R100","wagon":"318066552148"}
-> job a
-{"kind":"ask","from":"R100","wagon":"318066552148"}
-> job b
-{"kind":"ask","from":"R100","wagon":"318066552148"}
-> job c
-{"kind":"ask","from":"R100","wagon":"318066552148"}
-> job d
-{"kind":"ask","from":"R100","wagon":"318066552148"}
-> job e
-{"kind":"ask","from":"R100","wagon":"318066552148"}
-> job f
-{"kind":"ask","from":"R100","wagon":"318066552148"}
-> job g
-{"kind":"ask","from":"R100","wagon":"318066552148"}
-> job h
-{"kind":"ask","from":"R100","wagon":"318066552148"}
-> job i
-{"kind":"ask","from":"R100","wagon":"318066552148"}
-> job j
-{"kind":"ask","from":"R100","wagon":"318066552148"}
-> job k
-{"kind":"ask","from":"R100","wagon":"318066552148"}
-> job l
-{"kind":"ask","from":"R100","wagon":"318066552148"}
-> job m
-{"kind":"ask","from":"R100","wagon":"318066552148"}
-> job n
-{"kind":"ask","from":"R100","wagon":"318066552148"}
-> job o
-[]
+// A line that is held behind fifteen jobs.
+const HELD: &str = r#"[]
 > held
 []
 > busy
@@ -288,21 +259,16 @@ const AFTER: &str = r#"{"kind":"hello","from":"R100"}
 > {"reply":"refused","wagon":"318066552148","why":"unknown_wagon"}"#;
 
 // The scripts, and how many entries the tally of each has.
-static SCRIPTS: [(&str, usize); 8] = [
-    (STRANGER, 0),
-    (OTHER_SESSION, 1),
-    (TWICE, 1),
-    (SIXTEEN, 0),
-    (HELD, 15),
-    (FAULTS_OF_JOBS, 1),
-    (BEFORE, 0),
-    (AFTER, 1),
+static SCRIPTS: &[(&[&str], usize)] = &[
+    (&[STRANGER], 0),
+    (&[OTHER_SESSION], 1),
+    (&[TWICE], 1),
+    (&[FIFTEEN_JOBS, SIXTEENTH], 0),
+    (&[FIFTEEN_JOBS, HELD], 15),
+    (&[FAULTS_OF_JOBS], 1),
+    (&[BEFORE], 0),
+    (&[AFTER], 1),
 ];
-
-// How many lines there are.
-fn count_lines(lines: &[u8]) -> usize {
-    lines.split(|byte| *byte == b'\n').count().saturating_sub(1)
-}
 
 // The bytes as a text, for a failed test to show.
 fn shown(bytes: &[u8]) -> &str {
@@ -312,7 +278,7 @@ fn shown(bytes: &[u8]) -> &str {
 // Fails unless just this comes of the script, and its tally has so many entries.
 fn check_script(
     runner: &mut ScriptRunner,
-    script: &str,
+    script: &[&str],
     wanted: &[u8],
     told: usize,
 ) -> Result<(), Fail> {
@@ -326,8 +292,8 @@ fn check_script(
 
 // Fails unless each script is answered.
 fn check_scripts(runner: &mut ScriptRunner, alloc: Global) -> Result<(), Fail> {
-    for (script, told) in &SCRIPTS {
-        let wanted = wanted(alloc, script)?;
+    for (script, told) in SCRIPTS {
+        let wanted = Script::of(alloc, script)?.wanted;
         check_script(runner, script, &wanted, *told)?;
     }
     Ok(())
@@ -365,7 +331,7 @@ static OF_ANOTHER: &str =
 
 // What comes of a line behind these commands.
 fn log_of(runner: &mut ScriptRunner, first: &str, line: &[u8]) -> Result<Vec<u8>, Fail> {
-    runner.run(first)?;
+    runner.run_text(first)?;
     runner.read_line(line)?;
     Ok(runner.end()?.log)
 }

@@ -3,7 +3,7 @@ ghost use Rattle.std.specs.Prelude.{◌≡◌};
 
 use crate::altered::with_reply;
 use crate::caller::Caller;
-use crate::lines::{INTERCHANGE, call_of, replies_of};
+use crate::lines::{INTERCHANGE, call_of};
 use hub_core::Hub;
 use hub_shared::{Seat, Settled, SharedHub, Tally, Told, settle};
 use memory_limit::MemoryLimit;
@@ -13,6 +13,7 @@ use std::sync::Wait;
 use std::sync::ledger::{Blank, Ledger};
 use std::test::Fail;
 use taf_messages::{Call, Reply, copy_call};
+use test_scripts::replies_of;
 
 // How much memory is left for each step, how many calls of this run were refused it, and how many other steps of all runs.
 #[derive(Drop)]
@@ -152,7 +153,7 @@ impl Scarcity {
         if settled.calls != 16 || closed.sum != 16 || closed.refused != self.calls {
             return Err(Fail::new("other counts"));
         }
-        replies_of(alloc, &closed.tallies[0])
+        Ok(replies_of(alloc, &closed.tallies[0])?)
     }
 
     // The same on a new hub, where so many bytes are left for each step.

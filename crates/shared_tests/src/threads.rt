@@ -3,7 +3,7 @@ ghost use Rattle.std.specs.Prelude.{◌≡◌};
 
 use crate::altered::tally_of;
 use crate::caller::Caller;
-use crate::lines::{FIRST, SECOND, replies_of, wanted_replies};
+use crate::lines::{FIRST, SECOND, wanted_replies};
 use hub_core::Hub;
 use hub_shared::{SettleFault, Settled, SharedHub, Tally, Told, settle, split_seat};
 use std::alloc::Global;
@@ -14,6 +14,7 @@ use std::test::Fail;
 use std::thread;
 use std::thread::Threads;
 use taf_codes::Memory;
+use test_scripts::replies_of;
 
 // What two sessions leave: the hub, which lies on the heap since what owns a hub itself takes the prover long, how many calls
 // it answered, and what each session was told.

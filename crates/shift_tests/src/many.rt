@@ -1,7 +1,7 @@
 //! Many sessions with many calls.
 
 use crate::shifts::boxed;
-use crate::streams::{Script, Writer, Written};
+use crate::streams::{Reader, Writer, Written};
 use hub_shared::{Settled, settle};
 use hub_shifts::{OpenGate, SessionEnd, Shift, run_shift};
 use std::alloc::Global;
@@ -48,7 +48,7 @@ fn run_all<R: Threads + Wait + Sync>(
 ) -> Result<Box<Shift>, Fail> {
     let mut sessions = Vec::new(alloc);
     for written in written {
-        let reader = Script::new(lines, false);
+        let reader = Reader::new(lines, false);
         let writer = Writer::new(rt, written, usize::MAX);
         sessions.push((reader, writer))?;
     }

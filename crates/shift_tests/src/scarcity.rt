@@ -1,14 +1,15 @@
 //! Each growth of a shift before its first thread refused in turn, and then the threads themselves.
 
-use crate::lines::{FIRST, said_lines, sent_lines};
+use crate::lines::OF_FIRST;
 use crate::shifts::boxed;
-use crate::streams::{Script, Writer, Written};
+use crate::streams::{Reader, Writer, Written};
 use hub_shifts::{OpenGate, SessionEnd, ShiftFault, run_shift};
 use memory_limit::MemoryLimit;
 use std::alloc::Global;
 use std::sync::Wait;
 use std::test::*;
 use std::thread::Threads;
+use test_scripts::Script;
 
 // How many bytes more each budget has.
 const STEP: usize = 64;
@@ -19,7 +20,7 @@ fn refusal<R: Threads + Wait + Sync>(
     alloc: Global,
     memory_limit: &mut MemoryLimit,
     left: usize,
-    session: (Script<'_>, Writer<'_, '_, R>),
+    session: (Reader<'_>, Writer<'_, '_, R>),
 ) -> Result<Option<ShiftFault>, Fail> {
     let sessions = Vec::from_array(alloc, [session])?;
     memory_limit.limit_to(left)?;
@@ -30,12 +31,12 @@ fn refusal<R: Threads + Wait + Sync>(
 
 // How many budgets are refused memory, before one is enough for all but the threads. No line is said.
 fn count_refused<R: Threads + Wait + Sync>(rt: &R, alloc: Global) -> Result<u32, Fail> {
-    let lines = sent_lines(alloc, FIRST)?;
+    let lines = Script::of(alloc, OF_FIRST)?.input;
     let written = Written::new(alloc);
     let mut memory_limit = MemoryLimit::new(alloc)?;
     let mut refused = 0u32;
     for step in 0..10_000usize {
-        let reader = Script::new(lines.as_slice(), false);
+        let reader = Reader::new(lines.as_slice(), false);
         let writer = Writer::new(rt, &written, usize::MAX);
         let session = (reader, writer);
         match refusal(rt, alloc, &mut memory_limit, step * STEP, session)? {
@@ -49,14 +50,14 @@ fn count_refused<R: Threads + Wait + Sync>(rt: &R, alloc: Global) -> Result<u32,
 
 // Runs the session with ample memory. Fails unless it comes to its end and is said its lines.
 fn run_amply<R: Threads + Wait + Sync>(rt: &R, alloc: Global) -> Result<(), Fail> {
-    let lines = sent_lines(alloc, FIRST)?;
+    let Script { input, wanted } = Script::of(alloc, OF_FIRST)?;
     let written = Written::new(alloc);
-    let reader = Script::new(lines.as_slice(), false);
+    let reader = Reader::new(input.as_slice(), false);
     let writer = Writer::new(rt, &written, usize::MAX);
     let sessions = Vec::from_array(alloc, [(reader, writer)])?;
     let shift = boxed(alloc, run_shift(rt, alloc, &OpenGate, sessions, 1))?;
     let is_complete = shift.ends.as_slice() == [SessionEnd::Complete].as_slice();
-    if is_complete && written.is(rt, said_lines(alloc, FIRST)?.as_slice()) {
+    if is_complete && written.is(rt, wanted.as_slice()) {
         Ok(())
     } else {
         Err(Fail::new("another end"))

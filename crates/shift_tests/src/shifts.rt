@@ -2,8 +2,8 @@
 ghost use Rattle.std.specs.Prelude.{◌≡◌, ◌≤◌, vec_len, IfOk};
 
 use crate::gates::{Holding, Meeting};
-use crate::lines::{FIRST, SECOND, SIXTEEN, WITH_A_BAD_LINE, said_lines, sent_lines};
-use crate::streams::{Script, Writer, Written};
+use crate::lines::{OF_FIRST, OF_SECOND, SIXTEEN, WITH_A_BAD_LINE};
+use crate::streams::{Reader, Writer, Written};
 use hub_shared::{Settled, settle};
 use hub_shifts::{Gate, OpenGate, SessionEnd, Shift, ShiftFault, run_shift};
 use session_serving::SessionFault;
@@ -11,6 +11,7 @@ use std::alloc::Global;
 use std::sync::Wait;
 use std::test::*;
 use std::thread::Threads;
+use test_scripts::Script;
 
 /// A shift that lies on the heap.
 pub(crate) fn boxed(alloc: Global, shift: Result<Shift, ShiftFault>) -> Result<Box<Shift>, Fail> {
@@ -50,19 +51,24 @@ fn check(rt: &impl Wait, alloc: Global, shift: &mut Shift, calls: u64) -> Result
 }
 
 // Fails unless the lines of the session were said, and no more.
-fn check_said(rt: &impl Wait, alloc: Global, written: &Written, session: &str) -> Result<(), Fail> {
-    let wanted = said_lines(alloc, session)?;
+fn check_said(
+    rt: &impl Wait,
+    alloc: Global,
+    written: &Written,
+    session: &[&str],
+) -> Result<(), Fail> {
+    let wanted = Script::of(alloc, session)?.wanted;
     if written.is(rt, wanted.as_slice()) {
         Ok(())
     } else {
-        Err(Fail::new(session))
+        Err(Fail::new("other lines"))
     }
 }
 
 // A session alone, and how many workers serve it.
 #[derive(Clone, Copy)]
 struct Alone {
-    session: &'static str,
+    session: &'static [&'static str],
     workers: usize,
 }
 
@@ -76,8 +82,8 @@ fn run_one<G: Gate + Sync, R: Threads + Wait + Sync>(
 ) -> Result<Box<Shift>, Fail>
     requires { (1 ≤ alone.workers) × (alone.workers ≤ 8) }
 {
-    let lines = sent_lines(alloc, alone.session)?;
-    let reader = Script::new(lines.as_slice(), false);
+    let lines = Script::of(alloc, alone.session)?.input;
+    let reader = Reader::new(lines.as_slice(), false);
     let writer = Writer::new(rt, written, usize::MAX);
     let sessions = Vec::from_array(alloc, [(reader, writer)])?;
     boxed(alloc, run_shift(rt, alloc, gate, sessions, alone.workers))
@@ -120,13 +126,16 @@ fn run_two<G: Gate + Sync, R: Threads + Wait + Sync>(
 ) -> Result<Box<Shift>, Fail>
     requires { (1 ≤ manner.workers) × (manner.workers ≤ 8) }
 {
-    let lines = [sent_lines(alloc, FIRST)?, sent_lines(alloc, SECOND)?];
+    let lines = [
+        Script::of(alloc, OF_FIRST)?.input,
+        Script::of(alloc, OF_SECOND)?.input,
+    ];
     let first = (
-        Script::new(lines[0].as_slice(), manner.is_by_line),
+        Reader::new(lines[0].as_slice(), manner.is_by_line),
         Writer::new(rt, &written[0], usize::MAX),
     );
     let second = (
-        Script::new(lines[1].as_slice(), manner.is_by_line),
+        Reader::new(lines[1].as_slice(), manner.is_by_line),
         Writer::new(rt, &written[1], manner.writes),
     );
     let sessions = Vec::from_array(alloc, [first, second])?;
@@ -144,8 +153,8 @@ fn two_workers_serve_at_once(rt: HostRuntime) -> Result<(), Fail> {
     let written = gate.written();
     let mut shift = run_two(&rt, alloc, &gate, written, AT_ONCE)?;
     assert!(rt; !gate.is_late());
-    check_said(&rt, alloc, &written[0], FIRST)?;
-    check_said(&rt, alloc, &written[1], SECOND)?;
+    check_said(&rt, alloc, &written[0], OF_FIRST)?;
+    check_said(&rt, alloc, &written[1], OF_SECOND)?;
     check(&rt, alloc, &mut shift, 10)
 }
 
@@ -154,8 +163,8 @@ fn two_sessions_share_a_lane(rt: HostRuntime) -> Result<(), Fail> {
     let alloc = rt.alloc();
     let written = new_written(alloc);
     let mut shift = run_two(&rt, alloc, &OpenGate, &written, IN_ONE_LANE)?;
-    check_said(&rt, alloc, &written[0], FIRST)?;
-    check_said(&rt, alloc, &written[1], SECOND)?;
+    check_said(&rt, alloc, &written[0], OF_FIRST)?;
+    check_said(&rt, alloc, &written[1], OF_SECOND)?;
     check(&rt, alloc, &mut shift, 10)
 }
 

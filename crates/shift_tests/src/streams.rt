@@ -9,15 +9,15 @@ use taf_codes::{Failed, Failures, Sink, Source};
 
 /// A reader over lines, which gives one of them at a time, or as much as there is room for.
 #[derive(Drop)]
-pub(crate) struct Script<'a> {
+pub(crate) struct Reader<'a> {
     rest: &'a [u8],
     is_by_line: bool,
     failed: Failures,
 }
 
-impl<'a> Script<'a> {
-    pub(crate) fn new(rest: &'a [u8], is_by_line: bool) -> Script<'a> {
-        Script {
+impl<'a> Reader<'a> {
+    pub(crate) fn new(rest: &'a [u8], is_by_line: bool) -> Reader<'a> {
+        Reader {
             rest,
             is_by_line,
             failed: Failures::new(),
@@ -33,7 +33,7 @@ impl<'a> Script<'a> {
     }
 }
 
-impl Source for Script<'_> {
+impl Source for Reader<'_> {
     ghost remaining = { λ _. None };
 
     ghost failures = { λ s. count s.failed };

@@ -8,13 +8,12 @@ use Rattle.session_lanes.specs.declared.ends.SessionStart.{SessionStart}
 use Rattle.session_lanes.specs.declared.ends.Served.{Served}
 use Rattle.session_lanes.specs.Lanes.{IsPassOf, EachPair}
 use Rattle.session_lanes.specs.Ends.{IsServed}
-use Rattle.session_lanes.proofs.FallLemmas.{EachPair-push}
 use Rattle.hub_shared.specs.Seats.{new_seat}
 use Rattle.hub_shifts.specs.declared.promises.ServedBy.{ServedBy}
 use Rattle.hub_workers.specs.declared.worker.Worker.{Worker}
 use Rattle.hub_shifts.specs.declared.promises.WorkedBy.{WorkedBy}
 use Rattle.hub_workers.specs.Work.{IsWorked}
-use Rattle.hub_shifts.proofs.ThreadLemmas.{through, if_ok_two}
+use Rattle.hub_shifts.proofs.ThreadLemmas.{through, another_handle, if_ok_two}
 use Rattle.hub_shifts.proofs.threads.fn.run_threads.scope.Goals as goal
 use Rattle.hub_shifts.proofs.threads.fn.run_threads.scope.Goals.{in-Ok, in-Err, in-Ok-spawn_with, in-Err-spawn_with}
 
@@ -91,7 +90,7 @@ loop-start-preserved g c =
       omega (arith, longer, at),
       omega (arith, longer, short, a),
       omega (arith, same, b),
-      λ yes. let more = kept.2 yes in subst (EachPair P (yielded ++ start ∷ [])) (sym more.1.1) (EachPair-push P yielded c.loop-start.working.items start more.1.0 (c.loop-start.invariant.3 more.0) more.1.2),
+      λ yes. another_handle P yielded start c.loop-start.working.items c.match-spawn_with.working.items (c.loop-start.invariant.3 (kept.2 yes).0) (kept.2 yes).1,
     )
 
 pub loop-start-2-init : goal.loop-start-2-init
@@ -168,9 +167,8 @@ loop-start-2-preserved g c =
       omega (arith, longer, short, a),
       omega (arith, same, b),
       λ yes.
-          let more = kept.2 yes in
-          let old = c.loop-start-2.invariant.3 more.0 in
-          (old.0, subst (EachPair P (yielded ++ start ∷ [])) (sym more.1.1) (EachPair-push P yielded c.loop-start-2.serving.items start more.1.0 old.1 more.1.2)),
+          let old = c.loop-start-2.invariant.3 (kept.2 yes).0 in
+          (old.0, another_handle P yielded start c.loop-start-2.serving.items c.match-spawn_with-3.serving.items old.1 (kept.2 yes).1),
     )
 
 -- at the end the handles are those of all workers and all sessions

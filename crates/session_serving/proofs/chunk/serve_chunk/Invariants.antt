@@ -2,7 +2,7 @@ use Rattle.std.proofs.Common.{◌≡◌, ◌≤◌, ◌+◌, ◌-◌, true, leng
 use Rattle.session_serving.specs.Bytes.{cut_after}
 use Rattle.session_serving.specs.Output.{HaveRoom}
 use Rattle.session_serving.specs.Serving.{exchange_of, IsReady, Serves}
-use Rattle.session_serving.proofs.chunk.serve_lines.Given as goal
+use Rattle.session_serving.proofs.chunk.serve_chunk.Given as goal
 
 -- the lines before `from` were given
 abbrev pub invariant-loop-end : goal.invariant-loop-end
