@@ -38,7 +38,7 @@ one_back pass_of old now r ys y same room done rest step =
 
 pub bounds-lanes-lane : goal.bounds-lanes-lane
 bounds-lanes-lane g c =
-    let turn = (YieldsList-turn (YieldsList-from_vec c.args.workers.items (search rules) (search rules)) c.loop-back.yielded c.loop-back.back-iterator c.loop-back.yielded_by c.next.result c.next.new.self c.in-Some.back c.in-Some.is c.next.ensures.steps).0 in
+    let turn = (YieldsList-turn (YieldsList-from_vec c.args.workers.items c.into_iter-back-iterator.ensures.into_iter_gives.0 (c.into_iter-back-iterator.ensures.into_iter_gives.1 ∙ c.args.workers.ok.0)) c.loop-back.yielded c.loop-back.back-iterator c.loop-back.yielded_by c.next.result c.next.new.self c.in-Some.back c.in-Some.is c.next.ensures.steps).0 in
     let at = c.loop-back.invariant.0 in
     let many = c.requires in
     let same = c.loop-back.auto.lanes in
@@ -59,7 +59,7 @@ loop-back-preserved g c =
     let longer = length-append yielded (back ∷ []) in
     let at = c.loop-back.invariant.0 in
     let seated : c.push.new.self.items ≡ c.loop-back.seats.items ++ back.seat ∷ [] = search rules in
-    let turn = (YieldsList-turn (YieldsList-from_vec c.args.workers.items (search rules) (search rules)) yielded c.loop-back.back-iterator c.loop-back.yielded_by c.next.result c.next.new.self back c.in-Some.is c.next.ensures.steps).0 in
+    let turn = (YieldsList-turn (YieldsList-from_vec c.args.workers.items c.into_iter-back-iterator.ensures.into_iter_gives.0 (c.into_iter-back-iterator.ensures.into_iter_gives.1 ∙ c.args.workers.ok.0)) yielded c.loop-back.back-iterator c.loop-back.yielded_by c.next.result c.next.new.self back c.in-Some.is c.next.ensures.steps).0 in
     let many = c.requires in
     let same : length now ≡ length old = c.loop-back.auto.lanes in
     let listed = c.args.workers.ok.0 in
@@ -77,7 +77,7 @@ loop-back-preserved g c =
 
 pub returns : goal.returns
 returns g c =
-    let all : c.loop-back.yielded ≡ c.args.workers.items = sym (map-id c.loop-back.yielded) ∙ (YieldsList-end (YieldsList-from_vec c.args.workers.items (search rules) (search rules)) c.loop-back.yielded c.loop-back.back-iterator c.loop-back.yielded_by c.next.result c.next.new.self c.in-None.is c.next.ensures.steps).0 in
+    let all : c.loop-back.yielded ≡ c.args.workers.items = sym (map-id c.loop-back.yielded) ∙ (YieldsList-end (YieldsList-from_vec c.args.workers.items c.into_iter-back-iterator.ensures.into_iter_gives.0 (c.into_iter-back-iterator.ensures.into_iter_gives.1 ∙ c.args.workers.ok.0)) c.loop-back.yielded c.loop-back.back-iterator c.loop-back.yielded_by c.next.result c.next.new.self c.in-None.is c.next.ensures.steps).0 in
     let seat_of : Worker g.row.L.Denot → SeatState = λ w. w.seat in
     let many = c.requires in
     let listed = c.args.workers.ok.0 in

@@ -16,7 +16,7 @@ Closes k l left = IsKeptBy (l.back ++ l.pass ∷ []) left
 pub close-requires : goal.close-requires
 close-requires g c =
     let n = length c.loop-lane.yielded in
-    let turn = YieldsList-turn (YieldsList-from_vec c.args.lanes.items (search rules) (search rules)) c.loop-lane.yielded c.loop-lane.lane-iterator c.loop-lane.yielded_by c.next.result c.next.new.self c.in-Some.lane c.in-Some.is c.next.ensures.steps in
+    let turn = YieldsList-turn (YieldsList-from_vec c.args.lanes.items c.into_iter-lane-iterator.ensures.into_iter_gives.0 (c.into_iter-lane-iterator.ensures.into_iter_gives.1 ∙ c.args.lanes.ok.0)) c.loop-lane.yielded c.loop-lane.lane-iterator c.loop-lane.yielded_by c.next.result c.next.new.self c.in-Some.lane c.in-Some.is c.next.ensures.steps in
     record {
       own = subst (λ (l : LaneState). All (λ (p : PassState). p.inbox ≡ l.id) l.back) (sym turn.1) (c.requires.own n c.in-Some.lane turn.0);
       parts = subst (λ (l : LaneState). sum_by (λ (p : PassState). p.parts) l.back + l.pass.parts ≡ ALL_PARTS) (sym turn.1) (c.requires.parts n c.in-Some.lane turn.0);
@@ -32,5 +32,5 @@ loop-lane-preserved g c =
 
 pub returns : goal.returns
 returns g c =
-    let all : c.loop-lane.yielded ≡ c.args.lanes.items = sym (map-id c.loop-lane.yielded) ∙ (YieldsList-end (YieldsList-from_vec c.args.lanes.items (search rules) (search rules)) c.loop-lane.yielded c.loop-lane.lane-iterator c.loop-lane.yielded_by c.next.result c.next.new.self c.in-None.is c.next.ensures.steps).0 in
+    let all : c.loop-lane.yielded ≡ c.args.lanes.items = sym (map-id c.loop-lane.yielded) ∙ (YieldsList-end (YieldsList-from_vec c.args.lanes.items c.into_iter-lane-iterator.ensures.into_iter_gives.0 (c.into_iter-lane-iterator.ensures.into_iter_gives.1 ∙ c.args.lanes.ok.0)) c.loop-lane.yielded c.loop-lane.lane-iterator c.loop-lane.yielded_by c.next.result c.next.new.self c.in-None.is c.next.ensures.steps).0 in
     subst (λ l. EachPair Closes l c.loop-lane.all.items) all c.loop-lane.invariant

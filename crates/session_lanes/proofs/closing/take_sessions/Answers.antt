@@ -51,7 +51,7 @@ loop-back-preserved c =
 
 pub returns : goal.returns
 returns c =
-    let all : c.loop-back.yielded ≡ c.args.served.items = sym (map-id c.loop-back.yielded) ∙ (YieldsList-end (YieldsList-from_vec c.args.served.items (search rules) (search rules)) c.loop-back.yielded c.loop-back.back-iterator c.loop-back.yielded_by c.next.result c.next.new.self c.in-None.is c.next.ensures.steps).0 in
+    let all : c.loop-back.yielded ≡ c.args.served.items = sym (map-id c.loop-back.yielded) ∙ (YieldsList-end (YieldsList-from_vec c.args.served.items c.into_iter-back-iterator.ensures.into_iter_gives.0 (c.into_iter-back-iterator.ensures.into_iter_gives.1 ∙ c.args.served.ok.0)) c.loop-back.yielded c.loop-back.back-iterator c.loop-back.yielded_by c.next.result c.next.new.self c.in-None.is c.next.ensures.steps).0 in
     record {
       ends = c.loop-back.invariant.0 ∙ ap (λ l. map end_of l) all;
       tallies = c.loop-back.invariant.1 ∙ ap (λ l. map tally_of l) all;

@@ -26,7 +26,7 @@ loop-start-init g c =
 
 pub bounds-lanes-lane : goal.bounds-lanes-lane
 bounds-lanes-lane g c =
-    let turn = (YieldsList-turn (YieldsList-from_vec c.captures.workers.items (search rules) (search rules)) c.loop-start.yielded c.loop-start.start-iterator c.loop-start.yielded_by c.next.result c.next.new.self c.in-Some.start c.in-Some.is c.next.ensures.steps).0 in
+    let turn = (YieldsList-turn (YieldsList-from_vec c.captures.workers.items c.into_iter-start-iterator.ensures.into_iter_gives.0 (c.into_iter-start-iterator.ensures.into_iter_gives.1 ∙ c.captures.workers.ok.0)) c.loop-start.yielded c.loop-start.start-iterator c.loop-start.yielded_by c.next.result c.next.new.self c.in-Some.start c.in-Some.is c.next.ensures.steps).0 in
     let at = c.loop-start.invariant.0 in
     let many = c.requires.0.worker_count in
     omega (arith, turn, at, many)
@@ -42,7 +42,7 @@ spawn_with-requires-clause-runs g c =
     let lanes = c.captures.lanes.now in
     let n = length c.loop-start.yielded in
     let start = c.in-Some.start in
-    let turn = YieldsList-turn (YieldsList-from_vec c.captures.workers.items (search rules) (search rules)) c.loop-start.yielded c.loop-start.start-iterator c.loop-start.yielded_by c.next.result c.next.new.self start c.in-Some.is c.next.ensures.steps in
+    let turn = YieldsList-turn (YieldsList-from_vec c.captures.workers.items c.into_iter-start-iterator.ensures.into_iter_gives.0 (c.into_iter-start-iterator.ensures.into_iter_gives.1 ∙ c.captures.workers.ok.0)) c.loop-start.yielded c.loop-start.start-iterator c.loop-start.yielded_by c.next.result c.next.new.self start c.in-Some.is c.next.ensures.steps in
     let P : Worker g.row.L.Denot → Type 0 = λ s. (s.seat ≡ new_seat 1) × IsPassOf lanes n s.pass in
     let known = subst P (sym turn.1) (c.requires.0.workers_are n start turn.0) in
     let r = c.index-lanes-lane.result in
@@ -54,7 +54,7 @@ spawn_with-requires-clause-runs g c =
 
 pub push_reserved-requires : goal.push_reserved-requires
 push_reserved-requires g c =
-    let turn = (YieldsList-turn (YieldsList-from_vec c.captures.workers.items (search rules) (search rules)) c.loop-start.yielded c.loop-start.start-iterator c.loop-start.yielded_by c.next.result c.next.new.self c.in-Some.start c.in-Some.is c.next.ensures.steps).0 in
+    let turn = (YieldsList-turn (YieldsList-from_vec c.captures.workers.items c.into_iter-start-iterator.ensures.into_iter_gives.0 (c.into_iter-start-iterator.ensures.into_iter_gives.1 ∙ c.captures.workers.ok.0)) c.loop-start.yielded c.loop-start.start-iterator c.loop-start.yielded_by c.next.result c.next.new.self c.in-Some.start c.in-Some.is c.next.ensures.steps).0 in
     let short = c.loop-start.invariant.1 in
     let same = c.loop-start.invariant.2 in
     let room = c.requires.4 in
@@ -63,7 +63,7 @@ push_reserved-requires g c =
 
 pub overflow_add-lane : goal.overflow_add-lane
 overflow_add-lane g c =
-    let turn = (YieldsList-turn (YieldsList-from_vec c.captures.workers.items (search rules) (search rules)) c.loop-start.yielded c.loop-start.start-iterator c.loop-start.yielded_by c.next.result c.next.new.self c.in-Some.start c.in-Some.is c.next.ensures.steps).0 in
+    let turn = (YieldsList-turn (YieldsList-from_vec c.captures.workers.items c.into_iter-start-iterator.ensures.into_iter_gives.0 (c.into_iter-start-iterator.ensures.into_iter_gives.1 ∙ c.captures.workers.ok.0)) c.loop-start.yielded c.loop-start.start-iterator c.loop-start.yielded_by c.next.result c.next.new.self c.in-Some.start c.in-Some.is c.next.ensures.steps).0 in
     let at = c.loop-start.invariant.0 in
     let many = c.requires.0.worker_count in
     let few = c.requires.0.few_lanes in
@@ -102,7 +102,7 @@ loop-start-2-init g c =
 
 pub bounds-answers-place : goal.bounds-answers-place
 bounds-answers-place g c =
-    let turn = (YieldsList-turn (YieldsList-from_vec c.captures.sessions.items (search rules) (search rules)) c.loop-start-2.yielded c.loop-start-2.start-iterator c.loop-start-2.yielded_by c.next-in-loop-start-2.result c.next-in-loop-start-2.new.self c.in-Some-start.start c.in-Some-start.is c.next-in-loop-start-2.ensures.steps).0 in
+    let turn = (YieldsList-turn (YieldsList-from_vec c.captures.sessions.items c.into_iter-start-iterator-2.ensures.into_iter_gives.0 (c.into_iter-start-iterator-2.ensures.into_iter_gives.1 ∙ c.captures.sessions.ok.0)) c.loop-start-2.yielded c.loop-start-2.start-iterator c.loop-start-2.yielded_by c.next-in-loop-start-2.result c.next-in-loop-start-2.new.self c.in-Some-start.start c.in-Some-start.is c.next-in-loop-start-2.ensures.steps).0 in
     let at = c.loop-start-2.invariant.0 in
     let many = c.requires.0.queue_count in
     omega (arith, turn, at, many)
@@ -119,7 +119,7 @@ spawn_with-requires-in-loop-start-2-clause-runs g c =
     let lanes = c.captures.lanes.now in
     let n = length c.loop-start-2.yielded in
     let start = c.in-Some-start.start in
-    let turn = YieldsList-turn (YieldsList-from_vec c.captures.sessions.items (search rules) (search rules)) c.loop-start-2.yielded c.loop-start-2.start-iterator c.loop-start-2.yielded_by c.next-in-loop-start-2.result c.next-in-loop-start-2.new.self start c.in-Some-start.is c.next-in-loop-start-2.ensures.steps in
+    let turn = YieldsList-turn (YieldsList-from_vec c.captures.sessions.items c.into_iter-start-iterator-2.ensures.into_iter_gives.0 (c.into_iter-start-iterator-2.ensures.into_iter_gives.1 ∙ c.captures.sessions.ok.0)) c.loop-start-2.yielded c.loop-start-2.start-iterator c.loop-start-2.yielded_by c.next-in-loop-start-2.result c.next-in-loop-start-2.new.self start c.in-Some-start.is c.next-in-loop-start-2.ensures.steps in
     let P : SessionStart g.row.S.Denot g.row.K.Denot → Type 0 = λ s. (s.session ≡ n) × IsPassOf lanes (n % length lanes) s.pass in
     let known = subst P (sym turn.1) (c.requires.0.sessions_are n start turn.0) in
     let r = c.index-lanes-place.result in
@@ -131,7 +131,7 @@ spawn_with-requires-in-loop-start-2-clause-runs g c =
 
 pub push_reserved-requires-in-Ok-spawn_with : goal.push_reserved-requires-in-Ok-spawn_with
 push_reserved-requires-in-Ok-spawn_with g c =
-    let turn = (YieldsList-turn (YieldsList-from_vec c.captures.sessions.items (search rules) (search rules)) c.loop-start-2.yielded c.loop-start-2.start-iterator c.loop-start-2.yielded_by c.next-in-loop-start-2.result c.next-in-loop-start-2.new.self c.in-Some-start.start c.in-Some-start.is c.next-in-loop-start-2.ensures.steps).0 in
+    let turn = (YieldsList-turn (YieldsList-from_vec c.captures.sessions.items c.into_iter-start-iterator-2.ensures.into_iter_gives.0 (c.into_iter-start-iterator-2.ensures.into_iter_gives.1 ∙ c.captures.sessions.ok.0)) c.loop-start-2.yielded c.loop-start-2.start-iterator c.loop-start-2.yielded_by c.next-in-loop-start-2.result c.next-in-loop-start-2.new.self c.in-Some-start.start c.in-Some-start.is c.next-in-loop-start-2.ensures.steps).0 in
     let short = c.loop-start-2.invariant.1 in
     let same = c.loop-start-2.invariant.2 in
     let room = c.requires.2 in
@@ -140,7 +140,7 @@ push_reserved-requires-in-Ok-spawn_with g c =
 
 pub overflow_add-place : goal.overflow_add-place
 overflow_add-place g c =
-    let turn = (YieldsList-turn (YieldsList-from_vec c.captures.sessions.items (search rules) (search rules)) c.loop-start-2.yielded c.loop-start-2.start-iterator c.loop-start-2.yielded_by c.next-in-loop-start-2.result c.next-in-loop-start-2.new.self c.in-Some-start.start c.in-Some-start.is c.next-in-loop-start-2.ensures.steps).0 in
+    let turn = (YieldsList-turn (YieldsList-from_vec c.captures.sessions.items c.into_iter-start-iterator-2.ensures.into_iter_gives.0 (c.into_iter-start-iterator-2.ensures.into_iter_gives.1 ∙ c.captures.sessions.ok.0)) c.loop-start-2.yielded c.loop-start-2.start-iterator c.loop-start-2.yielded_by c.next-in-loop-start-2.result c.next-in-loop-start-2.new.self c.in-Some-start.start c.in-Some-start.is c.next-in-loop-start-2.ensures.steps).0 in
     let at = c.loop-start-2.invariant.0 in
     let few = c.requires.0.few_sessions in
     omega (arith, turn, at, few)
@@ -178,8 +178,8 @@ returns-then-all_started g c =
     let HandleS : Type 0 = PromisedHandle Served (ServedBy g.row.S.Denot g.row.K.Denot) in
     let Post : Type 0 = Worker g.row.L.Denot in
     let Seat : Type 0 = SessionStart g.row.S.Denot g.row.K.Denot in
-    let posted : c.loop-start.yielded ≡ c.captures.workers.items = sym (map-id c.loop-start.yielded) ∙ (YieldsList-end (YieldsList-from_vec c.captures.workers.items (search rules) (search rules)) c.loop-start.yielded c.loop-start.start-iterator c.loop-start.yielded_by c.next.result c.next.new.self c.in-None.is c.next.ensures.steps).0 in
-    let seated : c.loop-start-2.yielded ≡ c.captures.sessions.items = sym (map-id c.loop-start-2.yielded) ∙ (YieldsList-end (YieldsList-from_vec c.captures.sessions.items (search rules) (search rules)) c.loop-start-2.yielded c.loop-start-2.start-iterator c.loop-start-2.yielded_by c.next-in-loop-start-2.result c.next-in-loop-start-2.new.self c.in-None-start.is c.next-in-loop-start-2.ensures.steps).0 in
+    let posted : c.loop-start.yielded ≡ c.captures.workers.items = sym (map-id c.loop-start.yielded) ∙ (YieldsList-end (YieldsList-from_vec c.captures.workers.items c.into_iter-start-iterator.ensures.into_iter_gives.0 (c.into_iter-start-iterator.ensures.into_iter_gives.1 ∙ c.captures.workers.ok.0)) c.loop-start.yielded c.loop-start.start-iterator c.loop-start.yielded_by c.next.result c.next.new.self c.in-None.is c.next.ensures.steps).0 in
+    let seated : c.loop-start-2.yielded ≡ c.captures.sessions.items = sym (map-id c.loop-start-2.yielded) ∙ (YieldsList-end (YieldsList-from_vec c.captures.sessions.items c.into_iter-start-iterator-2.ensures.into_iter_gives.0 (c.into_iter-start-iterator-2.ensures.into_iter_gives.1 ∙ c.captures.sessions.ok.0)) c.loop-start-2.yielded c.loop-start-2.start-iterator c.loop-start-2.yielded_by c.next-in-loop-start-2.result c.next-in-loop-start-2.new.self c.in-None-start.is c.next-in-loop-start-2.ensures.steps).0 in
     let PW : ℕ → Post → HandleW → Type 0 = λ k s h. h.promise.began.value ≡ s.pass in
     let PS : ℕ → Seat → HandleS → Type 0 = λ k s h. h.promise.start.value ≡ s in
     let Keeps : ℕ → Seat → Served → Type 0 = IsServed g.S.Source.remaining g.K.Sink.contents in
