@@ -83,8 +83,7 @@ impl Run {
         if self.track.admits(&event).is_some() {
             bail!("the sample is refused");
         }
-        let transition = self.track.transition(&event);
-        if self.estimates().transition_passes_calendar(&transition) {
+        if self.estimates().would_pass_calendar(&self.track, &event) {
             bail!("the sample passes the calendar");
         }
         if self.track.events().len() >= 1 << 62 {

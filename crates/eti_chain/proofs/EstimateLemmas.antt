@@ -2,6 +2,7 @@
 use Rattle.std.proofs.Common.{◌≡◌, ℕ, ◌+◌, Bool, true, false, cond, List, [], ◌∷◌, ◌++◌, Option, Some, None, refl, ap, ◌∙◌, sym, add-zero, add_assoc}
 use Rattle.std.specs.Prelude.{sum_by, fold, is_some, option_map}
 use Rattle.std.specs.Option.{option_or}
+use Rattle.std.proofs.lemmas.Bool.{false≢true}
 use Rattle.std.proofs.lemmas.List.{append-nil, append_assoc}
 use Rattle.std.proofs.lemmas.List.Sums.{sum_by_push}
 use Rattle.trip_plan.specs.declared.parts.Leg.{Leg}
@@ -16,7 +17,7 @@ use Rattle.journey.proofs.NewestLemmas.{newest-push, since-push}
 use Rattle.journey.proofs.LegPositionLemmas.{legs-push, leg_index-push}
 use Rattle.eti_chain.specs.declared.anchor.Anchor.{Anchor}
 use Rattle.eti_chain.specs.Estimates.{anchor_in, delay_in, delays, delayed_by, anchor, basis_from, estimate_basis}
-use Rattle.eti_chain.specs.EstimateStates.{with_delay_of, anchor_after}
+use Rattle.eti_chain.specs.EstimateStates.{keeps_legs, with_delay_of, anchor_after}
 
 -- an event that says nothing of legs
 abbrev pub KeepsLegs : EventBody → Type 0
@@ -66,6 +67,23 @@ anchor_by_parts before (e ∷ events) =
 pub basis-push : (events : List Event) (e : Event) → KeepsLegs e.body → is_reception e.body ≡ false →
     estimate_basis (events ++ e ∷ []) ≡ basis_from (leg_index events) (legs events) (anchor_after (anchor events) e)
 basis-push events e k r = λ i. basis_from (leg_index-kept events e r i) (legs-kept events e k i) (anchor_push events e i)
+
+pub basis-kept : (events : List Event) (e : Event) → keeps_legs e.body ≡ true → estimate_basis (events ++ e ∷ []) ≡ basis_from (leg_index events) (legs events) (anchor_after (anchor events) e)
+basis-kept events e h = basis-push events e (legs_by e.body h) (index_by e.body h)
+  where
+    legs_by : (body : EventBody) → keeps_legs body ≡ true → KeepsLegs body
+    legs_by (Moved what) h = λ c so_far. refl
+    legs_by EstimateAsked h = λ c so_far. refl
+    legs_by (Offered place to) h = λ c so_far. refl
+    legs_by (Withdrawn place) h = λ c so_far. refl
+    legs_by _ h = absurd (false≢true h)
+
+    index_by : (body : EventBody) → keeps_legs body ≡ true → is_reception body ≡ false
+    index_by (Moved what) h = refl
+    index_by EstimateAsked h = refl
+    index_by (Offered place to) h = refl
+    index_by (Withdrawn place) h = refl
+    index_by _ h = absurd (false≢true h)
 
 -- an event that changes no estimate
 pub record IsSilent (body : EventBody) : Type 0 where

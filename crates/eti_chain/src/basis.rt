@@ -1,5 +1,5 @@
 //! What estimates are counted from.
-ghost use Rattle.std.specs.Prelude.{◌≡◌, ◌+◌, ◌*◌, ◌<◌, ◌≤◌, ◌^◌, length, fold, IfSome, None};
+ghost use Rattle.std.specs.Prelude.{◌≡◌, ◌+◌, ◌*◌, ◌<◌, ◌≤◌, ◌^◌, ◌++◌, [], ◌∷◌, length, fold, IfSome, None, true};
 ghost use Rattle.std.specs.List.{sum_by};
 ghost use Rattle.taf_moment.specs.Calendar.{last_minute};
 ghost use Rattle.journey.specs.Checks.{refusal};
@@ -73,6 +73,24 @@ impl<'a> EstimateBasis<'a> {
             leg_index: next.leg_index,
             legs: &next.legs,
             anchor: anchor_after(anchor, transition.event()),
+        }
+    }
+
+    /// The same of a track with an event that keeps its legs, from the newest anchor before it.
+    pub(crate) fn on_same_legs(
+        anchor: Option<Anchor>,
+        track: &'a Track,
+        event: &Event,
+    ) -> EstimateBasis<'a>
+        requires keeps { states.keeps_legs event.now.body ≡ true }
+        requires newest { anchor ≡ of.anchor track.now.events }
+        requires small { of.delays_of anchor ≤ last_minute }
+        ensures { result ≡ of.estimate_basis (track.now.events ++ event.now ∷ []) }
+    {
+        EstimateBasis {
+            leg_index: track.leg_index(),
+            legs: &track.journey_state().legs,
+            anchor: anchor_after(anchor, event),
         }
     }
 

@@ -3,11 +3,12 @@ ghost use Rattle.journey.specs.declared.event.Event.{Event};
 ghost use Rattle.journey.specs.Checks.{refusal};
 ghost use Rattle.journey.specs.Journey.{after};
 ghost use Rattle.eti_chain.specs.Estimates as of;
+ghost use Rattle.eti_chain.specs.EstimateStates.{keeps_legs};
 
 use crate::anchor::Anchor;
 use crate::basis::EstimateBasis;
 use crate::held_legs::HeldLegs;
-use journey::{Event, Track, Transition};
+use journey::{Event, EventBody, Track, Transition};
 use std::marker::Model;
 use taf_moment::Moment;
 
@@ -92,15 +93,11 @@ impl<'a> Estimates<'a> {
         requires admitted { refusal track.now.events event.now.by event.now.body ≡ None }
         ensures { result ≡ not (of.fits (track.now.events ++ event.now ∷ [])) }
     {
-        self.transition_passes_calendar(&track.transition(event))
-    }
-
-    /// Whether with the event of a transition an estimate would pass the last minute of the calendar.
-    pub fn transition_passes_calendar(&self, transition: &Transition<'_>) -> bool
-        requires { self.now ≡ estimates_state transition.now.before }
-        ensures { result ≡ not (of.fits (after transition.now)) }
-    {
-        !EstimateBasis::after(self.anchor, transition).fits()
+        if keeps_legs(&event.body) {
+            return !EstimateBasis::on_same_legs(self.anchor, track, event).fits();
+        }
+        let transition = track.transition(event);
+        !EstimateBasis::after(self.anchor, &transition).fits()
     }
 
     /// The estimates of the track with the event of a transition, which does not pass the calendar. It takes
@@ -169,6 +166,19 @@ impl<'a> Estimates<'a> {
             commit: self.commit,
         }
     }
+}
+
+// Whether an event says nothing of legs, and receives nothing.
+fn keeps_legs(says: &EventBody) -> bool
+    ensures { result ≡ keeps_legs says.now }
+{
+    matches!(
+        says,
+        EventBody::Moved(_)
+            | EventBody::EstimateAsked
+            | EventBody::Offered { .. }
+            | EventBody::Withdrawn { .. }
+    )
 }
 
 fn lateness(commit: Moment, at: Moment) -> Option<u32>

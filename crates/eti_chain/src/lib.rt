@@ -18,8 +18,8 @@
 //!   an event to the track and go on with it.
 //! - [`Estimates::follow`] goes from the estimates of a track to those of the track with one event more.
 //!   [`Estimates::would_pass_calendar`] says beforehand whether one would pass the calendar.
-//! - [`Estimates::followed`] and [`Estimates::transition_passes_calendar`] do the same by a [`Transition`](journey::Transition), whose
-//!   state they don't make anew and whose legs they borrow.
+//! - [`Estimates::followed`] does the same as `follow` by a [`Transition`](journey::Transition), whose state it does not make anew and
+//!   whose legs it borrows.
 //! - [`Estimates::estimate`], [`Estimates::eta`], [`Estimates::late`] and [`Estimates::late_by`] read them.
 //!
 //! Promised: each answer is that of the definitions over the track's events, and what `add` and `put` keep is what `of` would

@@ -137,8 +137,7 @@ fn would_pass_calendar(wagon: &Wagon, event: &Event) -> bool
     requires { refusal wagon.now.events event.now.by event.now.body ≡ None }
     ensures { result ≡ not (estimates.fits (wagon.now.events ++ event.now ∷ [])) }
 {
-    let transition = wagon.track().transition(event);
-    wagon.estimates().transition_passes_calendar(&transition)
+    wagon.estimates().would_pass_calendar(wagon.track(), event)
 }
 
 // An event that is refused where it would make an estimate pass the calendar.

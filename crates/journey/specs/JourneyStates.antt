@@ -6,6 +6,7 @@ use Rattle.taf_codes.specs.declared.code.Place.{Place}
 use Rattle.trip_plan.specs.Trip.{Trip}
 use Rattle.taf_messages.specs.declared.record.Stage.TheVariants as stage_is
 use Rattle.journey.specs.declared.event.Event.{Event}
+use Rattle.journey.specs.declared.event.EventBody.{EventBody}
 use Rattle.journey.specs.declared.journey_state.JourneyState.{JourneyState}
 use Rattle.journey.specs.Words.{newest}
 use Rattle.journey.specs.Stages.{stage, stage_after, leg_index, has_departed, is_delivered, is_departure, is_delivery, new_responsible}
@@ -37,18 +38,22 @@ planned_state plan = record {
   yard = None;
 }
 
+-- the state after what a railway says of the wagon
+abbrev pub journey_state_by : JourneyState → Railway → EventBody → JourneyState
+journey_state_by s by body = record {
+  stage = option_or (stage_after body) s.stage;
+  leg_index = index_after s.leg_index body;
+  legs = legs_after s.leg_index s.legs body;
+  lead = option_or (lead_in body) s.lead;
+  has_departed = s.has_departed || is_departure body;
+  is_delivered = s.is_delivered || is_delivery body;
+  last_receiver = option_or (new_responsible by body) s.last_receiver;
+  yard = option_or (yard_in body) s.yard;
+}
+
 -- the state after one event more
 abbrev pub journey_state_after : JourneyState → Event → JourneyState
-journey_state_after s e = record {
-  stage = option_or (stage_after e.body) s.stage;
-  leg_index = index_after s.leg_index e.body;
-  legs = legs_after s.leg_index s.legs e.body;
-  lead = option_or (lead_in e.body) s.lead;
-  has_departed = s.has_departed || is_departure e.body;
-  is_delivered = s.is_delivered || is_delivery e.body;
-  last_receiver = option_or (new_responsible e.by e.body) s.last_receiver;
-  yard = option_or (yard_in e.body) s.yard;
-}
+journey_state_after s e = journey_state_by s e.by e.body
 
 -- the wagon has departed, and was not delivered
 abbrev pub on_its_way : JourneyState → Bool

@@ -1,11 +1,11 @@
-ghost use Rattle.std.specs.Prelude.{◌≡◌, ◌<◌, ◌≤◌, length, slice_get};
-ghost use Rattle.journey.specs.Legs.{HasRoom, legs_after, place_in};
-ghost use Rattle.journey.specs.JourneyStates.{on_its_way, responsible_in, runner_in, journey_state_after, planned_state, target_in};
+ghost use Rattle.std.specs.Prelude.{◌≡◌, ◌<◌, ◌≤◌, Some, length, slice_get};
+ghost use Rattle.journey.specs.Legs.{HasRoom, place_in};
+ghost use Rattle.journey.specs.JourneyStates.{on_its_way, responsible_in, runner_in, journey_state_after, journey_state_by, planned_state, target_in};
 
 use crate::event::{Event, EventBody};
 use crate::legs::Legs;
 use taf_codes::{Place, Railway};
-use taf_messages::Stage;
+use taf_messages::{MovementKind, Stage};
 use trip_plan::Plan;
 
 /// What the events of a journey come to.
@@ -63,32 +63,58 @@ impl JourneyState {
         requires room { HasRoom self.old.leg_index event.now.body }
         ensures { self.new ≡ journey_state_after self.old event.now }
     {
-        let body = &event.body;
-        self.change_legs(body);
-        self.stage = body.stage_after().or(self.stage);
-        self.leg_index += usize::from(body.is_reception());
-        self.lead = body.lead().or(self.lead);
-        self.has_departed = self.has_departed || body.is_departure();
-        self.is_delivered = self.is_delivered || body.is_delivery();
-        self.last_receiver = event.new_responsible().or(self.last_receiver);
-        self.yard = body.yard().or(self.yard);
-    }
-
-    // Changes the legs as an event says; few do.
-    fn change_legs(&mut self, body: &EventBody)
-        requires on_a_leg { self.old.leg_index < length self.old.legs }
-        requires room { HasRoom self.old.leg_index body.now }
-        ensures { self.new ≡ record self.old
-            { legs = legs_after self.old.leg_index self.old.legs body.now } }
-    {
-        match body {
-            EventBody::Planned(plan) => self.legs = Legs::of(plan.legs()),
-            EventBody::Rerouted(route) => self.legs.reroute(self.leg_index, route.legs()),
+        match &event.body {
+            EventBody::Planned(plan) => {
+                self.stage = Some(Stage::Planned);
+                self.legs = Legs::of(plan.legs());
+                self.lead = Some(plan.lead());
+            }
+            EventBody::Moved(what) => self.move_on(event.by, *what),
+            EventBody::EstimateAsked => {}
             EventBody::LegTimed { leg, minutes } => {
                 self.legs.time(leg.get() as usize, minutes.get() as u32);
             }
-            _ => {}
+            EventBody::Offered { place, to: _ } => self.stand(Stage::Offered, *place),
+            EventBody::Answered { place, received } => {
+                self.stand(Stage::InYard, *place);
+                if *received {
+                    self.leg_index += 1;
+                    self.last_receiver = Some(event.by);
+                }
+            }
+            EventBody::Withdrawn { place } => self.stand(Stage::InYard, *place),
+            EventBody::Rerouted(route) => self.legs.reroute(self.leg_index, route.legs()),
         }
+    }
+
+    // Goes on by a movement that this railway reports.
+    fn move_on(&mut self, by: Railway, what: MovementKind)
+        ensures { self.new ≡ journey_state_by self.old by (EventBody.Moved what) }
+    {
+        match what {
+            MovementKind::Release => self.stage = Some(Stage::Released),
+            MovementKind::Departure => {
+                self.stage = Some(Stage::Running);
+                self.has_departed = true;
+                self.last_receiver = Some(by);
+            }
+            MovementKind::YardArrival { place } => self.stand(Stage::InYard, place),
+            MovementKind::YardDeparture { .. } => self.stage = Some(Stage::Running),
+            MovementKind::Exception { .. } | MovementKind::Estimate => {}
+            MovementKind::Arrival => self.stage = Some(Stage::Arrived),
+            MovementKind::Delivery => {
+                self.stage = Some(Stage::Delivered);
+                self.is_delivered = true;
+            }
+        }
+    }
+
+    // It stands in this yard now.
+    fn stand(&mut self, stage: Stage, place: Place)
+        ensures { self.new ≡ record self.old { stage = Some stage; yard = Some place } }
+    {
+        self.stage = Some(stage);
+        self.yard = Some(place);
     }
 
     /// The same state.

@@ -34,7 +34,6 @@
 #![tactic(auto)]
 
 mod checks;
-mod effects;
 mod event;
 mod events;
 mod journey_state;

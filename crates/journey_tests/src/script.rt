@@ -251,10 +251,13 @@ impl Run {
         if !admitted || self.track.events().len() >= 1 << 62 {
             return Err(Fail::new("refused by a check"));
         }
-        let transition = self.track.transition(next.event());
-        if self.estimates().transition_passes_calendar(&transition) {
+        if self
+            .estimates()
+            .would_pass_calendar(&self.track, next.event())
+        {
             return Err(Fail::new("past the calendar"));
         }
+        let transition = self.track.transition(next.event());
         let stage = transition.journey_state().stage;
         let eta = self.estimates().followed(&transition).eta();
         self.kept.put(&mut self.track, next);
