@@ -1,2 +1,3 @@
 pub mod ContinuationLemmas
 pub mod UnitLoadLemmas
+pub mod AloneFaultLemmas

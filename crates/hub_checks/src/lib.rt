@@ -1,8 +1,9 @@
 //! Why a new message is refused (4.2.6, 4.2.7, 4.2.8, 4.2.11).
 //!
-//! [`fault`] judges a message by the hub's tables. It asks first what may be wrong with the message as a whole, then
+//! [`check`] judges a message by the hub's tables. It asks first what may be wrong with the message as a whole, then
 //! each wagon that the message names, in the message's order, and then each intermodal unit that it loads. The first
-//! check that fails is the answer, with the wagon at which it failed. A message without a fault may be accepted.
+//! check that fails is the answer, with the wagon at which it failed. A message without a fault may be accepted. Where it
+//! names one wagon alone, the wagon's event, which was made to judge it, is given out with the answer.
 //!
 //! | message | as a whole | each wagon |
 //! |---|---|---|
@@ -19,4 +20,4 @@ mod units;
 mod wagon;
 mod whole;
 
-pub use judging::fault;
+pub use judging::{Checked, check};

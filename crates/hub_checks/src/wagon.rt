@@ -90,8 +90,8 @@ fn either_fault(
     }
 }
 
-// The same of a wagon that is known, by its event of the message.
-fn event_fault(wagon: &Wagon, event: &Event) -> Option<Why>
+/// The same of a wagon that is known, by its event of the message.
+pub(crate) fn event_fault(wagon: &Wagon, event: &Event) -> Option<Why>
     ensures { result ≡ option_or (refusal wagon.now.events event.now.by event.now.body)
         (if estimates.is_calendar_checked event.now.body && not
         (estimates.fits (wagon.now.events ++ event.now ∷ [])) then Some Why.BeyondCalendar

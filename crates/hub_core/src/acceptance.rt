@@ -4,7 +4,7 @@ ghost use Rattle.taf_codes.specs.declared.code.Railway.{Railway};
 ghost use Rattle.outbox.specs.OutboxStates.{outbox_state_of};
 ghost use Rattle.taf_messages.specs.declared.call.Call.TheVariants as call;
 ghost use Rattle.replay_numbers.specs.SentPositions.{position_of, has_room};
-ghost use Rattle.hub_tables.specs.TableStates.{table_state, IsAcceptable};
+ghost use Rattle.hub_tables.specs.TableStates.{table_state, IsAcceptable, event_alone};
 ghost use Rattle.hub_core.specs.States.{Applies, IsNew, MayTake};
 ghost use Rattle.hub_core.specs.Delivery.{AreReady};
 
@@ -13,6 +13,7 @@ use crate::state::State;
 use crate::verdicts::{entry_of, verdict};
 use hub_items::put_items;
 use hub_model::items_and_events_are_bounded;
+use journey::Event;
 use outbox::boxes_keep_the_lists;
 use std::alloc::Global;
 use taf_codes::{Memory, Railway};
@@ -37,15 +38,18 @@ fn make_room(state: &mut State, by: Railway, no: MessageNumber) -> Result<(), Me
     Ok(())
 }
 
-/// Takes a new message that may be accepted: all that can be refused memory comes first, and then what cannot.
+/// Takes a new message that may be accepted, with the event of the wagon that it names alone: all that can be refused
+/// memory comes first, and then what cannot.
 pub(crate) fn accept(
     alloc: Global,
     state: &mut State,
     message: Shared<Message>,
+    event: Option<Event>,
 ) -> Result<Reply, Memory>
     requires ready { MayTake state.old }
     requires new { IsNew state.old message }
     requires acceptable { IsAcceptable (table_state state.old.tables) message }
+    requires event { event ≡ event_alone (table_state state.old.tables) message }
     ensures { Applies state.old state.new (call.Send message) result }
 {
     boxes_keep_the_lists();
@@ -54,9 +58,15 @@ pub(crate) fn accept(
     let content = sent.content();
     let by = content.by;
     let no = content.no;
-    put_items(alloc, &mut state.items, &state.tables, &message)?;
+    put_items(
+        alloc,
+        &mut state.items,
+        &state.tables,
+        &message,
+        event.as_ref(),
+    )?;
     make_room(state, by, no)?;
-    state.tables.accept(alloc, sent)?;
+    state.tables.accept(alloc, sent, event)?;
     deliver(&mut state.outboxes, &mut state.items);
     let position = state.history.len() as u64;
     state.seen.note_reserved(by, no, position);

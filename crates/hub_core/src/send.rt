@@ -10,7 +10,7 @@ use crate::acceptance::accept;
 use crate::refusals::refuse;
 use crate::repeats::apply_repeat;
 use crate::state::State;
-use hub_checks::fault;
+use hub_checks::{Checked, check};
 use hub_model::{estimates_fit, offers_are_in_order};
 use std::alloc::Global;
 use taf_codes::Memory;
@@ -51,9 +51,9 @@ fn apply_new(alloc: Global, state: &mut State, message: Shared<Message>) -> Resu
 {
     estimates_fit();
     offers_are_in_order();
-    match fault(alloc, &state.tables, message.get())? {
-        Some(found) => refuse(state, message, found),
-        None => accept(alloc, state, message),
+    match check(alloc, &state.tables, message.get())? {
+        Checked::Refused(found) => refuse(state, message, found),
+        Checked::Accepted(event) => accept(alloc, state, message, event),
     }
 }
 

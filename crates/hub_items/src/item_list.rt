@@ -1,14 +1,16 @@
 //! The items of an accepted message.
 ghost use Rattle.std.specs.Prelude.{◌≡◌, ◌++◌, ◌∷◌, [], OnOk, true, false, not, filter, map, flat_map, option_to_list, if◌then◌else◌, bytes_eq};
+ghost use Rattle.std.specs.Option.{option_copied};
 ghost use Rattle.trip_plan.specs.Rules.{has};
 ghost use Rattle.eti_chain.specs.Estimates.{is_late};
 ghost use Rattle.taf_messages.specs.declared.message.Body.TheVariants as body;
-ghost use Rattle.hub_model.specs.HubState.{named_wagons, journey_after};
+ghost use Rattle.hub_model.specs.HubState.{named_wagons, journey_after, event_for};
 ghost use Rattle.hub_model.specs.Items as of;
-ghost use Rattle.hub_tables.specs.TableStates.{IsAcceptable, table_state};
+ghost use Rattle.hub_tables.specs.TableStates.{IsAcceptable, continues_journeys, event_alone, table_state};
 ghost use Rattle.journey.specs.Journey.{after};
 ghost use Rattle.hub_items.specs.MessageItems.{IsAcceptableWithNotice, has_one_receiver, all_items};
 
+use crate::acceptable::Acceptable;
 use crate::alerts::put_alerts;
 use crate::each::put_notice;
 use crate::estimates::put_estimates;
@@ -17,25 +19,34 @@ use crate::receivers::movement_receivers;
 use crate::wagon_change::{WagonChange, WagonEvent};
 use hub_model::AddressedItem;
 use hub_tables::Tables;
+use journey::Event;
 use std::alloc::Global;
 use taf_codes::{Memory, Railway};
 use taf_messages::{Body, ItemBody, Message, Movement, Shared};
 use wagon_number::WagonNumber;
 
-/// Puts what an acceptable message makes for the railways into the list, in order; nothing goes to its own sender. What
-/// the list had before is dropped, and its memory is used again.
+/// Puts what an acceptable message makes for the railways into the list, in order; nothing goes to its own sender. The
+/// event is that of the wagon that the message names alone. What the list had before is dropped, and its memory is used
+/// again.
 pub fn put_items(
     alloc: Global,
     items: &mut Vec<AddressedItem>,
     tables: &Tables,
     message: &Shared<Message>,
+    event: Option<&Event>,
 ) -> Result<(), Memory>
-    requires { IsAcceptable (table_state tables.now) message.now }
+    requires acceptable { IsAcceptable (table_state tables.now) message.now }
+    requires event { option_copied event ≡ event_alone (table_state tables.now) message.now }
     ensures { OnOk result (items.new.items ≡ of.items_of (table_state tables.now) message.now) }
 {
     items.clear();
     let sent = message.get();
-    put_all(alloc, items, tables, sent, message)?;
+    let from = Acceptable {
+        tables,
+        message: sent,
+        event,
+    };
+    put_all(alloc, items, from, message)?;
     keep_others(items, sent.by());
     Ok(())
 }
@@ -44,18 +55,20 @@ pub fn put_items(
 fn put_all(
     alloc: Global,
     items: &mut Vec<AddressedItem>,
-    tables: &Tables,
-    message: &Message,
+    from: Acceptable<'_>,
     notice: &Shared<Message>,
 ) -> Result<(), Memory>
-    requires notice { IsAcceptableWithNotice (table_state tables.now) message.now notice.now }
+    requires notice { IsAcceptableWithNotice (table_state from.tables.now) from.message.now
+        notice.now }
+    requires event { option_copied from.event
+        ≡ event_alone (table_state from.tables.now) from.message.now }
     ensures { OnOk result (items.new.items ≡ items.old.items
-        ++ all_items (table_state tables.now) message.now) }
+        ++ all_items (table_state from.entry.tables.now) from.entry.message.now) }
 {
-    match message.body() {
-        Body::Movement(movement) => put_of_movement(items, tables, message, notice, movement),
+    match from.message.body() {
+        Body::Movement(movement) => put_of_movement(items, from, notice, movement),
         Body::EtiAsk { wagon } => {
-            let next = WagonEvent::of(tables, message, *wagon)?;
+            let next = WagonEvent::alone(from, *wagon);
             let transition = next.transition();
             let change = next.change(&transition);
             put_of_one(items, notice, change.responsible(), &change)
@@ -65,24 +78,26 @@ fn put_all(
         | Body::Offer(_)
         | Body::Answer(_)
         | Body::Withdraw { .. }
-        | Body::Reroute { .. } => put_of_many(alloc, items, tables, message, notice),
+        | Body::Reroute { .. } => put_of_many(alloc, items, from, notice),
     }
 }
 
 // Adds the items of a movement. Where it changes no estimate, there is nothing but the lead's notice.
 fn put_of_movement(
     items: &mut Vec<AddressedItem>,
-    tables: &Tables,
-    message: &Message,
+    from: Acceptable<'_>,
     notice: &Shared<Message>,
     movement: &Movement,
 ) -> Result<(), Memory>
-    requires notice { IsAcceptableWithNotice (table_state tables.now) message.now notice.now }
-    requires moves { message.now.body ≡ body.Movement movement.now }
+    requires notice { IsAcceptableWithNotice (table_state from.tables.now) from.message.now
+        notice.now }
+    requires event { option_copied from.event
+        ≡ event_alone (table_state from.tables.now) from.message.now }
+    requires moves { from.message.now.body ≡ body.Movement movement.now }
     ensures { OnOk result (items.new.items ≡ items.old.items
-        ++ all_items (table_state tables.now) message.now) }
+        ++ all_items (table_state from.entry.tables.now) from.entry.message.now) }
 {
-    let next = WagonEvent::of(tables, message, movement.wagon)?;
+    let next = WagonEvent::alone(from, movement.wagon);
     if next.keeps_estimates() {
         return put_notice(items, notice, next.lead());
     }
@@ -114,19 +129,20 @@ fn put_of_one(
 fn put_of_many(
     alloc: Global,
     items: &mut Vec<AddressedItem>,
-    tables: &Tables,
-    message: &Message,
+    from: Acceptable<'_>,
     notice: &Shared<Message>,
 ) -> Result<(), Memory>
-    requires notice { IsAcceptableWithNotice (table_state tables.now) message.now notice.now }
-    requires many { has_one_receiver message.now.body ≡ false }
+    requires notice { IsAcceptableWithNotice (table_state from.tables.now) from.message.now
+        notice.now }
+    requires event { option_copied from.event
+        ≡ event_alone (table_state from.tables.now) from.message.now }
+    requires many { has_one_receiver from.message.now.body ≡ false }
     ensures { OnOk result (items.new.items ≡ items.old.items
-        ++ all_items (table_state tables.now) message.now) }
+        ++ all_items (table_state from.entry.tables.now) from.entry.message.now) }
 {
-    let wagons = tables.named_wagons(alloc, message)?;
-    put_notices(alloc, items, tables, message, notice)?;
+    let wagons = from.tables.named_wagons(alloc, from.message)?;
+    put_notices(alloc, items, from.tables, from.message, notice)?;
     let mut alerts = Vec::new(alloc);
-    let from = Acceptable { tables, message };
     put_of_wagons(items, &mut alerts, from, wagons.as_slice())?;
     items.append(&mut alerts)?;
     Ok(())
@@ -139,13 +155,6 @@ fn keep_others(items: &mut Vec<AddressedItem>, sender: Railway)
     items.retain(|item| item.to != sender);
 }
 
-// A message that may be accepted, with the tables that say so.
-#[derive(Clone, Copy)]
-struct Acceptable<'a> {
-    tables: &'a Tables,
-    message: &'a Message,
-}
-
 // Adds the estimates that are news and the alerts, of the wagons that the message names.
 fn put_of_wagons(
     items: &mut Vec<AddressedItem>,
@@ -154,6 +163,8 @@ fn put_of_wagons(
     wagons: &[WagonNumber],
 ) -> Result<(), Memory>
     requires acceptable { IsAcceptable (table_state from.tables.now) from.message.now }
+    requires event { option_copied from.event
+        ≡ event_alone (table_state from.tables.now) from.message.now }
     requires are_named { wagons.now
         ≡ named_wagons (table_state from.tables.now).offer from.message.now }
     ensures estimates { let before = table_state from.entry.tables.now in
@@ -179,6 +190,8 @@ fn put_of_wagon(
     wagon: WagonNumber,
 ) -> Result<(), Memory>
     requires acceptable { IsAcceptable (table_state from.tables.now) from.message.now }
+    requires event { option_copied from.event
+        ≡ event_alone (table_state from.tables.now) from.message.now }
     requires is_named { has (named_wagons (table_state from.tables.now).offer from.message.now)
         wagon ≡ true }
     ensures estimates { let before = table_state from.entry.tables.now in
@@ -192,15 +205,45 @@ fn put_of_wagon(
 {
     match from.message.body() {
         Body::Plan(plan) => put_alert_end(alerts, from.tables, plan.lead(), wagon),
-        _ => {
-            let next = WagonEvent::of(from.tables, from.message, wagon)?;
-            if next.keeps_estimates() {
-                return Ok(());
+        _ => match from.event {
+            Some(event) => put_of_event(items, alerts, from, wagon, event),
+            None => {
+                let event = from.tables.event_for(from.message, wagon)?;
+                put_of_event(items, alerts, from, wagon, &event)
             }
-            let transition = next.transition();
-            put_of_change(items, alerts, &next.change(&transition))
-        }
+        },
     }
+}
+
+// The same of one wagon by its event of the message, which is no plan.
+fn put_of_event(
+    items: &mut Vec<AddressedItem>,
+    alerts: &mut Vec<AddressedItem>,
+    from: Acceptable<'_>,
+    wagon: WagonNumber,
+    event: &Event,
+) -> Result<(), Memory>
+    requires acceptable { IsAcceptable (table_state from.tables.now) from.message.now }
+    requires no_plan { continues_journeys from.message.now.body ≡ true }
+    requires is_named { has (named_wagons (table_state from.tables.now).offer from.message.now)
+        wagon ≡ true }
+    requires event { event.now
+        ≡ event_for (table_state from.tables.now).offer from.message.now wagon }
+    ensures estimates { let before = table_state from.entry.tables.now in
+        let next = journey_after before from.entry.message.now in
+        OnOk result (items.new.items ≡ items.old.items
+        ++ of.estimate_items (before.journey wagon) (next wagon) wagon) }
+    ensures alerts { let before = table_state from.entry.tables.now in
+        let next = journey_after before from.entry.message.now in
+        OnOk result (alerts.new.items ≡ alerts.old.items
+        ++ of.alert_items (before.journey wagon) (next wagon) wagon) }
+{
+    let next = WagonEvent::of(from, wagon, event);
+    if next.keeps_estimates() {
+        return Ok(());
+    }
+    let transition = next.transition();
+    put_of_change(items, alerts, &next.change(&transition))
 }
 
 // The same of a wagon with an event.

@@ -10,10 +10,12 @@
 //! 4. of each wagon of the message, the alert that begins or ends: to the lead, and to the railway that answers for it.
 //!
 //! None goes to the sender of the message. Nothing is changed: what the message leads to is computed by one transition
-//! from what the tables have of its wagons. The list is empty before the items are put, and keeps its memory: so one that
+//! from what the tables have of its wagons. The event of a wagon that the message names alone is lent, and those of
+//! several wagons are made one after another. The list is empty before the items are put, and keeps its memory: so one that
 //! is lent again for the next message mostly takes no more.
 #![tactic(auto)]
 
+mod acceptable;
 mod alerts;
 mod each;
 mod estimates;

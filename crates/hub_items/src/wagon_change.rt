@@ -1,22 +1,24 @@
 //! A journey with one event more: the transition of a wagon.
-ghost use Rattle.std.specs.Prelude.{◌≡◌, ℕ, ◌≤◌, ◌++◌, ◌∷◌, [], length, true, None, IfOk};
+ghost use Rattle.std.specs.Prelude.{◌≡◌, ℕ, ◌≤◌, ◌++◌, ◌∷◌, [], length, true, Some, None};
+ghost use Rattle.std.specs.Option.{option_copied};
 ghost use Rattle.trip_plan.specs.Rules.{has};
 ghost use Rattle.journey.specs.Stages as stages;
 ghost use Rattle.journey.specs.Legs as legs_of;
 ghost use Rattle.eti_chain.specs.Estimates as of;
-ghost use Rattle.hub_model.specs.HubState.{named_wagons, journey_after, event_body_for};
+ghost use Rattle.hub_model.specs.HubState.{named_wagons, journey_after, event_body_for, event_for};
 ghost use Rattle.hub_model.specs.Items.{alert_items, estimate_items};
-ghost use Rattle.hub_tables.specs.TableStates.{IsAcceptable, table_state, continues_journeys};
+ghost use Rattle.hub_tables.specs.TableStates.{IsAcceptable, table_state, continues_journeys, named_alone, event_alone};
 ghost use Rattle.hub_items.specs.Transitions.{keeps_estimates};
 ghost use Rattle.journey.specs.declared.event.EventBody.TheVariants.{Moved};
 ghost use Rattle.journey.specs.Journey.{after};
 
+use crate::acceptable::Acceptable;
 use eti_chain::Estimates;
-use hub_tables::{Tables, Wagon};
+use hub_tables::Wagon;
 use journey::{Event, EventBody, Transition};
 use std::marker::Model;
-use taf_codes::{Memory, Railway};
-use taf_messages::{Message, MovementKind};
+use taf_codes::Railway;
+use taf_messages::MovementKind;
 use taf_moment::Moment;
 use wagon_number::WagonNumber;
 
@@ -24,7 +26,7 @@ use wagon_number::WagonNumber;
 #[derive(Drop)]
 pub(crate) struct WagonEvent<'a> {
     wagon: &'a Wagon,
-    event: Event,
+    event: &'a Event,
 }
 
 impl<'a> Model for WagonEvent<'a> {
@@ -33,35 +35,53 @@ impl<'a> Model for WagonEvent<'a> {
 
     ghost Value = { NextEvent };
 
-    ghost view = { λ n. next_event n.wagon.now n.event };
+    ghost view = { λ n. next_event n.wagon.now n.event.now };
 
-    ghost invariant = { λ n. IsNextEvent (next_event n.wagon.now n.event) };
+    ghost invariant = { λ n. IsNextEvent (next_event n.wagon.now n.event.now) };
 }
 
 impl<'a> WagonEvent<'a> {
     /// A wagon that an acceptable message names, which is no plan, with its event of the message.
-    pub(crate) fn of(
-        tables: &'a Tables,
-        message: &Message,
-        wagon: WagonNumber,
-    ) -> Result<WagonEvent<'a>, Memory>
-        requires acceptable { IsAcceptable (table_state tables.now) message.now }
-        requires no_plan { continues_journeys message.now.body ≡ true }
-        requires is_named { has (named_wagons (table_state tables.now).offer message.now) wagon
-            ≡ true }
-        ensures wagon { IfOk result (λ n. n.wagon ≡ wagon) }
-        ensures before { IfOk result (λ n. n.before ≡ (table_state tables.now).journey wagon) }
-        ensures after { IfOk result (λ n. after n
-            ≡ journey_after (table_state tables.now) message.now wagon) }
-        ensures says { IfOk result (λ n. n.event.body
-            ≡ event_body_for (table_state tables.now).offer message.now.by message.now.body wagon) }
+    pub(crate) fn of(from: Acceptable<'a>, wagon: WagonNumber, event: &'a Event) -> WagonEvent<'a>
+        requires acceptable { IsAcceptable (table_state from.tables.now) from.message.now }
+        requires no_plan { continues_journeys from.message.now.body ≡ true }
+        requires is_named { has (named_wagons (table_state from.tables.now).offer from.message.now)
+            wagon ≡ true }
+        requires event { event.now
+            ≡ event_for (table_state from.tables.now).offer from.message.now wagon }
+        ensures wagon { result.wagon ≡ wagon }
+        ensures before { result.before ≡ (table_state from.entry.tables.now).journey wagon }
+        ensures after { after result
+            ≡ journey_after (table_state from.entry.tables.now) from.entry.message.now wagon }
+        ensures says { let message = from.entry.message.now in result.event.body
+            ≡ event_body_for (table_state from.entry.tables.now).offer message.by message.body
+            wagon }
     {
-        let event = tables.event_for(message, wagon)?;
-        match tables.wagon(wagon) {
-            Some(found) => Ok(WagonEvent {
+        match from.tables.wagon(wagon) {
+            Some(found) => WagonEvent {
                 wagon: found,
                 event,
-            }),
+            },
+            None => unreachable!(),
+        }
+    }
+
+    /// The wagon that an acceptable message names alone, with the event that is given for it.
+    pub(crate) fn alone(from: Acceptable<'a>, wagon: WagonNumber) -> WagonEvent<'a>
+        requires acceptable { IsAcceptable (table_state from.tables.now) from.message.now }
+        requires alone { named_alone from.message.now.body ≡ Some wagon }
+        requires event { option_copied from.event
+            ≡ event_alone (table_state from.tables.now) from.message.now }
+        ensures wagon { result.wagon ≡ wagon }
+        ensures before { result.before ≡ (table_state from.entry.tables.now).journey wagon }
+        ensures after { after result
+            ≡ journey_after (table_state from.entry.tables.now) from.entry.message.now wagon }
+        ensures says { let message = from.entry.message.now in result.event.body
+            ≡ event_body_for (table_state from.entry.tables.now).offer message.by message.body
+            wagon }
+    {
+        match from.event {
+            Some(event) => WagonEvent::of(from, wagon, event),
             None => unreachable!(),
         }
     }
@@ -88,7 +108,7 @@ impl<'a> WagonEvent<'a> {
     pub(crate) fn transition(&self) -> Transition<'_>
         ensures { result ≡ self.now }
     {
-        self.wagon.track().transition(&self.event)
+        self.wagon.track().transition(self.event)
     }
 
     /// What the journey and the estimates come to with its transition.

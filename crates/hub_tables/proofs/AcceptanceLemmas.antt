@@ -1,5 +1,5 @@
 -- What the tables know once they have taken a message.
-use Rattle.std.proofs.Common.{◌≡◌, ℕ, ◌==◌, ◌&&◌, Bool, true, false, List, [], ◌∷◌, ◌++◌, None, Result, Ok, Err, OnOk, refl, sym, ap, ◌∙◌, append-nil, true≢false}
+use Rattle.std.proofs.Common.{◌≡◌, ℕ, ◌==◌, ◌&&◌, Bool, true, false, List, [], ◌∷◌, ◌++◌, Option, Some, None, IfSome, Result, Ok, Err, OnOk, refl, sym, ap, ◌∙◌, append-nil, true≢false}
 use Rattle.std.specs.Prelude.{bytes_eq, unwrap_or}
 use Rattle.std.specs.Option.{option_or}
 use Rattle.std.specs.List.{list_all}
@@ -26,6 +26,11 @@ use Rattle.hub_tables.proofs.NextEventLemmas.{passes_named}
 pub on_ok : {A E : Type 0} {P Q : Type 0} (r : Result A E) → (P → Q) → OnOk r P → OnOk r Q
 on_ok (Ok x) f p = f p
 on_ok (Err e) f p = tt
+
+-- an event that is there is the one that is wanted
+pub same_if_some : {A : Type 0} (o p : Option A) → o ≡ p → IfSome o (λ x. p ≡ Some x)
+same_if_some None p h = tt
+same_if_some (Some x) p h = sym h
 
 -- tables with the same entries know the same
 pub same_known : (t u : TableEntries) → t.wagons ≡ u.wagons → t.plans ≡ u.plans → t.units ≡ u.units → t.offers.offers ≡ u.offers.offers → table_state t ≡ table_state u

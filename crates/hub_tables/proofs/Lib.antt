@@ -1,4 +1,5 @@
 pub mod EntryLemmas
+pub mod AloneLemmas
 pub mod NextEventLemmas
 pub mod FleetLemmas
 pub mod NewJourneyLemmas

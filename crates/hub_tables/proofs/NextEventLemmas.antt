@@ -1,5 +1,5 @@
 -- The events by which journeys go on.
-use Rattle.std.proofs.Common.{◌≡◌, ℕ, ◌+◌, ◌<◌, ◌≤◌, ◌^◌, ◌==◌, ◌||◌, Bool, true, false, cond, List, [], ◌∷◌, ◌++◌, length, map, get_or, refl, sym, ap, subst, ◌∙◌, arith, true≢false, if◌then◌else◌, inl, inr}
+use Rattle.std.proofs.Common.{◌≡◌, ℕ, ◌+◌, ◌<◌, ◌≤◌, ◌^◌, ◌==◌, ◌||◌, Bool, true, false, cond, List, [], ◌∷◌, ◌++◌, length, map, get_or, Some, refl, sym, ap, subst, ◌∙◌, arith, true≢false, if◌then◌else◌, inl, inr}
 use Rattle.std.specs.Prelude.{nat_lt, fold}
 use Rattle.std.specs.List.{list_all}
 use Rattle.std.proofs.lemmas.Bool.{and_parts, or_cases, eqb-true, cases_Bool, or_right}
@@ -17,8 +17,9 @@ use Rattle.journey.specs.Stages.{is_plan}
 use Rattle.eti_chain.specs.Estimates.{fits}
 use Rattle.hub_model.specs.HubState.{HubState, Offers, named_wagons, event_for, event_body_for, with_event, journey_after}
 use Rattle.hub_model.specs.Faults.{is_unknown}
-use Rattle.hub_tables.specs.TableStates.{IsAcceptable, continues_journeys}
+use Rattle.hub_tables.specs.TableStates.{IsAcceptable, continues_journeys, named_alone, event_alone}
 use Rattle.hub_tables.specs.Acceptance.{MayComeNext, IsAdmitted, AreAdmitted, with_event_on}
+use Rattle.hub_tables.proofs.AloneLemmas.{alone_named, alone_has, event_given}
 use Rattle.trip_plan.proofs.WagonLemmas.{neither}
 
 -- no wagon of the list comes again
@@ -166,13 +167,21 @@ module _ (s : HubState) (m : Message) (ok : IsAcceptable s m) (on : continues_jo
 pub one_differs : (w : ℕ) → all_differ (w ∷ []) ≡ true
 one_differs w = rw (numbers.itself w) refl
 
--- the same of a message that names one wagon
-module _ (s : HubState) (m : Message) (w : ℕ) (ok : IsAcceptable s m) (on : continues_journeys m.body ≡ true) (alone : named_wagons s.offer m ≡ w ∷ []) where
+-- the same of a message that names one wagon alone, by the event that is given
+module _ (s : HubState) (m : Message) (w : ℕ) (e : Event) (ok : IsAcceptable s m) (on : continues_journeys m.body ≡ true) (named : named_alone m.body ≡ Some w) (given : event_alone s m ≡ Some e) where
+  alone : named_wagons s.offer m ≡ w ∷ []
+  alone = alone_named s.offer m.by m.body w named
+
   apart : all_differ (named_wagons s.offer m) ≡ true
   apart = ap all_differ alone ∙ one_differs w
 
-  pub one_comes_next : MayComeNext (s.journey w) (event_for s.offer m w)
-  one_comes_next = comes_next s m ok on w (ap (λ (ws : List ℕ). has ws w) alone ∙ ap (λ (b : Bool). b || false) (numbers.itself w))
+  is : e ≡ event_for s.offer m w
+  is = event_given s m w e given
 
-  pub one_after : (v : ℕ) → with_event_on s.journey (w, event_for s.offer m w) v ≡ journey_after s m v
-  one_after v = ap (λ (ws : List ℕ). fold with_event_on s.journey (map (λ u. (u, event_for s.offer m u)) ws) v) (sym alone) ∙ next_after s m ok on apart v
+  pub one_comes_next : MayComeNext (s.journey w) e
+  one_comes_next = subst (λ (x : Event). MayComeNext (s.journey w) x) (sym is) (comes_next s m ok on w (alone_has s m w named))
+
+  pub one_after : (v : ℕ) → with_event_on s.journey (w, e) v ≡ journey_after s m v
+  one_after v =
+      ap (λ (x : Event). with_event_on s.journey (w, x) v) is ∙
+      ap (λ (ws : List ℕ). fold with_event_on s.journey (map (λ u. (u, event_for s.offer m u)) ws) v) (sym alone) ∙ next_after s m ok on apart v

@@ -1,5 +1,5 @@
 -- What the tables are seen as: all that is looked up but first sends and outboxes.
-use Rattle.std.specs.Prelude.{◌≡◌, ℕ, Bool, true, false, nat_eq, List, [], None, IfSome, bytes_eq}
+use Rattle.std.specs.Prelude.{◌≡◌, ℕ, Bool, true, false, nat_eq, List, [], Option, Some, None, IfSome, bytes_eq, option_map}
 use Rattle.std.specs.Option.{option_map_or}
 use Rattle.std.specs.Map.{lookup, keys_of}
 use Rattle.taf_codes.specs.declared.code.UnitCode.{UnitCode}
@@ -14,7 +14,7 @@ use Rattle.journey.specs.Journey.{Journey}
 use Rattle.journey.specs.Checks.{refusal}
 use Rattle.eti_chain.specs.Estimates.{fits}
 use Rattle.interchange.specs.OfferTable.{OfferTable, offer_of, is_standing}
-use Rattle.hub_model.specs.HubState.{HubState, new_state, named_wagons, event_body_for, journey_after}
+use Rattle.hub_model.specs.HubState.{HubState, new_state, named_wagons, event_body_for, event_for, journey_after}
 use Rattle.hub_model.specs.Faults.{fault, is_unknown}
 
 -- the entries of the tables, in their order
@@ -63,6 +63,18 @@ AreJourneyEntries wagons = (w : ℕ) → IfSome (lookup (nat_eq w) wagons) (IsJo
 abbrev pub continues_journeys : Body → Bool
 continues_journeys (body.Plan p) = false
 continues_journeys _ = true
+
+-- the wagon of a message that names one alone, and never several
+abbrev pub named_alone : Body → Option ℕ
+named_alone (body.Movement m) = Some m.wagon
+named_alone (body.EtiAsk w) = Some w
+named_alone (body.LegTime w leg minutes) = Some w
+named_alone (body.Reroute w route) = Some w
+named_alone _ = None
+
+-- what a message says of the wagon that it names alone
+abbrev pub event_alone : HubState → Message → Option Event
+event_alone s m = option_map (λ w. event_for s.offer m w) (named_alone m.body)
 
 -- the message may be accepted: it has no fault, each wagon that it goes on with admits it, and its name is new
 pub record IsAcceptable (s : HubState) (m : Message) : Type 0 where

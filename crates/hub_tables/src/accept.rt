@@ -1,31 +1,38 @@
 //! How the tables take a message: first all that may be refused memory, then steps that cannot fail.
-ghost use Rattle.std.specs.Prelude.{◌≡◌, ℕ, [], ◌∷◌, Option, IfSome, IfOk, OnErr, OnOk, false, true, if◌then◌else◌, map};
+ghost use Rattle.std.specs.Prelude.{◌≡◌, ℕ, IfSome, IfOk, OnErr, OnOk, false, true, if◌then◌else◌, map};
 ghost use Rattle.taf_codes.specs.declared.code.Railway.{Railway};
 ghost use Rattle.trip_plan.specs.Rules.{all_differ};
 ghost use Rattle.taf_messages.specs.declared.message.Body.TheVariants as says;
 ghost use Rattle.replay_numbers.specs.Names.{same_name};
-ghost use Rattle.interchange.specs.declared.offer.Offer.{Offer};
 ghost use Rattle.interchange.specs.OfferTable.{offer_of, is_standing};
 ghost use Rattle.interchange.specs.Offers.{wagons_of};
 ghost use Rattle.hub_model.specs.HubState.{named_wagons};
 ghost use Rattle.hub_model.specs.Updates.{after_acceptance};
-ghost use Rattle.hub_tables.specs.TableStates.{IsAcceptable, continues_journeys, table_state, table_part};
+ghost use Rattle.hub_tables.specs.TableStates.{IsAcceptable, continues_journeys, event_alone, table_state, table_part};
 ghost use Rattle.hub_tables.specs.Acceptance.{ContinuesJourneys, HasAccepted};
 
 use crate::enter::{add, enter, put_all};
 use crate::tables::Tables;
+use crate::wagon_events::named_alone;
 use interchange::Offer;
+use journey::Event;
 use std::alloc::Global;
 use taf_codes::{Memory, Railway, UnitCode};
 use taf_messages::{Body, Message, MessageNumber, OfferedWagons, TrainAnswer, TrainOffer};
 use trip_plan::{Plan, UnitLoad};
-use wagon_number::WagonNumber;
 
 impl Tables {
-    /// Takes a message that may be accepted: what is known then is what is known once the message is accepted. `Memory`
-    /// where memory is refused, and where a journey that is to go on has 2^62 events or more: then all is as it was.
-    pub fn accept(&mut self, alloc: Global, message: &Message) -> Result<(), Memory>
-        requires { IsAcceptable (table_state self.old) message.now }
+    /// Takes a message that may be accepted, with the event of the wagon that it names alone: what is known then is what
+    /// is known once the message is accepted. `Memory` where memory is refused, and where a journey that is to go on has
+    /// 2^62 events or more: then all is as it was.
+    pub fn accept(
+        &mut self,
+        alloc: Global,
+        message: &Message,
+        event: Option<Event>,
+    ) -> Result<(), Memory>
+        requires acceptable { IsAcceptable (table_state self.old) message.now }
+        requires event { event ≡ event_alone (table_state self.old) message.now }
         ensures ok { OnOk result (table_state self.new
             ≡ table_part (after_acceptance (table_state self.old) message.now)) }
         ensures err { OnErr result (table_state self.new ≡ table_state self.old) }
@@ -41,7 +48,7 @@ impl Tables {
                 self.offered_differ(message.by(), *offer);
                 self.accept_closing(alloc, message, message.by(), *offer)
             }
-            _ => self.accept_events(alloc, message),
+            _ => self.accept_events(alloc, message, event),
         }
     }
 
@@ -79,7 +86,7 @@ impl Tables {
         let made = made_by(message, offer)?;
         differ(&offer.wagons);
         self.offers.reserve()?;
-        self.accept_events(alloc, message)?;
+        self.accept_events(alloc, message, None)?;
         self.offers.open_reserved(made);
         Ok(())
     }
@@ -106,43 +113,40 @@ impl Tables {
             else is_standing self.old.offers also other)) }
         ensures err { OnErr result (self.new ≡ self.old) }
     {
-        self.accept_events(alloc, message)?;
+        self.accept_events(alloc, message, None)?;
         self.offers.close_offer(by, offer);
         Ok(())
     }
 
-    // The journeys of the named wagons go on.
-    fn accept_events(&mut self, alloc: Global, message: &Message) -> Result<(), Memory>
+    // The journeys of the named wagons go on: that of a wagon named alone by the event that is given, those of several by
+    // events that are made here.
+    fn accept_events(
+        &mut self,
+        alloc: Global,
+        message: &Message,
+        event: Option<Event>,
+    ) -> Result<(), Memory>
         requires acceptable { IsAcceptable (table_state self.old) message.now }
         requires continues_journeys { continues_journeys message.now.body ≡ true }
         requires differ { all_differ (named_wagons (table_state self.old).offer message.now)
             ≡ true }
+        requires event { IfSome event
+            (λ e. event_alone (table_state self.old) message.now ≡ Some e) }
         ensures ok { OnOk result (ContinuesJourneys self.old self.new message.now) }
         ensures offers { self.new.offers ≡ self.old.offers }
         ensures err { OnErr result (self.new ≡ self.old) }
     {
-        match alone(message) {
-            Some(wagon) => self.accept_event(message, wagon),
-            None => {
+        match (named_alone(message), event) {
+            (Some(wagon), Some(event)) => {
+                add(&mut self.wagons, wagon, event)?;
+                Ok(())
+            }
+            _ => {
                 let events = self.next_events(alloc, message)?;
                 put_all(&mut self.wagons, events);
                 Ok(())
             }
         }
-    }
-
-    // The journey of the one wagon that the message names goes on.
-    fn accept_event(&mut self, message: &Message, wagon: WagonNumber) -> Result<(), Memory>
-        requires acceptable { IsAcceptable (table_state self.old) message.now }
-        requires continues_journeys { continues_journeys message.now.body ≡ true }
-        requires alone { named_wagons (table_state self.old).offer message.now ≡ wagon ∷ [] }
-        ensures ok { OnOk result (ContinuesJourneys self.old self.new message.now) }
-        ensures offers { self.new.offers ≡ self.old.offers }
-        ensures err { OnErr result (self.new ≡ self.old) }
-    {
-        let event = self.next_event_for(message, wagon)?;
-        add(&mut self.wagons, wagon, event)?;
-        Ok(())
     }
 
     // The wagons of an offer that was made are all different.
@@ -152,20 +156,6 @@ impl Tables {
         if let Some(offer) = self.offer(by, offer) {
             differ(&offer.wagons);
         }
-    }
-}
-
-// The wagon of a message that names one.
-fn alone(message: &Message) -> Option<WagonNumber>
-    ensures { IfSome result (λ w. (offer : Railway → ℕ → Option Offer)
-        → named_wagons offer message.now ≡ w ∷ []) }
-{
-    match message.body() {
-        Body::Movement(movement) => Some(movement.wagon),
-        Body::EtiAsk { wagon } => Some(*wagon),
-        Body::LegTime { wagon, .. } => Some(*wagon),
-        Body::Reroute { wagon, .. } => Some(*wagon),
-        Body::Plan(_) | Body::Offer(_) | Body::Answer(_) | Body::Withdraw { .. } => None,
     }
 }
 

@@ -5,8 +5,8 @@ ghost use Rattle.hub_model.specs.HubState.{journey_after, named_wagons, event_bo
 ghost use Rattle.hub_model.specs.Faults.{whole_fault};
 ghost use Rattle.interchange.specs.Offers.{wagons_of, place_of};
 ghost use Rattle.trip_plan.specs.Rules.{all_differ, has};
-ghost use Rattle.hub_tables.specs.TableStates.{IsAcceptable, events_in, continues_journeys, table_state};
-ghost use Rattle.hub_tables.specs.Acceptance.{AreAdmitted, IsBeginning, MayComeNext, with_event_on};
+ghost use Rattle.hub_tables.specs.TableStates.{IsAcceptable, events_in, continues_journeys, named_alone, table_state};
+ghost use Rattle.hub_tables.specs.Acceptance.{AreAdmitted, IsBeginning, with_event_on};
 
 use crate::tables::Tables;
 use crate::wagon::Wagon;
@@ -174,24 +174,6 @@ impl Tables {
         Ok(events)
     }
 
-    /// The event by which the journey of the one wagon that the message names goes on.
-    pub(crate) fn next_event_for(
-        &self,
-        message: &Message,
-        wagon: WagonNumber,
-    ) -> Result<Event, Memory>
-        requires acceptable { IsAcceptable (table_state self.now) message.now }
-        requires continues_journeys { continues_journeys message.now.body ≡ true }
-        requires alone { named_wagons (table_state self.now).offer message.now ≡ wagon ∷ [] }
-        ensures next { IfOk result (λ e. MayComeNext (events_in self.now.wagons wagon) e) }
-        ensures after { IfOk result (λ e. (w : ℕ)
-            → with_event_on (events_in self.now.wagons) (wagon, e) w
-            ≡ journey_after (table_state self.now) message.now w) }
-    {
-        let event = self.event_for(message, wagon)?;
-        Ok(event)
-    }
-
     /// Each of the wagons with a journey that begins with its event of the message.
     pub(crate) fn begun(
         &self,
@@ -233,6 +215,19 @@ fn has_room(tables: &Tables, wagon: WagonNumber) -> bool
     match tables.wagon(wagon) {
         Some(found) => found.has_room(),
         None => true,
+    }
+}
+
+/// The wagon of a message that names one alone. None where the message may name several.
+pub fn named_alone(message: &Message) -> Option<WagonNumber>
+    ensures { result ≡ named_alone message.now.body }
+{
+    match message.body() {
+        Body::Movement(movement) => Some(movement.wagon),
+        Body::EtiAsk { wagon } => Some(*wagon),
+        Body::LegTime { wagon, .. } => Some(*wagon),
+        Body::Reroute { wagon, .. } => Some(*wagon),
+        Body::Plan(_) | Body::Offer(_) | Body::Answer(_) | Body::Withdraw { .. } => None,
     }
 }
 

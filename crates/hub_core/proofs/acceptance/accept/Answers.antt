@@ -12,11 +12,18 @@ use Rattle.hub_model.specs.declared.entry.Entry.{Entry}
 use Rattle.hub_model.specs.declared.addressed_item.AddressedItem.{AddressedItem}
 use Rattle.hub_model.specs.Items.{items_to}
 use Rattle.hub_model.specs.Updates.{after_acceptance}
-use Rattle.hub_tables.specs.TableStates.{TableEntries, table_state, table_part}
+use Rattle.hub_tables.specs.TableStates.{TableEntries, table_state, table_part, event_alone}
 use Rattle.hub_core.specs.States.{Represents}
 use Rattle.hub_core.proofs.HistoryLemmas.{kept_same}
 use Rattle.hub_core.proofs.SendLemmas.{few_items, new_answer, kept_accepted}
 use Rattle.hub_core.proofs.acceptance.accept.Goals as goal
+
+pub accept-requires-clause-event : goal.accept-requires-clause-event
+accept-requires-clause-event c =
+    let n = c.make_room.new.state in
+    c.requires.event ∙
+    ap (λ (t : TableEntries). event_alone (table_state t) c.args.message) (sym c.in_ok-make_room.ensures.tables) ∙
+    ap (event_alone (table_state n.tables)) (sym c.get-sent.ensures)
 
 pub returns-in_err-make_room : goal.returns-in_err-make_room
 returns-in_err-make_room c = record {

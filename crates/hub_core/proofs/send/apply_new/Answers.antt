@@ -1,18 +1,33 @@
-use Rattle.std.proofs.Common.{◌∙◌, ap, sym}
+use Rattle.std.proofs.Common.{◌∙◌, ap, sym, subst}
 use Rattle.replay_numbers.specs.SentPositions.{position_of}
 use Rattle.outbox.specs.OutboxStates.{outbox_state_of}
 use Rattle.hub_model.specs.Faults.{fault}
-use Rattle.hub_tables.specs.TableStates.{table_state}
+use Rattle.hub_tables.specs.TableStates.{table_state, event_alone}
+use Rattle.hub_checks.specs.declared.judging.Checked.{Checked}
+use Rattle.hub_checks.specs.Judging.{IsChecked}
 use Rattle.hub_core.proofs.AcceptableLemmas.{acceptable, offered_stay}
 use Rattle.hub_core.proofs.send.apply_new.Goals as goal
 
-pub fault-requires : goal.fault-requires
-fault-requires c =
+pub check-requires : goal.check-requires
+check-requires c =
     let b = c.args.state.now in
     offered_stay c.offers_are_in_order.ensures b.history.entries (table_state b.tables) (position_of b.seen) (outbox_state_of b.outboxes) c.requires.ready.0
 
 pub accept-requires-clause-acceptable : goal.accept-requires-clause-acceptable
 accept-requires-clause-acceptable c =
     let b = c.args.state.now in
+    let checked = subst (λ (k : Checked). IsChecked (table_state b.tables) c.get.result.now k) c.in-Accepted.is c.in_ok-found.ensures in
     acceptable c.estimates_fit.ensures c.offers_are_in_order.ensures b.history.entries c.args.message (table_state b.tables) (position_of b.seen) (outbox_state_of b.outboxes) c.requires.ready.0 c.requires.ready.1 c.requires.new.1 c.requires.new.0
-    (sym (c.in_ok-found.ensures ∙ ap (fault (table_state b.tables)) c.get.ensures) ∙ c.in-None.is)
+    (sym (ap (fault (table_state b.tables)) c.get.ensures) ∙ checked.0)
+
+pub accept-requires-clause-event : goal.accept-requires-clause-event
+accept-requires-clause-event c =
+    let s = table_state c.args.state.now.tables in
+    let checked = subst (λ (k : Checked). IsChecked s c.get.result.now k) c.in-Accepted.is c.in_ok-found.ensures in
+    checked.1 ∙ ap (event_alone s) c.get.ensures
+
+pub refuse-requires-clause-fault : goal.refuse-requires-clause-fault
+refuse-requires-clause-fault c =
+    let s = table_state c.args.state.now.tables in
+    let checked = subst (λ (k : Checked). IsChecked s c.get.result.now k) c.in-Refused.is c.in_ok-found.ensures in
+    sym (ap (fault s) c.get.ensures) ∙ checked

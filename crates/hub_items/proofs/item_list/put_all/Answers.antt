@@ -10,11 +10,11 @@ use Rattle.hub_tables.specs.TableStates.{table_state}
 use Rattle.hub_items.proofs.MessageItemLemmas.{items_of_one_wagon}
 use Rattle.hub_items.proofs.item_list.put_all.Goals as goal
 
-pub returns-in_ok-next-in-EtiAsk : goal.returns-in_ok-next-in-EtiAsk
-returns-in_ok-next-in-EtiAsk c =
-    let s = table_state c.args.tables.now in
-    let m = c.args.message.now in
-    let n = c.in_ok-next-in-EtiAsk.ensures in
+pub returns-in-EtiAsk : goal.returns-in-EtiAsk
+returns-in-EtiAsk c =
+    let s = table_state c.args.from.tables.now in
+    let m = c.args.from.message.now in
+    let n = c.alone-next.ensures in
     let same = c.change-change.ensures in
     let behind = ap after same ∙ n.after in
     let alone = ap (wagons_in s.offer m.by) (sym c.body.ensures ∙ c.in-EtiAsk.is) in

@@ -1,10 +1,8 @@
-use Rattle.std.proofs.Common.{◌≡◌, List, [], ◌∙◌, ap, sym, ◌++◌, append-nil, subst}
-use Rattle.std.specs.Prelude.{OnOk}
+use Rattle.std.proofs.Common.{◌∙◌, ap, sym, ◌++◌, append-nil}
+use Rattle.std.specs.Option.{option_copied}
 use Rattle.std.proofs.lemmas.Result.{on_ok_weaker}
-use Rattle.journey.specs.Journey.{NextEvent, after}
 use Rattle.hub_tables.specs.TableStates.{table_state}
-use Rattle.hub_model.specs.declared.addressed_item.AddressedItem.{AddressedItem}
-use Rattle.hub_model.specs.Items.{alert_items, estimate_items}
+use Rattle.hub_tables.proofs.AloneLemmas.{event_given}
 use Rattle.hub_items.proofs.PlanLemmas.{planned_estimates}
 use Rattle.hub_items.proofs.item_list.put_of_wagon.Goals as goal
 
@@ -14,28 +12,7 @@ returns-in-Plan-clause-estimates c =
     let none = planned_estimates (table_state c.args.from.tables.now) c.args.from.message.now c.in-Plan.plan c.args.wagon (sym c.body.ensures ∙ c.in-Plan.is) c.requires.is_named in
     on_ok_weaker c.put_alert_end.result (λ receiver. sym (ap (λ more. before ++ more) none ∙ append-nil before)) c.put_alert_end.ensures
 
-pub returns-else-keeps_estimates : goal.returns-else-keeps_estimates
-returns-else-keeps_estimates c =
-    let n = c.in_ok-next-in_default.ensures in
-    let same = c.change.ensures in
-    let before = ap (λ (o : NextEvent). o.before) same ∙ n.before in
-    let behind = ap after same ∙ n.after in
-    let wagon = ap (λ (o : NextEvent). o.wagon) same ∙ n.wagon in
-    let put = c.put_of_change in
-    record {
-      estimates = subst (λ (more : List AddressedItem). OnOk put.result (put.new.items.items ≡ c.args.items.now.items ++ more)) (λ i. estimate_items (before i) (behind i) (wagon i)) put.ensures.estimates;
-      alerts = subst (λ (more : List AddressedItem). OnOk put.result (put.new.alerts.items ≡ c.args.alerts.now.items ++ more)) (λ i. alert_items (before i) (behind i) (wagon i)) put.ensures.alerts;
-    }
-
-nothing_more : (xs before : List AddressedItem) → xs ≡ [] → before ≡ before ++ xs
-nothing_more xs before e = sym (ap (λ ys. before ++ ys) e ∙ append-nil before)
-
-pub returns-then-keeps_estimates : goal.returns-then-keeps_estimates
-returns-then-keeps_estimates c =
-    let n = c.in_ok-next-in_default.ensures in
-    let k = c.keeps_estimates.ensures in
-    let kept = c.if-keeps_estimates.true in
-    record {
-      estimates = nothing_more _ c.args.items.now.items (sym (λ i. estimate_items (n.before i) (n.after i) c.args.wagon) ∙ k.estimates c.args.wagon kept);
-      alerts = nothing_more _ c.args.alerts.now.items (sym (λ i. alert_items (n.before i) (n.after i) c.args.wagon) ∙ k.alerts c.args.wagon kept);
-    }
+pub put_of_event-requires-clause-event : goal.put_of_event-requires-clause-event
+put_of_event-requires-clause-event c =
+    event_given (table_state c.args.from.tables.now) c.args.from.message.now c.args.wagon c.in-Some.event.now
+    (sym c.requires.event ∙ ap option_copied c.in-Some.is)

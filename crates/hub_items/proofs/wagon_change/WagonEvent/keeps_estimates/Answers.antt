@@ -12,10 +12,10 @@ pub returns-clause-estimates : goal.returns-clause-estimates
 returns-clause-estimates c = λ w kept.
     let next = c.self.inside in
     sym (ap (λ (o : NextEvent). estimate_items o.before (after o) w) c.self.view_is) ∙
-    no_estimate_items next.wagon.now.events next.event (still next.event.body (sym c.keeps_estimates.ensures ∙ kept)) w
+    no_estimate_items next.wagon.now.events next.event.now (still next.event.now.body (sym c.keeps_estimates.ensures ∙ kept)) w
 
 pub returns-clause-alerts : goal.returns-clause-alerts
 returns-clause-alerts c = λ w kept.
     let next = c.self.inside in
     sym (ap (λ (o : NextEvent). alert_items o.before (after o) w) c.self.view_is) ∙
-    no_alert_items next.wagon.now.events next.event (still next.event.body (sym c.keeps_estimates.ensures ∙ kept)) w
+    no_alert_items next.wagon.now.events next.event.now (still next.event.now.body (sym c.keeps_estimates.ensures ∙ kept)) w

@@ -10,5 +10,5 @@ pub returns : goal.returns
 returns c =
     let next = c.self.inside in
     ap (λ (s : JourneyState). s.lead) c.journey_state.ensures ∙ ap (λ (j : Journey). lead_of j.events) c.track.ensures ∙
-    ap (option_map (λ p. p.lead)) (sym (plan-kept next.wagon.now.events next.event c.self.invariant.admitted)) ∙
+    ap (option_map (λ p. p.lead)) (sym (plan-kept next.wagon.now.events next.event.now c.self.invariant.admitted)) ∙
     ap (λ (o : NextEvent). lead_of (after o)) c.self.view_is

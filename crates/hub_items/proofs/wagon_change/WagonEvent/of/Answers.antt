@@ -10,14 +10,14 @@ use Rattle.hub_items.proofs.wagon_change.WagonEvent.of.Goals as goal
 
 pub invariant_of-result : goal.invariant_of-result
 invariant_of-result c =
-    let s = table_state c.args.tables.now in
-    let m = c.args.message.now in
+    let s = table_state c.args.from.tables.now in
+    let m = c.args.from.message.now in
     let ok = c.requires.acceptable in
     let events = ap (λ (j : Journey). j.events) c.in-Some.ensures.found in
-    let is_last = same_after s m c.args.wagon _ _ ok c.requires.no_plan c.requires.is_named events c.in_ok-event.ensures in
+    let is_last = same_after s m c.args.wagon _ _ ok c.requires.no_plan c.requires.is_named events c.requires.event in
     record {
       admitted =
-          ap (λ (e : Event). refusal c.in-Some.found.now.events e.by e.body) c.in_ok-event.ensures ∙
+          ap (λ (e : Event). refusal c.in-Some.found.now.events e.by e.body) c.requires.event ∙
           ap (λ (es : List Event). refusal es m.by (event_body_for s.offer m.by m.body c.args.wagon)) events ∙
           ok.admitted c.requires.no_plan c.args.wagon c.requires.is_named;
       fits_after = ap fits is_last ∙ ok.fits_after c.args.wagon;
@@ -25,5 +25,5 @@ invariant_of-result c =
 
 pub returns-clause-after : goal.returns-clause-after
 returns-clause-after c =
-    same_after (table_state c.args.tables.now) c.args.message.now c.args.wagon _ _ c.requires.acceptable c.requires.no_plan c.requires.is_named
-    (ap (λ (j : Journey). j.events) c.in-Some.ensures.found) c.in_ok-event.ensures
+    same_after (table_state c.args.from.tables.now) c.args.from.message.now c.args.wagon _ _ c.requires.acceptable c.requires.no_plan c.requires.is_named
+    (ap (λ (j : Journey). j.events) c.in-Some.ensures.found) c.requires.event

@@ -1,11 +1,14 @@
 use Rattle.std.proofs.Common.{refl, sym, ◌∙◌}
-use Rattle.hub_tables.specs.TableStates.{table_state}
-use Rattle.hub_tables.proofs.AcceptanceLemmas.{on_ok, answer_differs, single_taken, taken_known}
+use Rattle.hub_tables.specs.TableStates.{table_state, event_alone}
+use Rattle.hub_tables.proofs.AcceptanceLemmas.{on_ok, same_if_some, answer_differs, single_taken, taken_known}
 use Rattle.hub_tables.proofs.tables.Tables.accept.Goals as goal
 
 pub accept_closing-requires-clause-differ : goal.accept_closing-requires-clause-differ
 accept_closing-requires-clause-differ c =
-    answer_differs (table_state c.args.self.now) c.args.message.now c.in-Answer.answer (sym c.body.ensures ∙ c.in-Answer.is) c.requires.sound
+    answer_differs (table_state c.args.self.now) c.args.message.now c.in-Answer.answer (sym c.body.ensures ∙ c.in-Answer.is) c.requires.acceptable.sound
+
+pub accept_events-requires-clause-event : goal.accept_events-requires-clause-event
+accept_events-requires-clause-event c = same_if_some c.args.event (event_alone (table_state c.args.self.now) c.args.message.now) c.requires.event
 
 pub returns-in_default-clause-ok : goal.returns-in_default-clause-ok
 returns-in_default-clause-ok c =
