@@ -1,10 +1,5 @@
 -- Reading the items of an array one after the other, as a loop does.
-use Rattle.std.proofs.Common.{◌≡◌, ◌<◌, List, [], ◌∷◌, ◌++◌, Option, Some, None, refl, sym, ap, ◌∙◌, append_assoc, append-nil, arith}
-use Rattle.serde_json.specs.Data.{Data, Items, no_items, item}
-use Rattle.serde_json.specs.Events.{items_len}
-use Rattle.call_reader.specs.declared.value.DecodeError.{DecodeError}
-use Rattle.call_reader.specs.declared.value.DecodeError.TheVariants.{Bad, Memory}
-use Rattle.call_reader.specs.Values.{◌>>=◌, Misses, each}
+use Rattle.call_reader.proofs.Common.{◌≡◌, ◌<◌, List, [], ◌∷◌, ◌++◌, Option, Some, None, refl, sym, ap, ◌∙◌, append_assoc, append-nil, arith, Data, Items, no_items, item, items_len, DecodeError, Bad, Memory, ◌>>=◌, Misses, each}
 
 -- what was read before, and what is still read
 abbrev pub with_front : {X : Type 0} → List X → Option (List X) → Option (List X)

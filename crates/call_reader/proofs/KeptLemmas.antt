@@ -1,26 +1,8 @@
 -- Each message that is read keeps the limits of its parts.
-use Rattle.std.proofs.Common.{◌≡◌, ℕ, ◌≤◌, List, [], ◌∷◌, length, Bool, true, false, Option, Some, None, Result, Ok, Err, All, option_and_then, refl, ap, ◌∙◌, subst, leb-true, if◌then◌else◌, nat_le}
-use Rattle.std.specs.Prelude.{◌&&◌}
-use Rattle.std.specs.Result.{result_ok}
-use Rattle.std.proofs.lemmas.Bool.{and_parts}
-use Rattle.std.proofs.lemmas.List.Elements.{All-nil, All-cons}
-use Rattle.serde_json.specs.Data.{Data, Items, no_items, item}
-use Rattle.serde_json.specs.Find.{as_str, as_number, as_u64, as_array}
-use Rattle.wagon_number.specs.Digits.{IsVehicleNumber, number_of}
+use Rattle.call_reader.proofs.Common.{◌≡◌, ℕ, ◌≤◌, List, [], ◌∷◌, length, Bool, true, false, Option, Some, None, Result, Ok, Err, All, option_and_then, refl, ap, ◌∙◌, subst, leb-true, if◌then◌else◌, nat_le, ◌&&◌, result_ok, and_parts, All-nil, All-cons, Data, Items, no_items, item, as_str, as_number, as_u64, as_array, IsVehicleNumber, number_of, last_minute, moment_of, is_railway, is_place, is_name, is_unit_code, has_unit_form, code_of, unit_of, BadCode, UnitFault, NotAUnitCode, BadUnitDigit, Leg, UnitLoad, ◌>>=◌, each, leg, unit_load, member, list, short_list, IsBetween, IsLeg, IsUnitLoad, may_be_offered, Field}
 use Rattle.wagon_number.proofs.TextLemmas as numbers
-use Rattle.taf_moment.specs.Calendar.{last_minute, moment_of}
 use Rattle.taf_moment.proofs.TextLemmas as moments
-use Rattle.taf_codes.specs.Codes.{is_railway, is_place, is_name, is_unit_code, has_unit_form, code_of, unit_of}
-use Rattle.taf_codes.specs.declared.fault.BadCode.{BadCode}
-use Rattle.taf_codes.specs.declared.fault.UnitFault.{UnitFault}
-use Rattle.taf_codes.specs.declared.fault.UnitFault.TheVariants.{NotAUnitCode, BadUnitDigit}
-use Rattle.trip_plan.specs.declared.parts.Leg.{Leg}
-use Rattle.trip_plan.specs.declared.parts.UnitLoad.{UnitLoad}
 use Rattle.call_reader.specs.Values as good
-use Rattle.call_reader.specs.Values.{◌>>=◌, each, leg, unit_load, member, list, short_list}
-use Rattle.taf_messages.specs.Kept.{IsBetween, IsLeg, IsUnitLoad}
-use Rattle.taf_messages.specs.Limits.{may_be_offered}
-use Rattle.taf_messages.specs.declared.field.Field.{Field}
 use Rattle.taf_messages.specs.declared.field.Field.TheVariants as fields
 
 -- ---- what a value was read from

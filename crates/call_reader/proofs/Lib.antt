@@ -1,3 +1,4 @@
+pub mod Common
 pub mod EachLemmas
 pub mod KeptLemmas
 pub mod SentLemmas

@@ -1,42 +1,13 @@
 -- Each call that sends a message keeps the message's limits.
-use Rattle.std.proofs.Common.{◌≡◌, ℕ, ◌≤◌, List, [], length, Bool, true, false, Option, Some, None, Result, Ok, Err, All, is_some, ok_or, refl, ap, sym, ◌∙◌, subst, arith, if◌then◌else◌}
-use Rattle.std.proofs.lemmas.List.Elements.{All-nil}
-use Rattle.serde_json.specs.Data.{Data, null, boolean, number, string, array, object}
-use Rattle.serde_json.specs.Find.{get, as_object}
-use Rattle.wagon_number.specs.Digits.{IsVehicleNumber}
-use Rattle.taf_moment.specs.Calendar.{last_minute}
-use Rattle.taf_codes.specs.Codes.{is_railway, is_place, is_name}
-use Rattle.trip_plan.specs.declared.parts.Leg.{Leg}
-use Rattle.trip_plan.specs.declared.parts.UnitLoad.{UnitLoad}
-use Rattle.trip_plan.specs.Trip.{Trip, plan_fault, route_fault}
+use Rattle.call_reader.proofs.Common.{◌≡◌, ℕ, ◌≤◌, List, [], length, Bool, true, false, Option, Some, None, Result, Ok, Err, All, is_some, ok_or, refl, ap, sym, ◌∙◌, subst, arith, if◌then◌else◌, All-nil, Data, null, boolean, number, string, array, object, get, as_object, IsVehicleNumber, last_minute, is_railway, is_place, is_name, Leg, UnitLoad, Trip, plan_fault, route_fault, IsBetween, IsLeg, IsUnitLoad, IsTrip, IsMovementKind, IsMovement, IsOffer, AreAnswered, IsAnswer, IsRailwayIfThere, IsBody, IsMessage, bytes_eq, texts, may_be_offered, is_sent_by_its_lead, field_name, Field, Kind, BodyName, MovementName, Movement, MovementKind, Release, Departure, YardArrival, YardDeparture, Exception, Estimate, Arrival, Delivery, Message, Body, TrainOffer, TrainAnswer, Call, RecordFault, BadJson, BadField}
 use Rattle.call_reader.specs.Values as good
-use Rattle.taf_messages.specs.Kept.{IsBetween, IsLeg, IsUnitLoad, IsTrip, IsMovementKind, IsMovement, IsOffer, AreAnswered, IsAnswer, IsRailwayIfThere, IsBody, IsMessage}
-use Rattle.std.specs.Prelude.{bytes_eq}
-use Rattle.taf_codes.specs.Equality.{texts}
-use Rattle.taf_messages.specs.Limits.{may_be_offered}
-use Rattle.taf_messages.specs.Leads.{is_sent_by_its_lead}
-use Rattle.taf_messages.specs.Names.{field_name}
 use Rattle.call_reader.specs.Reading.{◌>>=◌, value_or_fault, field_of, value_if_there, optional_field_of, plan_or_fault, plan_made, route_or_fault, listed_units, units_of, plan_of, route_of, movement_kind_of, movement_of, offer_of, answer_of, body_of, message_of, call_of_kind, kind_of, call_of, call_read}
-use Rattle.taf_messages.specs.declared.field.Field.{Field}
 use Rattle.taf_messages.specs.declared.field.Field.TheVariants as field
-use Rattle.taf_messages.specs.declared.kind.Kind.{Kind}
 use Rattle.taf_messages.specs.declared.kind.Kind.TheVariants as kinds
-use Rattle.taf_messages.specs.declared.kind.BodyName.{BodyName}
 use Rattle.taf_messages.specs.declared.kind.BodyName.TheVariants as names
-use Rattle.taf_messages.specs.declared.kind.MovementName.{MovementName}
 use Rattle.taf_messages.specs.declared.kind.MovementName.TheVariants as movements
-use Rattle.taf_messages.specs.declared.movement.Movement.{Movement}
-use Rattle.taf_messages.specs.declared.movement.MovementKind.{MovementKind}
-use Rattle.taf_messages.specs.declared.movement.MovementKind.TheVariants.{Release, Departure, YardArrival, YardDeparture, Exception, Estimate, Arrival, Delivery}
-use Rattle.taf_messages.specs.declared.message.Message.{Message}
-use Rattle.taf_messages.specs.declared.message.Body.{Body}
 use Rattle.taf_messages.specs.declared.message.Body.TheVariants as body
-use Rattle.taf_messages.specs.declared.message.TrainOffer.{TrainOffer}
-use Rattle.taf_messages.specs.declared.message.TrainAnswer.{TrainAnswer}
-use Rattle.taf_messages.specs.declared.call.Call.{Call}
 use Rattle.taf_messages.specs.declared.call.Call.TheVariants as calls
-use Rattle.taf_messages.specs.declared.fault.RecordFault.{RecordFault}
-use Rattle.taf_messages.specs.declared.fault.RecordFault.TheVariants.{BadJson, BadField}
 use Rattle.call_reader.proofs.KeptLemmas.{railway_kept, place_kept, name_kept, wagon_kept, moment_kept, number_kept, wagon_list_kept, leg_list_kept, wagons_kept, units_kept, offered_wagons_kept}
 
 -- ---- what a result was read from

@@ -1,20 +1,5 @@
 -- Estimates within the calendar.
-use Rattle.std.proofs.Common.{◌≡◌, ℕ, ◌+◌, ◌-◌, ◌≤◌, ◌<◌, Bool, true, false, cond, ltb, leb, zero, suc, List, [], ◌∷◌, ◌++◌, length, get_or, take, drop, Option, Some, None, refl, ap, ◌∙◌, sym, arith, zero-add}
-use Rattle.std.specs.Prelude.{◌&&◌, nat_le, sum_by, slice_range, filter_map, option_map}
-use Rattle.std.specs.Option.{option_or}
-use Rattle.std.specs.List.{list_all, range_with_len, cons_option}
-use Rattle.std.proofs.lemmas.Bool.{and_parts, and_from, leb-true, ltb-true, le-leb, lt-ltb, cond-true, cond_both}
-use Rattle.std.proofs.lemmas.List.Sums.{sum_by-cons, AllPass-from_list_all, list_all-from_AllPass}
-use Rattle.std.proofs.lemmas.List.FromFn.{get_or-range_with_len, length-range_with_len}
-use Rattle.taf_moment.specs.Calendar.{last_minute}
-use Rattle.trip_plan.specs.declared.parts.Leg.{Leg}
-use Rattle.taf_messages.specs.declared.record.EstimateAt.{EstimateAt}
-use Rattle.journey.specs.declared.event.Event.{Event}
-use Rattle.journey.specs.Stages.{leg_index, is_reception}
-use Rattle.journey.specs.Legs.{legs}
-use Rattle.eti_chain.specs.declared.anchor.Anchor.{Anchor}
-use Rattle.eti_chain.specs.Estimates.{anchor_in, anchor, EstimateBasis, basis_from, estimate_basis, minutes_in, delays_of, end_in, eta_in, fits_in, fits}
-use Rattle.eti_chain.specs.EstimateStates.{with_delay_of, IsWithin}
+use Rattle.eti_chain.proofs.Common.{◌≡◌, ℕ, ◌+◌, ◌-◌, ◌≤◌, ◌<◌, Bool, true, false, cond, ltb, leb, zero, suc, List, [], ◌∷◌, ◌++◌, length, get_or, take, drop, Option, Some, None, refl, ap, ◌∙◌, sym, arith, zero-add, ◌&&◌, nat_le, sum_by, slice_range, filter_map, option_map, option_or, list_all, range_with_len, cons_option, and_parts, and_from, leb-true, ltb-true, le-leb, lt-ltb, cond-true, cond_both, sum_by-cons, AllPass-from_list_all, list_all-from_AllPass, get_or-range_with_len, length-range_with_len, last_minute, Leg, EstimateAt, Event, leg_index, is_reception, legs, Anchor, anchor_in, anchor, EstimateBasis, basis_from, estimate_basis, minutes_in, delays_of, end_in, eta_in, fits_in, fits, with_delay_of, IsWithin}
 use Rattle.eti_chain.proofs.EstimateLemmas.{KeepsLegs, IsSilent, basis-push, basis-silent}
 
 -- ---- the end of a leg

@@ -1,23 +1,5 @@
 -- What one more event does to what estimates are counted from.
-use Rattle.std.proofs.Common.{◌≡◌, ℕ, ◌+◌, Bool, true, false, cond, List, [], ◌∷◌, ◌++◌, Option, Some, None, refl, ap, ◌∙◌, sym, add-zero, add_assoc}
-use Rattle.std.specs.Prelude.{sum_by, fold, is_some, option_map}
-use Rattle.std.specs.Option.{option_or}
-use Rattle.std.proofs.lemmas.Bool.{false≢true}
-use Rattle.std.proofs.lemmas.List.{append-nil, append_assoc}
-use Rattle.std.proofs.lemmas.List.Sums.{sum_by_push}
-use Rattle.trip_plan.specs.declared.parts.Leg.{Leg}
-use Rattle.taf_messages.specs.declared.movement.MovementKind.TheVariants.{YardArrival, YardDeparture}
-use Rattle.journey.specs.declared.event.Event.{Event}
-use Rattle.journey.specs.declared.event.EventBody.{EventBody}
-use Rattle.journey.specs.declared.event.EventBody.TheVariants.{Moved, EstimateAsked, Offered, Withdrawn}
-use Rattle.journey.specs.Words.{newest, since}
-use Rattle.journey.specs.Stages.{leg_index, is_reception}
-use Rattle.journey.specs.Legs.{legs_after, legs}
-use Rattle.journey.proofs.NewestLemmas.{newest-push, since-push}
-use Rattle.journey.proofs.LegPositionLemmas.{legs-push, leg_index-push}
-use Rattle.eti_chain.specs.declared.anchor.Anchor.{Anchor}
-use Rattle.eti_chain.specs.Estimates.{anchor_in, delay_in, delays, delayed_by, anchor, basis_from, estimate_basis}
-use Rattle.eti_chain.specs.EstimateStates.{keeps_legs, with_delay_of, anchor_after}
+use Rattle.eti_chain.proofs.Common.{◌≡◌, ℕ, ◌+◌, Bool, true, false, cond, List, [], ◌∷◌, ◌++◌, Option, Some, None, refl, ap, ◌∙◌, sym, add-zero, add_assoc, sum_by, fold, is_some, option_map, option_or, false≢true, append-nil, append_assoc, sum_by_push, Leg, YardArrival, YardDeparture, Event, EventBody, Moved, EstimateAsked, Offered, Withdrawn, newest, since, leg_index, is_reception, legs_after, legs, newest-push, since-push, legs-push, leg_index-push, Anchor, anchor_in, delay_in, delays, delayed_by, anchor, basis_from, estimate_basis, keeps_legs, with_delay_of, anchor_after}
 
 -- an event that says nothing of legs
 abbrev pub KeepsLegs : EventBody → Type 0

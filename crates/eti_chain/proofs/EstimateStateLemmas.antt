@@ -1,17 +1,5 @@
 -- What is kept for the estimates goes along with the events.
-use Rattle.std.proofs.Common.{◌≡◌, ℕ, ◌≤◌, cond, List, [], ◌∷◌, ◌++◌, Option, Some, None, ap, ◌∙◌, sym}
-use Rattle.std.specs.Prelude.{option_map}
-use Rattle.std.proofs.lemmas.Bool.{le-leb}
-use Rattle.taf_moment.specs.Calendar.{last_minute, moment_at}
-use Rattle.journey.specs.declared.event.Event.{Event}
-use Rattle.journey.specs.declared.journey_state.JourneyState.{JourneyState}
-use Rattle.journey.specs.Journey.{NextEvent, after}
-use Rattle.journey.specs.JourneyStates.{journey_state}
-use Rattle.journey.specs.Checks.{refusal}
-use Rattle.journey.proofs.SoundStateLemmas.{plan-kept}
-use Rattle.eti_chain.specs.declared.anchor.Anchor.{Anchor}
-use Rattle.eti_chain.specs.Estimates.{anchor, EstimateBasis, basis_from, estimate_basis, commitment}
-use Rattle.eti_chain.specs.EstimateStates.{anchor_after, EstimatesState, state_with_commitment, estimates_state, EstimateAnchor, anchor_with_commitment, estimate_anchor}
+use Rattle.eti_chain.proofs.Common.{◌≡◌, ℕ, ◌≤◌, cond, List, [], ◌∷◌, ◌++◌, Option, Some, None, ap, ◌∙◌, sym, option_map, le-leb, last_minute, moment_at, Event, JourneyState, NextEvent, after, journey_state, refusal, plan-kept, Anchor, anchor, EstimateBasis, basis_from, estimate_basis, commitment, anchor_after, EstimatesState, state_with_commitment, estimates_state, EstimateAnchor, anchor_with_commitment, estimate_anchor}
 use Rattle.eti_chain.proofs.EstimateLemmas.{anchor_push}
 
 -- what the estimates are counted from

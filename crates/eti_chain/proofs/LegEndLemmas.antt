@@ -1,25 +1,6 @@
 -- A journey ends on its last leg, and its estimates stay within the calendar.
-use Rattle.std.proofs.Common.{◌≡◌, ℕ, ◌+◌, ◌≤◌, Bool, true, false, List, [], ◌∷◌, ◌++◌, length, Option, Some, None, refl, ap, ◌∙◌, sym}
-use Rattle.std.specs.Option.{option_or}
-use Rattle.std.proofs.lemmas.Bool.{not-false, eqb-true, false≢true}
-use Rattle.taf_codes.specs.declared.code.Railway.{Railway}
-use Rattle.taf_moment.specs.Calendar.{last_minute}
-use Rattle.trip_plan.specs.declared.parts.Leg.{Leg}
-use Rattle.taf_messages.specs.declared.reply.Why.TheVariants.{WrongStage}
-use Rattle.taf_messages.specs.declared.movement.MovementKind.{MovementKind}
-use Rattle.taf_messages.specs.declared.movement.MovementKind.TheVariants.{Release, Departure, YardArrival, YardDeparture, Exception, Estimate, Arrival, Delivery}
-use Rattle.taf_messages.specs.declared.record.Stage.{Stage}
+use Rattle.eti_chain.proofs.Common.{◌≡◌, ℕ, ◌+◌, ◌≤◌, Bool, true, false, List, [], ◌∷◌, ◌++◌, length, Option, Some, None, refl, ap, ◌∙◌, sym, option_or, not-false, eqb-true, false≢true, Railway, last_minute, Leg, WrongStage, MovementKind, Release, Departure, YardArrival, YardDeparture, Exception, Estimate, Arrival, Delivery, Stage, Event, EventBody, Planned, Moved, EstimateAsked, LegTimed, Offered, Answered, Withdrawn, Rerouted, stage, stage_after, leg_index, is_reception, legs, journey_state, refusal, movement_checks, passed, stage-push, legs-push, timed_length, fits, is_calendar_checked}
 use Rattle.taf_messages.specs.declared.record.Stage.TheVariants as stage_is
-use Rattle.journey.specs.declared.event.Event.{Event}
-use Rattle.journey.specs.declared.event.EventBody.{EventBody}
-use Rattle.journey.specs.declared.event.EventBody.TheVariants.{Planned, Moved, EstimateAsked, LegTimed, Offered, Answered, Withdrawn, Rerouted}
-use Rattle.journey.specs.Stages.{stage, stage_after, leg_index, is_reception}
-use Rattle.journey.specs.Legs.{legs}
-use Rattle.journey.specs.JourneyStates.{journey_state}
-use Rattle.journey.specs.Checks.{refusal, movement_checks}
-use Rattle.journey.proofs.SoundStateLemmas.{passed}
-use Rattle.journey.proofs.LegPositionLemmas.{stage-push, legs-push, timed_length}
-use Rattle.eti_chain.specs.Estimates.{fits, is_calendar_checked}
 use Rattle.eti_chain.proofs.EstimateLemmas.{leg_index-kept, silent_yard_arrival, silent_yard_departure, silent_offered, silent_withdrawn, silent_asked}
 use Rattle.eti_chain.proofs.CalendarLemmas.{fits-silent, fits-end}
 

@@ -1,3 +1,4 @@
+pub mod Common
 pub mod EstimateLemmas
 pub mod CalendarLemmas
 pub mod LegEndLemmas

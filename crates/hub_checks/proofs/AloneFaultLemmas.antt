@@ -1,22 +1,6 @@
 -- Why a message that names one wagon alone is refused.
-use Rattle.std.proofs.Common.{◌≡◌, ℕ, Bool, true, false, cond, not, List, [], ◌∷◌, ◌++◌, Option, Some, None, refl, sym, ap, ◌∙◌}
-use Rattle.std.specs.Prelude.{◌&&◌, option_map}
-use Rattle.std.specs.Option.{option_or}
-use Rattle.trip_plan.specs.declared.parts.UnitLoad.{UnitLoad}
-use Rattle.taf_messages.specs.declared.message.Message.{Message}
-use Rattle.taf_messages.specs.declared.message.Body.{Body}
+use Rattle.hub_checks.proofs.Common.{◌≡◌, ℕ, Bool, true, false, cond, not, List, [], ◌∷◌, ◌++◌, Option, Some, None, refl, sym, ap, ◌∙◌, ◌&&◌, option_map, option_or, UnitLoad, Message, Body, Why, UnknownWagon, BeyondCalendar, Event, refusal, fits, is_calendar_checked, Fault, HubState, named_wagons, event_for, event_body_for, units_in, is_unknown, whole_fault, known_fault, calendar_fault, wagon_fault, first_fault, unit_fault, fault, named_alone, alone_named, alone_has}
 use Rattle.taf_messages.specs.declared.message.Body.TheVariants as body
-use Rattle.taf_messages.specs.declared.reply.Why.{Why}
-use Rattle.taf_messages.specs.declared.reply.Why.TheVariants.{UnknownWagon, BeyondCalendar}
-use Rattle.journey.specs.declared.event.Event.{Event}
-use Rattle.journey.specs.Checks.{refusal}
-use Rattle.eti_chain.specs.Estimates.{fits, is_calendar_checked}
-use Rattle.hub_model.specs.declared.fault.Fault.{Fault}
-use Rattle.hub_model.specs.HubState.{HubState, named_wagons, event_for, event_body_for}
-use Rattle.hub_model.specs.Units.{units_in}
-use Rattle.hub_model.specs.Faults.{is_unknown, whole_fault, known_fault, calendar_fault, wagon_fault, first_fault, unit_fault, fault}
-use Rattle.hub_tables.specs.TableStates.{named_alone}
-use Rattle.hub_tables.proofs.AloneLemmas.{alone_named, alone_has}
 use Rattle.hub_checks.proofs.ContinuationLemmas.{either_by}
 
 -- it loads no intermodal unit

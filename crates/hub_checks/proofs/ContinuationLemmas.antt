@@ -1,20 +1,6 @@
 -- A message goes on with the journey of a wagon that it names and that admits it.
-use Rattle.std.proofs.Common.{◌≡◌, ℕ, Bool, true, false, cond, not, List, [], ◌∷◌, ◌++◌, Option, Some, None, refl, ap, ◌∙◌}
-use Rattle.std.specs.Prelude.{◌&&◌}
-use Rattle.std.specs.Option.{option_or}
-use Rattle.trip_plan.specs.Rules.{has}
-use Rattle.taf_messages.specs.declared.message.Message.{Message}
-use Rattle.taf_messages.specs.declared.message.TrainAnswer.{TrainAnswer}
+use Rattle.hub_checks.proofs.Common.{◌≡◌, ℕ, Bool, true, false, cond, not, List, [], ◌∷◌, ◌++◌, Option, Some, None, refl, ap, ◌∙◌, ◌&&◌, option_or, has, Message, TrainAnswer, UnknownWagon, BeyondCalendar, Event, refusal, fits, is_calendar_checked, HubState, named_wagons, event_for, event_body_for, journey_after, is_unknown, whole_fault, known_fault, calendar_fault, OpenIsOffered, goes_on, listed, answer_fits, answered_known}
 use Rattle.taf_messages.specs.declared.message.Body.TheVariants as body
-use Rattle.taf_messages.specs.declared.reply.Why.TheVariants.{UnknownWagon, BeyondCalendar}
-use Rattle.journey.specs.declared.event.Event.{Event}
-use Rattle.journey.specs.Checks.{refusal}
-use Rattle.eti_chain.specs.Estimates.{fits, is_calendar_checked}
-use Rattle.hub_model.specs.HubState.{HubState, named_wagons, event_for, event_body_for, journey_after}
-use Rattle.hub_model.specs.Faults.{is_unknown, whole_fault, known_fault, calendar_fault}
-use Rattle.hub_model.specs.Laws.{OpenIsOffered}
-use Rattle.hub_model.proofs.NoFaultLemmas.{goes_on, listed, answer_fits}
-use Rattle.hub_model.proofs.SoundnessLemmas.{answered_known}
 
 -- the message comes last
 pub comes_last : (s : HubState) (m : Message) (w : ℕ) → has (named_wagons s.offer m) w ≡ true → known_fault s m w ≡ None →

@@ -1,9 +1,5 @@
 -- Units are asked one after another.
-use Rattle.std.proofs.Common.{◌≡◌, ℕ, ◌+◌, ◌<◌, false, List, length, drop, get_or, refl, sym, ap, ◌∙◌, add-one, drop-cons}
-use Rattle.trip_plan.specs.declared.parts.UnitLoad.{UnitLoad}
-use Rattle.hub_model.specs.HubState.{HubState}
-use Rattle.hub_model.specs.Units.{is_unit_busy}
-use Rattle.hub_model.specs.Faults.{unit_fault}
+use Rattle.hub_checks.proofs.Common.{◌≡◌, ℕ, ◌+◌, ◌<◌, false, List, length, drop, get_or, refl, sym, ap, ◌∙◌, add-one, drop-cons, UnitLoad, HubState, is_unit_busy, unit_fault}
 
 -- past a unit that is not busy
 pub past_one : (s : HubState) (units : List UnitLoad) (i : ℕ) (l : UnitLoad) → i < length units → l ≡ get_or units i l → is_unit_busy s l.unit ≡ false →

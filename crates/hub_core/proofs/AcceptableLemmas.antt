@@ -1,35 +1,7 @@
 -- A new message without a fault may be accepted.
-use Rattle.std.proofs.Common.{◌≡◌, ℕ, ◌<◌, Bool, true, false, cond, length, List, [], ◌∷◌, ◌++◌, Option, Some, None, refl, ap, ◌∙◌, sym, subst}
-use Rattle.taf_codes.specs.declared.code.Railway.{Railway}
-use Rattle.trip_plan.specs.Rules.{has}
-use Rattle.taf_messages.specs.declared.call.Call.TheVariants.{Send}
-use Rattle.taf_messages.specs.declared.message.Message.{Message}
-use Rattle.taf_messages.specs.declared.message.TrainAnswer.{TrainAnswer}
-use Rattle.taf_messages.specs.declared.message.Body.{Body}
+use Rattle.hub_core.proofs.Common.{◌≡◌, ℕ, ◌<◌, Bool, true, false, cond, length, List, [], ◌∷◌, ◌++◌, Option, Some, None, refl, ap, ◌∙◌, sym, subst, Railway, has, Send, Message, TrainAnswer, Body, Accepted, Why, UnknownWagon, Event, Answered, Withdrawn, stage, refusal, wagons_of, place_of, fits, OutboxState, Entry, moment_in, HubState, named_wagons, event_body_for, fault, is_unknown, after_acceptance, with_first_send, answer, state_of, IsMoment, EstimatesFit, AlwaysInOrder, OpenIsOffered, one_more_entry, state_of-push, GoesOn, no_known_fault, no_whole_fault, known_allowed, answer_fits, withdraw_fits, listed, continues_journeys, IsAcceptable, Represents, KeepsLimits}
 use Rattle.taf_messages.specs.declared.message.Body.TheVariants as body
 use Rattle.taf_messages.specs.declared.record.Stage.TheVariants.{Offered as OfferedStage}
-use Rattle.taf_messages.specs.declared.reply.Reply.TheVariants.{Accepted}
-use Rattle.taf_messages.specs.declared.reply.Why.{Why}
-use Rattle.taf_messages.specs.declared.reply.Why.TheVariants.{UnknownWagon}
-use Rattle.journey.specs.declared.event.Event.{Event}
-use Rattle.journey.specs.declared.event.EventBody.TheVariants.{Answered, Withdrawn}
-use Rattle.journey.specs.Stages.{stage}
-use Rattle.journey.specs.Checks.{refusal}
-use Rattle.interchange.specs.Offers.{wagons_of, place_of}
-use Rattle.eti_chain.specs.Estimates.{fits}
-use Rattle.outbox.specs.OutboxStates.{OutboxState}
-use Rattle.hub_model.specs.declared.entry.Entry.{Entry}
-use Rattle.taf_messages.specs.Bodies.{moment_in}
-use Rattle.hub_model.specs.HubState.{HubState, named_wagons, event_body_for}
-use Rattle.hub_model.specs.Faults.{fault, is_unknown}
-use Rattle.hub_model.specs.Updates.{after_acceptance, with_first_send}
-use Rattle.hub_model.specs.Histories.{answer, state_of}
-use Rattle.hub_model.specs.Laws.{IsMoment, EstimatesFit, AlwaysInOrder, OpenIsOffered}
-use Rattle.hub_model.proofs.HistoryLemmas.{one_more_entry}
-use Rattle.hub_model.proofs.StepLemmas.{state_of-push}
-use Rattle.hub_model.proofs.NoFaultLemmas.{GoesOn, no_known_fault, no_whole_fault, known_allowed, answer_fits, withdraw_fits, listed}
-use Rattle.hub_tables.specs.TableStates.{continues_journeys, IsAcceptable}
-use Rattle.hub_core.specs.States.{Represents, KeepsLimits}
 use Rattle.hub_core.proofs.HistoryLemmas.{each_more}
 use Rattle.hub_core.proofs.SendLemmas.{new_answer, new_name, after_it}
 

@@ -1,22 +1,6 @@
 -- What an acknowledgement changes.
-use Rattle.std.proofs.Common.{◌≡◌, ℕ, ◌<◌, ◌≤◌, Bool, true, false, cond, length, List, [], ◌∷◌, ◌++◌, Option, Some, None, refl, ap, ◌∙◌, sym, subst, leb, inl, inr}
-use Rattle.std.specs.Prelude.{Result, Ok, Err, IsOk, IfOk, IfErr, OnOk, OnErr, ◌↔◌, max, bytes_eq}
-use Rattle.std.proofs.lemmas.Bool.{le-ltb, lt-ltb, leb-true, leb-false, cases_Bool, false≢true}
-use Rattle.taf_codes.specs.declared.code.Railway.{Railway}
-use Rattle.taf_codes.specs.Equality.{texts}
-use Rattle.taf_messages.specs.declared.call.Call.TheVariants.{Ack}
-use Rattle.taf_messages.specs.declared.reply.Reply.{Reply}
-use Rattle.taf_messages.specs.declared.reply.Reply.TheVariants.{Acknowledged, Refused}
+use Rattle.hub_core.proofs.Common.{◌≡◌, ℕ, ◌<◌, ◌≤◌, Bool, true, false, cond, length, List, [], ◌∷◌, ◌++◌, Option, Some, None, refl, ap, ◌∙◌, sym, subst, leb, inl, inr, Result, Ok, Err, IsOk, IfOk, IfErr, OnOk, OnErr, ◌↔◌, max, bytes_eq, le-ltb, lt-ltb, leb-true, leb-false, cases_Bool, false≢true, Railway, texts, Ack, Reply, Acknowledged, Refused, ItemBody, AckAhead, BoxState, OutboxState, outbox_state_of, last_of, acknowledged_up_to, Keeps, LastCounts, Acknowledges, Entry, HubState, after_call, with_acknowledgement, answer, state_of, Represents, ack_outcome_reply}
 use Rattle.taf_messages.specs.declared.reply.Why.TheVariants.{AckAhead as Ahead}
-use Rattle.taf_messages.specs.declared.item.ItemBody.{ItemBody}
-use Rattle.outbox.specs.declared.fault.AckAhead.{AckAhead}
-use Rattle.outbox.specs.OutboxStates.{BoxState, OutboxState, outbox_state_of, last_of, acknowledged_up_to}
-use Rattle.outbox.specs.Keeping.{Keeps, LastCounts, Acknowledges}
-use Rattle.hub_model.specs.declared.entry.Entry.{Entry}
-use Rattle.hub_model.specs.HubState.{HubState}
-use Rattle.hub_model.specs.Updates.{after_call, with_acknowledgement}
-use Rattle.hub_model.specs.Histories.{answer, state_of}
-use Rattle.hub_core.specs.States.{Represents, ack_outcome_reply}
 use Rattle.hub_core.proofs.HistoryLemmas.{kept_more, kept_entered, leads_on}
 
 -- the box of one railway after it

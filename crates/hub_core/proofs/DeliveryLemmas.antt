@@ -1,13 +1,5 @@
 -- Items on their way.
-use Rattle.std.proofs.Common.{◌≡◌, ℕ, ◌+◌, ◌<◌, ◌≤◌, Bool, true, false, cond, List, [], ◌∷◌, ◌++◌, refl, ap, sym, subst, arith, append_assoc, append-nil}
-use Rattle.std.specs.Prelude.{bytes_eq, filter, map}
-use Rattle.std.proofs.lemmas.List.{length-append}
-use Rattle.taf_codes.specs.declared.code.Railway.{Railway}
-use Rattle.taf_messages.specs.declared.item.ItemBody.{ItemBody}
-use Rattle.outbox.specs.OutboxStates.{BoxState, OutboxState, outbox_state_of, room_for, last_of, with_items}
-use Rattle.hub_model.specs.declared.addressed_item.AddressedItem.{AddressedItem}
-use Rattle.hub_model.specs.Items.{items_to}
-use Rattle.hub_core.specs.Delivery.{AreReady}
+use Rattle.hub_core.proofs.Common.{◌≡◌, ℕ, ◌+◌, ◌<◌, ◌≤◌, Bool, true, false, cond, List, [], ◌∷◌, ◌++◌, refl, ap, sym, subst, arith, append_assoc, append-nil, bytes_eq, filter, map, length-append, Railway, ItemBody, BoxState, OutboxState, outbox_state_of, room_for, last_of, with_items, AddressedItem, items_to, AreReady}
 
 -- boxes that have as much room, with what is kept in them
 pub ready_stays : (old new : List (Railway × BoxState)) (k n : ℕ) (items : List AddressedItem) → ((r : Railway) → outbox_state_of new r ≡ outbox_state_of old r) → ((r : Railway) → room_for old r ≤ room_for new r) →

@@ -1,28 +1,5 @@
 -- What keeps the state, where a history has one more entry.
-use Rattle.std.proofs.Common.{◌≡◌, ℕ, ◌<◌, ◌≤◌, Bool, true, false, cond, length, List, [], ◌∷◌, ◌++◌, Option, Some, None, refl, ap, ◌∙◌, sym, subst, arith}
-use Rattle.std.proofs.lemmas.Option.{slice_get_within}
-use Rattle.std.proofs.lemmas.List.{length-append}
-use Rattle.history_pages.proofs.EntryLemmas.{slice_get-left}
-use Rattle.taf_codes.specs.declared.code.Railway.{Railway}
-use Rattle.taf_messages.specs.declared.call.Call.{Call}
-use Rattle.taf_messages.specs.declared.call.Call.TheVariants.{Send, Ask, AskUnit, Deviation, Fetch, Ack}
-use Rattle.taf_messages.specs.declared.message.Message.{Message}
-use Rattle.taf_messages.specs.declared.reply.Reply.{Reply}
-use Rattle.taf_messages.specs.declared.reply.Reply.TheVariants.{Items}
-use Rattle.outbox.specs.OutboxStates.{OutboxState, first_items}
-use Rattle.outbox.proofs.NumberLemmas.{first_items-kept}
-use Rattle.outbox.specs.Keeping.{Keeps}
-use Rattle.hub_model.specs.declared.entry.Entry.{Entry}
-use Rattle.taf_messages.specs.Bodies.{moment_in}
-use Rattle.hub_model.specs.HubState.{HubState, FirstSend}
-use Rattle.hub_model.specs.Updates.{after}
-use Rattle.hub_model.specs.Histories.{answer, state_of}
-use Rattle.hub_model.specs.Laws.{EachSend, IsSend, IsMoment}
-use Rattle.hub_model.specs.Bounds.{IsWithinLimits}
-use Rattle.hub_model.proofs.HistoryLemmas.{one_more_entry}
-use Rattle.hub_model.proofs.StepLemmas.{state_of-push}
-use Rattle.hub_tables.specs.TableStates.{table_part}
-use Rattle.hub_core.specs.States.{Represents, KeepsLimits, LeadsTo, OffersWereSent, entry_of}
+use Rattle.hub_core.proofs.Common.{◌≡◌, ℕ, ◌<◌, ◌≤◌, Bool, true, false, cond, length, List, [], ◌∷◌, ◌++◌, Option, Some, None, refl, ap, ◌∙◌, sym, subst, arith, slice_get_within, length-append, slice_get-left, Railway, Call, Send, Ask, AskUnit, Deviation, Fetch, Ack, Message, Reply, Items, OutboxState, first_items, first_items-kept, Keeps, Entry, moment_in, HubState, FirstSend, after, answer, state_of, EachSend, IsSend, IsMoment, IsWithinLimits, one_more_entry, state_of-push, table_part, Represents, KeepsLimits, LeadsTo, OffersWereSent, entry_of}
 
 -- a first send is still found once there are more entries
 pub leads_on : (history : List Entry) (e : Entry) (o : Option ℕ) (t : Option FirstSend) → LeadsTo history o t → LeadsTo (history ++ e ∷ []) o t

@@ -1,29 +1,7 @@
 -- What a new message changes.
-use Rattle.std.proofs.Common.{◌≡◌, ℕ, ◌<◌, Bool, true, false, ◌≤◌, ◌^◌, cond, length, List, [], ◌∷◌, ◌++◌, Option, Some, None, refl, ap, ◌∙◌, sym, subst, arith}
-use Rattle.std.specs.Prelude.{is_some}
-use Rattle.std.specs.Option.{option_or}
-use Rattle.taf_codes.specs.declared.code.Railway.{Railway}
-use Rattle.taf_messages.specs.declared.call.Call.TheVariants.{Send}
-use Rattle.taf_messages.specs.declared.reply.Reply.{Reply}
-use Rattle.taf_messages.specs.declared.reply.Reply.TheVariants.{Accepted}
-use Rattle.taf_messages.specs.declared.message.Message.{Message}
-use Rattle.taf_messages.specs.declared.message.Body.{Body}
+use Rattle.hub_core.proofs.Common.{◌≡◌, ℕ, ◌<◌, Bool, true, false, ◌≤◌, ◌^◌, cond, length, List, [], ◌∷◌, ◌++◌, Option, Some, None, refl, ap, ◌∙◌, sym, subst, arith, is_some, option_or, Railway, Send, Reply, Accepted, Message, Body, OutboxState, with_items, Keeps, PushesLast, same_name, Entry, Fault, HubState, FirstSend, fault, ItemsAreFew, items_of, items_to, verdict, send_reply, after, after_call, after_new, after_acceptance, with_first_send, offer_given, answer, state_of, table_part, Represents, KeepsLimits, LeadsTo}
 use Rattle.taf_messages.specs.declared.message.Body.TheVariants as body
 use Rattle.interchange.specs.declared.offer.Offer.{Offer as AcceptedOffer}
-use Rattle.outbox.specs.OutboxStates.{OutboxState, with_items}
-use Rattle.outbox.specs.Keeping.{Keeps, PushesLast}
-use Rattle.replay_numbers.specs.Names.{same_name}
-use Rattle.hub_model.specs.declared.entry.Entry.{Entry}
-use Rattle.hub_model.specs.declared.fault.Fault.{Fault}
-use Rattle.hub_model.specs.HubState.{HubState, FirstSend}
-use Rattle.hub_model.specs.Faults.{fault}
-use Rattle.hub_model.specs.Bounds.{ItemsAreFew}
-use Rattle.hub_model.specs.Items.{items_of, items_to}
-use Rattle.hub_model.specs.Replies.{verdict, send_reply}
-use Rattle.hub_model.specs.Updates.{after, after_call, after_new, after_acceptance, with_first_send, offer_given}
-use Rattle.hub_model.specs.Histories.{answer, state_of}
-use Rattle.hub_tables.specs.TableStates.{table_part}
-use Rattle.hub_core.specs.States.{Represents, KeepsLimits, LeadsTo}
 use Rattle.hub_core.proofs.HistoryLemmas.{kept_more, leads_noted}
 
 -- without a position there is no first send

@@ -1,17 +1,6 @@
 -- An acceptable message goes on with the journeys of its wagons.
-use Rattle.std.proofs.Common.{◌≡◌, ℕ, Bool, true, List, [], ◌∷◌, ◌++◌, Option, None, refl, ap, ◌∙◌, sym}
-use Rattle.std.specs.Prelude.{◌||◌, filter_map, option_map}
-use Rattle.std.specs.List.{cons_option}
-use Rattle.std.proofs.lemmas.Bool.{or_right}
+use Rattle.hub_items.proofs.Common.{◌≡◌, ℕ, Bool, true, List, [], ◌∷◌, ◌++◌, Option, None, refl, ap, ◌∙◌, sym, ◌||◌, filter_map, option_map, cons_option, or_right, has, Message, Event, HubState, named_wagons, event_for, journey_after, known_fault, goes_on, lead_of, plan-kept}
 use Rattle.hub_items.proofs.UnchangedEstimateLemmas.{same_number}
-use Rattle.trip_plan.specs.Rules.{has}
-use Rattle.taf_messages.specs.declared.message.Message.{Message}
-use Rattle.journey.specs.declared.event.Event.{Event}
-use Rattle.hub_model.specs.HubState.{HubState, named_wagons, event_for, journey_after}
-use Rattle.hub_model.specs.Faults.{known_fault}
-use Rattle.hub_model.proofs.NoFaultLemmas.{goes_on}
-use Rattle.journey.specs.Legs.{lead_of}
-use Rattle.journey.proofs.SoundStateLemmas.{plan-kept}
 use Rattle.hub_tables.specs.TableStates as tables
 
 -- the message comes last

@@ -1,15 +1,5 @@
 -- The items of an alert that begins or ends.
-use Rattle.std.proofs.Common.{◌≡◌, ℕ, Bool, true, false, cond, List, [], ◌∷◌, ◌++◌, Option, Some, None, refl, ap, ◌∙◌, sym, append_assoc, append-nil}
-use Rattle.std.specs.Prelude.{map, flat_map, option_to_list, not, bytes_eq}
-use Rattle.std.specs.Option.{option_eq}
-use Rattle.std.proofs.lemmas.Bool.{false≢true}
-use Rattle.std.proofs.lemmas.List.{map-append}
-use Rattle.taf_codes.specs.declared.code.Railway.{Railway}
-use Rattle.taf_messages.specs.declared.item.ItemBody.{ItemBody}
-use Rattle.journey.specs.declared.event.Event.{Event}
-use Rattle.journey.specs.Legs.{lead_of}
-use Rattle.hub_model.specs.declared.addressed_item.AddressedItem.{AddressedItem}
-use Rattle.hub_model.specs.Items.{each_once, alert, alert_receivers, alert_items}
+use Rattle.hub_items.proofs.Common.{◌≡◌, ℕ, Bool, true, false, cond, List, [], ◌∷◌, ◌++◌, Option, Some, None, refl, ap, ◌∙◌, sym, append_assoc, append-nil, map, flat_map, option_to_list, not, bytes_eq, option_eq, false≢true, map-append, Railway, ItemBody, Event, lead_of, AddressedItem, each_once, alert, alert_receivers, alert_items}
 
 -- the same item to each railway
 abbrev to_each : List Railway → ItemBody → List AddressedItem

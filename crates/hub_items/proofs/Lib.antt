@@ -1,3 +1,4 @@
+pub mod Common
 pub mod PrefixLemmas
 pub mod PlanLemmas
 pub mod UnchangedEstimateLemmas

@@ -1,15 +1,6 @@
 -- What is told are the notices, the estimates that are news and the alerts.
-use Rattle.std.proofs.Common.{◌≡◌, ℕ, List, [], ◌∷◌, ◌++◌, Option, Some, None, refl, sym, ap, ◌∙◌, append_assoc, append-nil}
-use Rattle.std.specs.Prelude.{map, flat_map, option_to_list}
-use Rattle.taf_codes.specs.declared.code.Railway.{Railway}
-use Rattle.taf_messages.specs.declared.message.Message.{Message}
+use Rattle.hub_items.proofs.Common.{◌≡◌, ℕ, List, [], ◌∷◌, ◌++◌, Option, Some, None, refl, sym, ap, ◌∙◌, append_assoc, append-nil, map, flat_map, option_to_list, Railway, Message, Event, AddressedItem, HubState, named_wagons, journey_after, each_once, notice_receivers, sub_items, notices, estimate_items, alert_items, NextEvent, after, all_items}
 use Rattle.taf_messages.specs.declared.item.ItemBody.TheVariants as item
-use Rattle.journey.specs.declared.event.Event.{Event}
-use Rattle.hub_model.specs.declared.addressed_item.AddressedItem.{AddressedItem}
-use Rattle.hub_model.specs.HubState.{HubState, named_wagons, journey_after}
-use Rattle.hub_model.specs.Items.{each_once, notice_receivers, sub_items, notices, estimate_items, alert_items}
-use Rattle.journey.specs.Journey.{NextEvent, after}
-use Rattle.hub_items.specs.MessageItems.{all_items}
 
 -- of a wagon
 abbrev estimates_at : HubState → Message → ℕ → List AddressedItem

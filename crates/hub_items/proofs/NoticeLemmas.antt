@@ -1,12 +1,6 @@
 -- The notices of a message, and the sub notice.
-use Rattle.std.proofs.Common.{◌≡◌, List, ◌++◌, ap, ◌∙◌, append_assoc}
-use Rattle.std.specs.Prelude.{map}
-use Rattle.taf_codes.specs.declared.code.Railway.{Railway}
-use Rattle.taf_messages.specs.declared.message.Message.{Message}
+use Rattle.hub_items.proofs.Common.{◌≡◌, List, ◌++◌, ap, ◌∙◌, append_assoc, map, Railway, Message, AddressedItem, HubState, journey_after, each_once, notice_receivers, sub_items, notices}
 use Rattle.taf_messages.specs.declared.item.ItemBody.TheVariants as item
-use Rattle.hub_model.specs.declared.addressed_item.AddressedItem.{AddressedItem}
-use Rattle.hub_model.specs.HubState.{HubState, journey_after}
-use Rattle.hub_model.specs.Items.{each_once, notice_receivers, sub_items, notices}
 
 -- the message for each of the railways
 abbrev to_each : List Railway → Message → List AddressedItem

@@ -1,21 +1,6 @@
 -- A wagon that was only planned has no estimate.
-use Rattle.std.proofs.Common.{◌≡◌, ℕ, true, List, [], ◌∷◌, length, Option, None, refl, ap, ◌∙◌}
-use Rattle.std.specs.Prelude.{filter, flat_map, filter_map, option_map}
-use Rattle.std.specs.List.{range_with_len}
-use Rattle.trip_plan.specs.Trip.{Trip}
-use Rattle.trip_plan.specs.Rules.{has}
-use Rattle.taf_codes.specs.declared.code.Railway.{Railway}
-use Rattle.taf_messages.specs.declared.message.Message.{Message}
+use Rattle.hub_items.proofs.Common.{◌≡◌, ℕ, true, List, [], ◌∷◌, length, Option, None, refl, ap, ◌∙◌, filter, flat_map, filter_map, option_map, range_with_len, Trip, has, Railway, Message, Event, Planned, leg_index, legs, estimate, estimates, no_end, HubState, named_wagons, journey_after, estimate_items, is_news, estimate_item, planned_anew}
 use Rattle.taf_messages.specs.declared.message.Body.TheVariants as body
-use Rattle.journey.specs.declared.event.Event.{Event}
-use Rattle.journey.specs.declared.event.EventBody.TheVariants.{Planned}
-use Rattle.journey.specs.Stages.{leg_index}
-use Rattle.journey.specs.Legs.{legs}
-use Rattle.eti_chain.specs.Estimates.{estimate, estimates}
-use Rattle.eti_chain.proofs.CalendarLemmas.{no_end}
-use Rattle.hub_model.specs.HubState.{HubState, named_wagons, journey_after}
-use Rattle.hub_model.specs.Items.{estimate_items, is_news, estimate_item}
-use Rattle.hub_model.proofs.NoFaultLemmas.{planned_anew}
 
 none_taken : {A B : Type 0} (f : A → Option B) → ((x : A) → f x ≡ None) → (xs : List A) → filter_map f xs ≡ []
 none_taken f none [] = refl

@@ -1,14 +1,5 @@
 -- Lists that a loop makes, item by item.
-use Rattle.std.proofs.Common.{◌≡◌, ℕ, zero, suc, ◌+◌, ◌<◌, Bool, true, false, cond, not, List, [], ◌∷◌, ◌++◌, length, take, get_or, Option, Some, None, refl, ap, ◌∙◌, sym, append_assoc, append-nil, arith}
-use Rattle.std.specs.Prelude.{◌||◌, map, filter, flat_map, filter_map, bytes_eq, option_to_list}
-use Rattle.std.specs.List.{list_any, range_with_len}
-use Rattle.std.proofs.lemmas.List.{map-append, take_more}
-use Rattle.std.proofs.lemmas.List.Elements.{filter-append, filter_map-append}
-use Rattle.std.proofs.lemmas.Grind.{flat_map-append}
-use Rattle.std.proofs.lemmas.Slice.Eq.{bytes_eq-Decides}
-use Rattle.taf_codes.specs.declared.code.Railway.{Railway}
-use Rattle.hub_model.specs.Items.{each_once}
-use Rattle.eti_chain.proofs.CalendarLemmas.{same_test}
+use Rattle.hub_items.proofs.Common.{◌≡◌, ℕ, zero, suc, ◌+◌, ◌<◌, Bool, true, false, cond, not, List, [], ◌∷◌, ◌++◌, length, take, get_or, Option, Some, None, refl, ap, ◌∙◌, sym, append_assoc, append-nil, arith, ◌||◌, map, filter, flat_map, filter_map, bytes_eq, option_to_list, list_any, range_with_len, map-append, take_more, filter-append, filter_map-append, flat_map-append, bytes_eq-Decides, Railway, each_once, same_test}
 
 -- what a function of lists gives of one item more comes at the end
 pub record Grows {A B : Type 0} (g : List A → List B) (h : A → List B) : Type 0 where

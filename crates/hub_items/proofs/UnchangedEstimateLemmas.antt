@@ -1,30 +1,6 @@
 -- An event that keeps the estimates has nothing told of them.
-use Rattle.std.proofs.Common.{◌≡◌, ℕ, ◌+◌, Bool, true, false, cond, zero, suc, List, [], ◌∷◌, ◌++◌, length, Option, Some, None, refl, ap, ◌∙◌, sym}
-use Rattle.std.specs.Prelude.{filter, filter_map, flat_map, not, ◌||◌, nat_eq, slice_get, option_map, option_to_list, is_some, map}
-use Rattle.std.specs.Option.{option_eq, option_and_then, option_or}
-use Rattle.std.specs.List.{range_with_len, cons_option}
-use Rattle.std.proofs.lemmas.Bool.{false≢true}
-use Rattle.std.proofs.Math.Dec.{eqb-suc-suc}
-use Rattle.std.proofs.lemmas.Slice.Eq.{bytes_eq-Decides}
-use Rattle.taf_codes.specs.Words.{same_text}
-use Rattle.taf_codes.specs.declared.code.Railway.{Railway}
-use Rattle.trip_plan.specs.declared.parts.Leg.{Leg}
-use Rattle.trip_plan.specs.Trip.{Trip}
-use Rattle.taf_messages.specs.declared.item.ItemBody.{ItemBody}
+use Rattle.hub_items.proofs.Common.{◌≡◌, ℕ, ◌+◌, Bool, true, false, cond, zero, suc, List, [], ◌∷◌, ◌++◌, length, Option, Some, None, refl, ap, ◌∙◌, sym, filter, filter_map, flat_map, not, ◌||◌, nat_eq, slice_get, option_map, option_to_list, is_some, map, option_eq, option_and_then, option_or, range_with_len, cons_option, false≢true, eqb-suc-suc, bytes_eq-Decides, same_text, Railway, Leg, Trip, ItemBody, MovementKind, Release, YardArrival, YardDeparture, Estimate, EstimateAt, Event, EventBody, Moved, EstimateAsked, Offered, Withdrawn, plan, plan_in, legs, runner_of, lead_of, plan-push, EstimateBasis, estimate_basis, end_in, eta_in, estimate, eta, commitment, late_by, lateness, is_late, IsSilent, basis-silent, silent_yard_arrival, silent_yard_departure, silent_offered, silent_withdrawn, silent_asked, is_news, estimate_item, estimate_items, alert_receivers, alert_items, movement_receivers, keeps_estimates}
 use Rattle.taf_messages.specs.declared.item.ItemBody.TheVariants as item
-use Rattle.taf_messages.specs.declared.movement.MovementKind.{MovementKind}
-use Rattle.taf_messages.specs.declared.movement.MovementKind.TheVariants.{Release, YardArrival, YardDeparture, Estimate}
-use Rattle.taf_messages.specs.declared.record.EstimateAt.{EstimateAt}
-use Rattle.journey.specs.declared.event.Event.{Event}
-use Rattle.journey.specs.declared.event.EventBody.{EventBody}
-use Rattle.journey.specs.declared.event.EventBody.TheVariants.{Moved, EstimateAsked, Offered, Withdrawn}
-use Rattle.journey.specs.Stages.{plan, plan_in}
-use Rattle.journey.specs.Legs.{legs, runner_of, lead_of}
-use Rattle.journey.proofs.LegPositionLemmas.{plan-push}
-use Rattle.eti_chain.specs.Estimates.{EstimateBasis, estimate_basis, end_in, eta_in, estimate, eta, commitment, late_by, lateness, is_late}
-use Rattle.eti_chain.proofs.EstimateLemmas.{IsSilent, basis-silent, silent_yard_arrival, silent_yard_departure, silent_offered, silent_withdrawn, silent_asked}
-use Rattle.hub_model.specs.Items.{is_news, estimate_item, estimate_items, alert_receivers, alert_items, movement_receivers}
-use Rattle.hub_items.specs.Transitions.{keeps_estimates}
 
 -- an event that is silent, and no plan
 pub record IsStill (body : EventBody) : Type 0 where

@@ -1,20 +1,6 @@
 -- What a railway acknowledged is in its outbox.
 use native.Mathlib.Omega.{arith}
-use Rattle.std.proofs.Common.{◌≡◌, ℕ, ◌≤◌, Bool, true, false, cond, List, [], ◌∷◌, length, Some, None, refl, sym, subst}
-use Rattle.std.specs.Prelude.{map, max, nat_lt, bytes_eq}
-use Rattle.std.specs.List.{fold}
-use Rattle.std.proofs.lemmas.Bool.{ltb-false}
-use Rattle.std.proofs.lemmas.List.{length-append}
-use Rattle.std.proofs.lemmas.Slice.Eq.{bytes_eq-Decides}
-use Rattle.taf_codes.specs.declared.code.Railway.{Railway}
-use Rattle.taf_messages.specs.declared.call.Call.{Call}
-use Rattle.taf_messages.specs.declared.call.Call.TheVariants.{Send, Ask, AskUnit, Deviation, Fetch, Ack}
-use Rattle.taf_messages.specs.declared.reply.Reply.TheVariants.{Refused, Acknowledged}
-use Rattle.taf_messages.specs.declared.reply.Why.TheVariants.{AckAhead}
-use Rattle.hub_model.specs.HubState.{HubState, new_state}
-use Rattle.hub_model.specs.Updates.{after_call}
-use Rattle.hub_model.specs.Histories.{step}
-use Rattle.hub_model.specs.Bounds.{AcknowledgedAreThere}
+use Rattle.hub_model.proofs.Common.{◌≡◌, ℕ, ◌≤◌, Bool, true, false, cond, List, [], ◌∷◌, length, Some, None, refl, sym, subst, map, max, nat_lt, bytes_eq, fold, ltb-false, length-append, bytes_eq-Decides, Railway, Call, Send, Ask, AskUnit, Deviation, Fetch, Ack, Refused, Acknowledged, AckAhead, HubState, new_state, after_call, step, AcknowledgedAreThere}
 use Rattle.hub_model.proofs.HistoryLemmas.{known_by_the_calls}
 use Rattle.hub_model.proofs.StepLemmas.{added, step-outbox, step-acknowledged}
 

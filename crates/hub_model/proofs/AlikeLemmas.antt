@@ -1,24 +1,5 @@
 -- Alike lists stay alike.
-use Rattle.std.proofs.Common.{◌≡◌, ℕ, false, cond, not, List, [], ◌∷◌, ◌++◌, Option, Some, None, refl, ap, ◌∙◌, sym, subst}
-use Rattle.std.specs.Prelude.{bytes_eq, IsPermutation}
-use Rattle.std.specs.Option.{option_map_or, option_and_then}
-use Rattle.std.specs.List.{fold}
-use Rattle.std.proofs.lemmas.List.Sums.{fold-append}
-use Rattle.std.proofs.lemmas.List.Sorted.{IsPermutation-refl, IsPermutation-append, length_permutation}
-use Rattle.taf_codes.specs.declared.code.Railway.{Railway}
-use Rattle.taf_codes.specs.declared.code.UnitCode.{UnitCode}
-use Rattle.taf_messages.specs.declared.message.Message.{Message}
-use Rattle.taf_messages.specs.declared.call.Call.{Call}
-use Rattle.taf_messages.specs.declared.call.Call.TheVariants.{Send, Ask, AskUnit, Deviation, Fetch, Ack}
-use Rattle.taf_messages.specs.declared.reply.Reply.{Reply}
-use Rattle.taf_messages.specs.declared.reply.Reply.TheVariants.{Accepted, Refused, One, Many, Items, Acknowledged}
-use Rattle.journey.specs.Stages.{is_delivered}
-use Rattle.hub_model.specs.HubState.{HubState, new_state}
-use Rattle.hub_model.specs.Units.{unit_wagon, is_unit_busy, wagon_by, loaded_on}
-use Rattle.hub_model.specs.Replies.{reply_to, unit_reply}
-use Rattle.hub_model.specs.Updates.{after_call}
-use Rattle.hub_model.specs.Histories.{step, state_after}
-use Rattle.hub_model.specs.Overtaking.{AreAlike, IsFetch, StayAlike, StayAlikeThrough}
+use Rattle.hub_model.proofs.Common.{◌≡◌, ℕ, false, cond, not, List, [], ◌∷◌, ◌++◌, Option, Some, None, refl, ap, ◌∙◌, sym, subst, bytes_eq, IsPermutation, option_map_or, option_and_then, fold, fold-append, IsPermutation-refl, IsPermutation-append, length_permutation, Railway, UnitCode, Message, Call, Send, Ask, AskUnit, Deviation, Fetch, Ack, Reply, Accepted, Refused, One, Many, Items, Acknowledged, is_delivered, HubState, new_state, unit_wagon, is_unit_busy, wagon_by, loaded_on, reply_to, unit_reply, after_call, step, state_after, AreAlike, IsFetch, StayAlike, StayAlikeThrough}
 use Rattle.hub_model.proofs.DependencyLemmas.{AreSameAt}
 use Rattle.hub_model.proofs.StepLemmas.{added, step-outbox, step-acknowledged, state_after-push}
 use Rattle.hub_model.proofs.FrameLemmas.{reply-same, journey-same, plan_of-same, unit_plan-same, offer-same, is_open-same, first_send-same, added-same}

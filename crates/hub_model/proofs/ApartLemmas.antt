@@ -1,22 +1,6 @@
 -- Messages that are apart share no name.
-use Rattle.std.proofs.Common.{◌≡◌, ℕ, Bool, true, false, not, List, [], ◌∷◌, Option, Some, None, refl, ap, sym, subst, eqb, inl, inr}
-use Rattle.std.specs.Prelude.{bytes_eq}
-use Rattle.std.specs.Option.{option_map_or}
-use Rattle.std.specs.List.{list_any}
-use Rattle.std.proofs.lemmas.Bool.{and_parts, and_from, or_cases, or_left, or_right, eqb-true, eq-eqb, false≢true}
-use Rattle.std.proofs.lemmas.Slice.Eq.{bytes_eq-Decides}
-use Rattle.taf_codes.specs.declared.code.Railway.{Railway}
-use Rattle.taf_codes.specs.declared.code.UnitCode.{UnitCode}
-use Rattle.trip_plan.specs.declared.parts.UnitLoad.{UnitLoad}
-use Rattle.trip_plan.specs.Rules.{has, loads}
-use Rattle.taf_messages.specs.declared.message.Message.{Message}
-use Rattle.taf_messages.specs.declared.message.Body.{Body}
+use Rattle.hub_model.proofs.Common.{◌≡◌, ℕ, Bool, true, false, not, List, [], ◌∷◌, Option, Some, None, refl, ap, sym, subst, eqb, inl, inr, bytes_eq, option_map_or, list_any, and_parts, and_from, or_cases, or_left, or_right, eqb-true, eq-eqb, false≢true, bytes_eq-Decides, Railway, UnitCode, UnitLoad, has, loads, Message, Body, wagons_of, same_name, HubState, named_wagons, unit_wagon, units_in, affected_wagons, consignment_in, offer_named, affects_unit, both_same, have_common_wagon, loads_affected, same_offer_name, is_apart, AreApart, ApartIsExact}
 use Rattle.taf_messages.specs.declared.message.Body.TheVariants as body
-use Rattle.interchange.specs.Offers.{wagons_of}
-use Rattle.replay_numbers.specs.Names.{same_name}
-use Rattle.hub_model.specs.HubState.{HubState, named_wagons}
-use Rattle.hub_model.specs.Units.{unit_wagon, units_in}
-use Rattle.hub_model.specs.Overtaking.{affected_wagons, consignment_in, offer_named, affects_unit, both_same, have_common_wagon, loads_affected, same_offer_name, is_apart, AreApart, ApartIsExact}
 use Rattle.hub_model.proofs.NamedWagonLemmas.{same_name_true, from_same_name}
 use Rattle.hub_model.proofs.DependencyLemmas.{has-left}
 

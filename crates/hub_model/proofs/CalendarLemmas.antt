@@ -1,24 +1,6 @@
 -- Whatever messages are accepted, every wagon's estimates stay within the calendar.
-use Rattle.std.proofs.Common.{◌≡◌, ℕ, Bool, true, false, cond, not, List, [], ◌∷◌, ◌++◌, Option, Some, None, refl, ap, ◌∙◌, sym}
-use Rattle.std.specs.Prelude.{◌&&◌}
-use Rattle.std.proofs.lemmas.Bool.{false≢true, cond_both}
-use Rattle.taf_codes.specs.declared.code.Railway.{Railway}
-use Rattle.trip_plan.specs.Trip.{Trip}
-use Rattle.trip_plan.specs.Rules.{has}
-use Rattle.taf_messages.specs.declared.reply.Why.TheVariants.{BeyondCalendar}
-use Rattle.taf_messages.specs.declared.message.Body.{Body}
+use Rattle.hub_model.proofs.Common.{◌≡◌, ℕ, Bool, true, false, cond, not, List, [], ◌∷◌, ◌++◌, Option, Some, None, refl, ap, ◌∙◌, sym, ◌&&◌, false≢true, cond_both, Railway, Trip, has, BeyondCalendar, Body, Event, Planned, fits, is_calendar_checked, legs, leg_index, fits-no_anchor, IsFit, HasMoment, IsDated, fit_said, moment_in, HubState, new_state, named_wagons, event_for, event_body_for, with_event, journey_after, fault, calendar_fault, IsMoment, EstimatesFit}
 use Rattle.taf_messages.specs.declared.message.Body.TheVariants as body
-use Rattle.journey.specs.declared.event.Event.{Event}
-use Rattle.journey.specs.declared.event.EventBody.TheVariants.{Planned}
-use Rattle.eti_chain.specs.Estimates.{fits, is_calendar_checked}
-use Rattle.journey.specs.Legs.{legs}
-use Rattle.journey.specs.Stages.{leg_index}
-use Rattle.eti_chain.proofs.CalendarLemmas.{fits-no_anchor}
-use Rattle.eti_chain.proofs.LegEndLemmas.{IsFit, HasMoment, IsDated, fit_said}
-use Rattle.taf_messages.specs.Bodies.{moment_in}
-use Rattle.hub_model.specs.HubState.{HubState, new_state, named_wagons, event_for, event_body_for, with_event, journey_after}
-use Rattle.hub_model.specs.Faults.{fault, calendar_fault}
-use Rattle.hub_model.specs.Laws.{IsMoment, EstimatesFit}
 use Rattle.hub_model.proofs.NoFaultLemmas.{or_none_right, no_named_fault, goes_on, known_allowed, planned_anew, msg}
 use Rattle.hub_model.proofs.SoundnessLemmas.{IsSound, NoPlan, all_known, sound_accepted, sound_nothing}
 use Rattle.hub_model.proofs.JourneyLengthLemmas.{IsTrackState, kept_from}

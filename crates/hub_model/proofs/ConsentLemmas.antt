@@ -1,31 +1,6 @@
 -- Responsibility for a wagon passes by messages of the railways that give and take it.
-use Rattle.std.proofs.Common.{◌≡◌, ◌⊎◌, ℕ, Bool, true, false, cond, List, [], ◌∷◌, ◌++◌, Some, None, refl, ap, ◌∙◌, sym, subst, inl, inr, eqb}
-use Rattle.std.specs.Prelude.{◌||◌, is_none}
-use Rattle.std.specs.Option.{option_and_then}
-use Rattle.std.specs.List.{fold}
-use Rattle.std.proofs.lemmas.Bool.{false≢true, not-false, cases_Bool, cond_both, and_parts, and_from}
-use Rattle.std.proofs.lemmas.Option.{none-some, same_Some}
-use Rattle.taf_codes.specs.declared.code.Railway.{Railway}
-use Rattle.trip_plan.specs.Rules.{has}
-use Rattle.taf_messages.specs.declared.call.Call.{Call}
-use Rattle.taf_messages.specs.declared.call.Call.TheVariants.{Send, Ask, AskUnit, Deviation, Fetch, Ack}
-use Rattle.taf_messages.specs.declared.reply.Why.TheVariants.{WagonBusy}
-use Rattle.taf_messages.specs.declared.message.Message.{Message}
-use Rattle.taf_messages.specs.declared.message.TrainAnswer.{TrainAnswer}
-use Rattle.taf_messages.specs.declared.message.Body.{Body}
+use Rattle.hub_model.proofs.Common.{◌≡◌, ◌⊎◌, ℕ, Bool, true, false, cond, List, [], ◌∷◌, ◌++◌, Some, None, refl, ap, ◌∙◌, sym, subst, inl, inr, eqb, ◌||◌, is_none, option_and_then, fold, false≢true, not-false, cases_Bool, cond_both, and_parts, and_from, none-some, same_Some, Railway, has, Call, Send, Ask, AskUnit, Deviation, Fetch, Ack, WagonBusy, Message, TrainAnswer, Body, Event, is_delivered, is_delivery, is_plan, is_reception, new_responsible, responsible, passed, asked_by, wagons_of, moment_in, HubState, Offers, new_state, named_wagons, wagons_in, event_for, event_body_for, with_event, journey_after, fault, whole_checks, whole_fault, wagon_fault, known_fault, is_busy, reply_to, answer, step, state_of, state_after, accepts, receiver_in, IsAcceptedSend, delivers, ReceivesFrom, IsByConsent, CallsByConsent, EntriesByConsent}
 use Rattle.taf_messages.specs.declared.message.Body.TheVariants as body
-use Rattle.journey.specs.declared.event.Event.{Event}
-use Rattle.journey.specs.Stages.{is_delivered, is_delivery, is_plan, is_reception, new_responsible, responsible}
-use Rattle.journey.proofs.SoundStateLemmas.{passed}
-use Rattle.interchange.specs.Offers.{asked_by, wagons_of}
-use Rattle.taf_messages.specs.Bodies.{moment_in}
-use Rattle.hub_model.specs.HubState.{HubState, Offers, new_state, named_wagons, wagons_in, event_for, event_body_for, with_event, journey_after}
-use Rattle.hub_model.specs.Faults.{fault, whole_checks, whole_fault, wagon_fault, known_fault, is_busy}
-use Rattle.hub_model.specs.Replies.{reply_to}
-use Rattle.hub_model.specs.Histories.{answer, step, state_of, state_after}
-use Rattle.hub_model.specs.AcceptedMessages.{accepts}
-use Rattle.hub_model.specs.Responsibility.{receiver_in}
-use Rattle.hub_model.specs.Consent.{IsAcceptedSend, delivers, ReceivesFrom, IsByConsent, CallsByConsent, EntriesByConsent}
 use Rattle.hub_model.proofs.NoFaultLemmas.{msg, no_whole_fault, no_named_fault, goes_on, known_allowed, planned_anew, listed, answer_fits}
 use Rattle.hub_model.proofs.SoundnessLemmas.{IsSound, NoPlan, all_known, sound_accepted, sound_nothing}
 use Rattle.hub_model.proofs.JourneyLengthLemmas.{IsTrackState, kept_from, kept_after, each_any, is_any}

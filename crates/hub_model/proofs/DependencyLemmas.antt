@@ -1,30 +1,7 @@
 -- What a message reads: the look-ups at the names that it counts with, and nothing else.
-use Rattle.std.proofs.Common.{◌≡◌, ℕ, true, cond, not, List, [], ◌∷◌, ◌++◌, Option, Some, None, refl, ap, ◌∙◌, eqb}
-use Rattle.std.specs.Prelude.{◌&&◌, map, flat_map, filter_map}
-use Rattle.std.specs.Option.{option_or}
-use Rattle.std.proofs.lemmas.Bool.{or_left, or_right, eq-eqb}
-use Rattle.std.proofs.lemmas.List.Folds.{list_any-append}
-use Rattle.std.proofs.lemmas.Slice.Eq.{bytes_eq-Decides}
-use Rattle.taf_codes.specs.declared.code.Railway.{Railway}
-use Rattle.taf_codes.specs.declared.code.UnitCode.{UnitCode}
-use Rattle.taf_codes.specs.declared.name.ConsignmentId.{ConsignmentId}
-use Rattle.trip_plan.specs.declared.parts.UnitLoad.{UnitLoad}
-use Rattle.trip_plan.specs.Rules.{has, loads}
-use Rattle.taf_messages.specs.declared.reply.Why.TheVariants.{BeyondCalendar}
+use Rattle.hub_model.proofs.Common.{◌≡◌, ℕ, true, cond, not, List, [], ◌∷◌, ◌++◌, Option, Some, None, refl, ap, ◌∙◌, eqb, ◌&&◌, map, flat_map, filter_map, option_or, or_left, or_right, eq-eqb, list_any-append, bytes_eq-Decides, Railway, UnitCode, ConsignmentId, UnitLoad, has, loads, BeyondCalendar, Message, Body, Event, lead_of, wagons_of, fits, is_calendar_checked, HubState, named_wagons, wagons_in, event_body_for, journey_after, is_unit_busy, units_in, fault, whole_fault, first_fault, unit_fault, wagon_fault, known_fault, calendar_fault, AddressedItem, notice_receivers, movement_receivers, route_receivers, notices, sub_items, estimate_items, alert_items, items_of, each_once, affected_wagons, consignment_in, offer_named}
 use Rattle.taf_messages.specs.declared.item.ItemBody.TheVariants as item
-use Rattle.taf_messages.specs.declared.message.Message.{Message}
-use Rattle.taf_messages.specs.declared.message.Body.{Body}
 use Rattle.taf_messages.specs.declared.message.Body.TheVariants as body
-use Rattle.journey.specs.declared.event.Event.{Event}
-use Rattle.journey.specs.Legs.{lead_of}
-use Rattle.interchange.specs.Offers.{wagons_of}
-use Rattle.eti_chain.specs.Estimates.{fits, is_calendar_checked}
-use Rattle.hub_model.specs.HubState.{HubState, named_wagons, wagons_in, event_body_for, journey_after}
-use Rattle.hub_model.specs.Units.{is_unit_busy, units_in}
-use Rattle.hub_model.specs.Faults.{fault, whole_fault, first_fault, unit_fault, wagon_fault, known_fault, calendar_fault}
-use Rattle.hub_model.specs.declared.addressed_item.AddressedItem.{AddressedItem}
-use Rattle.hub_model.specs.Items.{notice_receivers, movement_receivers, route_receivers, notices, sub_items, estimate_items, alert_items, items_of, each_once}
-use Rattle.hub_model.specs.Overtaking.{affected_wagons, consignment_in, offer_named}
 use Rattle.hub_model.proofs.NoFaultLemmas.{msg}
 
 -- the same is looked up at the names of the message

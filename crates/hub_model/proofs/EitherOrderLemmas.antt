@@ -1,25 +1,7 @@
 -- Messages that are apart may come in either order.
-use Rattle.std.proofs.Common.{◌≡◌, ℕ, true, List, [], ◌∷◌, ◌++◌, Option, Some, None, ap, ◌∙◌, sym, subst, inl, inr, append_assoc}
-use Rattle.std.specs.Prelude.{◌⊎◌, bytes_eq, IsPermutation}
-use Rattle.std.proofs.lemmas.Bool.{cases_Bool, or_left, true≢false}
-use Rattle.std.proofs.lemmas.Slice.Eq.{bytes_eq-Decides}
-use Rattle.std.proofs.lemmas.List.Sums.{fold-append}
-use Rattle.std.proofs.lemmas.List.Sorted.{IsPermutation-append_comm, IsPermutation-append_right}
-use Rattle.taf_codes.specs.declared.code.Railway.{Railway}
-use Rattle.taf_codes.specs.declared.code.UnitCode.{UnitCode}
-use Rattle.taf_codes.specs.declared.name.ConsignmentId.{ConsignmentId}
-use Rattle.trip_plan.specs.Rules.{has, loads}
-use Rattle.taf_messages.specs.declared.message.Message.{Message}
-use Rattle.taf_messages.specs.declared.call.Call.{Call}
-use Rattle.taf_messages.specs.declared.call.Call.TheVariants.{Send}
-use Rattle.hub_model.specs.HubState.{HubState, new_state, named_wagons}
-use Rattle.hub_model.specs.Units.{units_in}
-use Rattle.hub_model.specs.Replies.{reply_to}
-use Rattle.hub_model.specs.Histories.{step, state_after}
-use Rattle.hub_model.specs.Overtaking.{AreApart, consignment_in, offer_named, AreAlike, MayOvertake}
+use Rattle.hub_model.proofs.Common.{◌≡◌, ℕ, true, List, [], ◌∷◌, ◌++◌, Option, Some, None, ap, ◌∙◌, sym, subst, inl, inr, append_assoc, ◌⊎◌, bytes_eq, IsPermutation, cases_Bool, or_left, true≢false, bytes_eq-Decides, fold-append, IsPermutation-append_comm, IsPermutation-append_right, Railway, UnitCode, ConsignmentId, has, loads, Message, Call, Send, HubState, new_state, named_wagons, units_in, reply_to, step, state_after, AreApart, consignment_in, offer_named, AreAlike, MayOvertake, same_name}
 use Rattle.hub_model.proofs.DependencyLemmas.{AreSameAt, reads_alike}
 use Rattle.hub_model.proofs.StepLemmas.{added, step-outbox, step-acknowledged, state_after-push}
-use Rattle.replay_numbers.specs.Names.{same_name}
 use Rattle.hub_model.proofs.NamedWagonLemmas.{from_same_name, same_name_true}
 use Rattle.hub_model.proofs.FrameLemmas.{journey-other, plan_of-other, unit_plan-other, offer-other, is_open-other, first_send-other, reply-same, journey-same, plan_of-same, unit_plan-same, offer-same, is_open-same, first_send-same, added-same}
 use Rattle.hub_model.proofs.ApartLemmas.{AreApart-sym, from_apart, counts_named}

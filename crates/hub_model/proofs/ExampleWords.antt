@@ -1,17 +1,7 @@
 -- Words of the worked histories. Minute 0 stands for 2025-03-01T00:00Z.
-use Rattle.std.specs.Prelude.{ℕ, List, [], ◌∷◌, codes}
-use Rattle.trip_plan.specs.declared.parts.Leg.{Leg}
-use Rattle.trip_plan.specs.declared.parts.Load.TheVariants.{Loaded}
-use Rattle.trip_plan.specs.Trip.{Trip}
-use Rattle.taf_messages.specs.declared.call.Call.{Call}
-use Rattle.taf_messages.specs.declared.call.Call.TheVariants.{Send}
-use Rattle.taf_messages.specs.declared.reply.Reply.{Reply}
+use Rattle.hub_model.proofs.Common.{ℕ, List, [], ◌∷◌, codes, Leg, Loaded, Trip, Call, Send, Reply, Body, MovementKind, Release, Departure, Record}
 use Rattle.taf_messages.specs.declared.reply.Reply.TheVariants as reply_is
-use Rattle.taf_messages.specs.declared.message.Body.{Body}
 use Rattle.taf_messages.specs.declared.message.Body.TheVariants as body
-use Rattle.taf_messages.specs.declared.movement.MovementKind.{MovementKind}
-use Rattle.taf_messages.specs.declared.movement.MovementKind.TheVariants.{Release, Departure}
-use Rattle.taf_messages.specs.declared.record.Record.{Record}
 
 abbrev pub w1 : ℕ
 w1 = 218124712173

@@ -1,16 +1,8 @@
 -- Worked histories, computed.
-use Rattle.std.specs.Prelude.{◌≡◌, List, [], ◌∷◌, ◌++◌, length, Some, None, codes, refl}
-use Rattle.taf_messages.specs.declared.call.Call.{Call}
-use Rattle.taf_messages.specs.declared.call.Call.TheVariants.{Ack}
-use Rattle.taf_messages.specs.declared.reply.Reply.TheVariants.{Accepted, Refused}
+use Rattle.hub_model.proofs.Common.{◌≡◌, List, [], ◌∷◌, ◌++◌, length, Some, None, codes, refl, Call, Ack, Accepted, Refused, Release, Departure, YardArrival, Exception, Estimate, responsible, eta, reply_to, run, state_after}
 use Rattle.taf_messages.specs.declared.reply.Why.TheVariants as why
 use Rattle.taf_messages.specs.declared.item.ItemBody.TheVariants as item
 use Rattle.taf_messages.specs.declared.message.Body.TheVariants as body
-use Rattle.taf_messages.specs.declared.movement.MovementKind.TheVariants.{Release, Departure, YardArrival, Exception, Estimate}
-use Rattle.journey.specs.Stages.{responsible}
-use Rattle.eti_chain.specs.Estimates.{eta}
-use Rattle.hub_model.specs.Replies.{reply_to}
-use Rattle.hub_model.specs.Histories.{run, state_after}
 use Rattle.hub_model.proofs.ExampleWords.{w1, w2, r100, r101, r102, border, send, moved, trip, departed}
 
 departed_replies : run departed ≡ Accepted 1 ∷ Accepted 2 ∷ Accepted 1 ∷ []

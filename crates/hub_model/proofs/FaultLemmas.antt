@@ -1,26 +1,5 @@
 -- What a call changes, and what it goes by.
-use Rattle.std.proofs.Common.{◌≡◌, ℕ, false, cond, not, subst, List, Option, Some, None, refl, ap, ◌∙◌, sym}
-use Rattle.std.specs.Option.{option_map_or, option_and_then}
-use Rattle.std.proofs.lemmas.Bool.{true≢false}
-use Rattle.taf_codes.specs.declared.code.Railway.{Railway}
-use Rattle.taf_codes.specs.declared.code.UnitCode.{UnitCode}
-use Rattle.taf_messages.specs.declared.call.Call.{Call}
-use Rattle.taf_messages.specs.declared.call.Call.TheVariants.{Send, Ask, AskUnit, Deviation, Fetch, Ack}
-use Rattle.taf_messages.specs.declared.reply.Reply.{Reply}
-use Rattle.taf_messages.specs.declared.reply.Reply.TheVariants.{Accepted, Refused, One, Many, Items, Acknowledged}
-use Rattle.taf_messages.specs.declared.reply.Why.TheVariants.{NumberReused}
-use Rattle.taf_messages.specs.declared.message.Message.{Message}
-use Rattle.journey.specs.Words.{newest, from_last}
-use Rattle.journey.specs.Stages.{is_plan, is_delivered}
-use Rattle.hub_model.specs.declared.fault.Fault.{Fault}
-use Rattle.hub_model.specs.HubState.{HubState, FirstSend}
-use Rattle.hub_model.specs.Units.{wagon_by, loaded_on, is_unit_busy}
-use Rattle.hub_model.specs.Faults.{fault}
-use Rattle.hub_model.specs.Replies.{reply_to, send_reply, verdict}
-use Rattle.hub_model.specs.Updates.{after_call, plan_given, unit_plan_given}
-use Rattle.hub_model.specs.Histories.{state_after}
-use Rattle.hub_model.specs.AcceptedMessages.{accepted_in, offers_in, is_open_in, events_from}
-use Rattle.hub_model.specs.Changes.{is_change, AreUnchanged, OthersChangeNothing, TakenOnce, AnsweredAsAtFirst, JudgedByTheAccepted}
+use Rattle.hub_model.proofs.Common.{◌≡◌, ℕ, false, cond, not, subst, List, Option, Some, None, refl, ap, ◌∙◌, sym, option_map_or, option_and_then, true≢false, Railway, UnitCode, Call, Send, Ask, AskUnit, Deviation, Fetch, Ack, Reply, Accepted, Refused, One, Many, Items, Acknowledged, NumberReused, Message, newest, from_last, is_plan, is_delivered, Fault, HubState, FirstSend, wagon_by, loaded_on, is_unit_busy, fault, reply_to, send_reply, verdict, after_call, plan_given, unit_plan_given, state_after, accepted_in, offers_in, is_open_in, events_from, is_change, AreUnchanged, OthersChangeNothing, TakenOnce, AnsweredAsAtFirst, JudgedByTheAccepted}
 use Rattle.hub_model.proofs.StepLemmas.{sent, step-send}
 use Rattle.hub_model.proofs.DependencyLemmas.{AreSameAt, reads_alike, fault-same, items_of-same}
 use Rattle.hub_model.proofs.LookupLemmas.{lookups_are_the_lists}

@@ -1,21 +1,5 @@
 -- The fleet is each wagon of the accepted plans once.
-use Rattle.std.proofs.Common.{◌≡◌, ℕ, Bool, true, false, cond, not, List, [], ◌∷◌, ◌++◌, refl, ap, ◌∙◌, sym, eqb, append-nil, append_assoc}
-use Rattle.std.specs.Prelude.{◌||◌, filter, flat_map}
-use Rattle.std.specs.List.{fold}
-use Rattle.std.proofs.lemmas.Bool.{eqb-true}
-use Rattle.std.proofs.lemmas.List.Elements.{filter-append}
-use Rattle.std.proofs.lemmas.Grind.{flat_map-append}
-use Rattle.trip_plan.specs.Rules.{has}
-use Rattle.taf_messages.specs.declared.call.Call.{Call}
-use Rattle.taf_messages.specs.declared.call.Call.TheVariants.{Send, Ask, AskUnit, Deviation, Fetch, Ack}
-use Rattle.taf_messages.specs.declared.reply.Reply.{Reply}
-use Rattle.taf_messages.specs.declared.reply.Reply.TheVariants.{Acknowledged}
-use Rattle.taf_messages.specs.declared.message.Message.{Message}
-use Rattle.hub_model.specs.HubState.{HubState, new_state}
-use Rattle.hub_model.specs.Replies.{reply_to}
-use Rattle.hub_model.specs.Updates.{after_call, planned_in, each_wagon, fleet_after}
-use Rattle.hub_model.specs.Histories.{step}
-use Rattle.hub_model.specs.AcceptedMessages.{accepts, accepted_message, accepted_from}
+use Rattle.hub_model.proofs.Common.{◌≡◌, ℕ, Bool, true, false, cond, not, List, [], ◌∷◌, ◌++◌, refl, ap, ◌∙◌, sym, eqb, append-nil, append_assoc, ◌||◌, filter, flat_map, fold, eqb-true, filter-append, flat_map-append, has, Call, Send, Ask, AskUnit, Deviation, Fetch, Ack, Reply, Acknowledged, Message, HubState, new_state, reply_to, after_call, planned_in, each_wagon, fleet_after, step, accepts, accepted_message, accepted_from}
 use Rattle.hub_model.proofs.StepLemmas.{step_looked_up}
 
 all_kept : (ws : List ℕ) → filter (λ w. true) ws ≡ ws

@@ -1,27 +1,6 @@
 -- A message changes the look-ups at its names alone, and there by what it reads.
-use Rattle.std.proofs.Common.{◌≡◌, ℕ, Bool, true, false, cond, [], Option, Some, None, refl, ap, ◌∙◌, sym}
-use Rattle.std.specs.Prelude.{◌&&◌, bytes_eq, is_none, unwrap_or}
-use Rattle.std.specs.Option.{option_or}
-use Rattle.std.proofs.lemmas.Bool.{and_parts}
-use Rattle.std.proofs.lemmas.Slice.Eq.{bytes_eq-Decides}
-use Rattle.taf_codes.specs.declared.code.Railway.{Railway}
-use Rattle.taf_codes.specs.declared.code.UnitCode.{UnitCode}
-use Rattle.taf_codes.specs.declared.name.ConsignmentId.{ConsignmentId}
-use Rattle.trip_plan.specs.Rules.{has, loads}
-use Rattle.taf_messages.specs.declared.call.Call.TheVariants.{Send}
-use Rattle.taf_messages.specs.declared.message.Message.{Message}
-use Rattle.taf_messages.specs.declared.message.Body.{Body}
+use Rattle.hub_model.proofs.Common.{◌≡◌, ℕ, Bool, true, false, cond, [], Option, Some, None, refl, ap, ◌∙◌, sym, ◌&&◌, bytes_eq, is_none, unwrap_or, option_or, and_parts, bytes_eq-Decides, Railway, UnitCode, ConsignmentId, has, loads, Send, Message, Body, same_name, HubState, FirstSend, named_wagons, journey_after, units_in, fault, items_of, items_to, reply_to, send_reply, verdict, plan_given, unit_plan_given, offer_given, opening_given, step, accepts, consignment_in, offer_named}
 use Rattle.taf_messages.specs.declared.message.Body.TheVariants as body
-use Rattle.replay_numbers.specs.Names.{same_name}
-use Rattle.hub_model.specs.HubState.{HubState, FirstSend, named_wagons, journey_after}
-use Rattle.hub_model.specs.Units.{units_in}
-use Rattle.hub_model.specs.Faults.{fault}
-use Rattle.hub_model.specs.Items.{items_of, items_to}
-use Rattle.hub_model.specs.Replies.{reply_to, send_reply, verdict}
-use Rattle.hub_model.specs.Updates.{plan_given, unit_plan_given, offer_given, opening_given}
-use Rattle.hub_model.specs.Histories.{step}
-use Rattle.hub_model.specs.AcceptedMessages.{accepts}
-use Rattle.hub_model.specs.Overtaking.{consignment_in, offer_named}
 use Rattle.hub_model.proofs.NamedWagonLemmas.{from_same_name, some_name}
 use Rattle.hub_model.proofs.DependencyLemmas.{AreSameAt, reads_alike, journey_after-same, fault-same, items_of-same}
 use Rattle.hub_model.proofs.StepLemmas.{first_after, added, step-journey, step-plan_of, step-unit_plan, step-offer, step-is_open, step-first_send}

@@ -1,21 +1,11 @@
 -- A worked journey of an empty wagon over one leg, computed to its delivery.
-use Rattle.std.specs.Prelude.{◌≡◌, ℕ, List, [], ◌∷◌, map, Some, None, false, codes, refl}
-use Rattle.trip_plan.specs.declared.parts.Load.TheVariants.{Empty}
-use Rattle.trip_plan.specs.Trip.{Trip}
-use Rattle.taf_messages.specs.declared.call.Call.{Call}
-use Rattle.taf_messages.specs.declared.call.Call.TheVariants.{Ask}
-use Rattle.taf_messages.specs.declared.reply.Reply.TheVariants.{Accepted, Refused}
+use Rattle.hub_model.proofs.Common.{◌≡◌, ℕ, List, [], ◌∷◌, map, Some, None, false, codes, refl, Empty, Trip, Call, Ask, Accepted, Refused, Release, Departure, YardArrival, YardDeparture, Exception, Arrival, Delivery, reply_to, run, state_after, accepted_in, last_receiver}
 use Rattle.taf_messages.specs.declared.reply.Reply.TheVariants as reply_is
 use Rattle.taf_messages.specs.declared.reply.Why.TheVariants as why
 use Rattle.taf_messages.specs.declared.event.RecordEventKind.TheVariants as shown_as
 use Rattle.taf_messages.specs.declared.message.Body.TheVariants as body
-use Rattle.taf_messages.specs.declared.movement.MovementKind.TheVariants.{Release, Departure, YardArrival, YardDeparture, Exception, Arrival, Delivery}
 use Rattle.taf_messages.specs.declared.record.Stage.TheVariants as stage_is
 use Rattle.taf_messages.specs.declared.record.Status.TheVariants as status_is
-use Rattle.hub_model.specs.Replies.{reply_to}
-use Rattle.hub_model.specs.Histories.{run, state_after}
-use Rattle.hub_model.specs.AcceptedMessages.{accepted_in}
-use Rattle.hub_model.specs.Responsibility.{last_receiver}
 use Rattle.hub_model.proofs.ExampleWords.{w1, w2, r101, border, send, moved, leg, departed}
 
 abbrev r200 : List ℕ

@@ -1,28 +1,6 @@
 -- What each accepted message makes larger by so much at most is bounded by the length of the history.
 use native.Mathlib.Omega.{arith}
-use Rattle.std.proofs.Common.{◌≡◌, ℕ, ◌+◌, ◌*◌, ◌≤◌, cond, suc, List, [], ◌∷◌, ◌++◌, length, mul-suc, Option, Some, None, refl, true, false, Bool}
-use Rattle.std.specs.Prelude.{is_some}
-use Rattle.std.specs.List.{fold}
-use Rattle.std.proofs.lemmas.List.{length-append}
-use Rattle.std.proofs.lemmas.Bool.{cond_both}
-use Rattle.trip_plan.specs.Rules.{has}
-use Rattle.journey.specs.declared.event.Event.{Event}
-use Rattle.journey.specs.Stages.{is_plan}
-use Rattle.taf_codes.specs.declared.code.Railway.{Railway}
-use Rattle.taf_messages.specs.declared.call.Call.{Call}
-use Rattle.taf_messages.specs.declared.call.Call.TheVariants.{Send, Ask, AskUnit, Deviation, Fetch, Ack}
-use Rattle.taf_messages.specs.declared.reply.Reply.{Reply}
-use Rattle.taf_messages.specs.declared.reply.Reply.TheVariants.{Accepted, Refused, One, Many, Items, Acknowledged}
-use Rattle.taf_messages.specs.declared.message.Message.{Message}
-use Rattle.hub_model.specs.declared.entry.Entry.{Entry}
-use Rattle.hub_model.specs.declared.fault.Fault.{Fault}
-use Rattle.hub_model.specs.HubState.{HubState, FirstSend, new_state, named_wagons, event_for, with_event, journey_after}
-use Rattle.hub_model.specs.Faults.{fault}
-use Rattle.hub_model.specs.Replies.{reply_to, send_reply, verdict}
-use Rattle.hub_model.specs.Updates.{after_acceptance, with_first_send, with_acknowledgement, after_new, after_call, after, is_accepted}
-use Rattle.hub_model.specs.Histories.{IsLegalFrom}
-use Rattle.hub_model.specs.Laws.{IsSend, EachSend}
-use Rattle.hub_model.specs.Bounds.{JourneysAreBounded}
+use Rattle.hub_model.proofs.Common.{◌≡◌, ℕ, ◌+◌, ◌*◌, ◌≤◌, cond, suc, List, [], ◌∷◌, ◌++◌, length, mul-suc, Option, Some, None, refl, true, false, Bool, is_some, fold, length-append, cond_both, has, Event, is_plan, Railway, Call, Send, Ask, AskUnit, Deviation, Fetch, Ack, Reply, Accepted, Refused, One, Many, Items, Acknowledged, Message, Entry, Fault, HubState, FirstSend, new_state, named_wagons, event_for, with_event, journey_after, fault, reply_to, send_reply, verdict, after_acceptance, with_first_send, with_acknowledgement, after_new, after_call, after, is_accepted, IsLegalFrom, IsSend, EachSend, JourneysAreBounded}
 use Rattle.hub_model.proofs.JourneyLengthLemmas.{IsTrackState, kept_after}
 
 one_more : (a b c k n : ℕ) → a ≤ b + k → c ≤ a + k * n → c ≤ b + k * suc n

@@ -1,14 +1,5 @@
 -- A legal history, its calls and their run.
-use Rattle.std.proofs.Common.{◌≡◌, List, [], ◌∷◌, ◌++◌, refl, ap, ◌∙◌}
-use Rattle.std.specs.Prelude.{map}
-use Rattle.std.specs.List.{fold}
-use Rattle.taf_messages.specs.declared.call.Call.{Call}
-use Rattle.hub_model.specs.declared.entry.Entry.{Entry}
-use Rattle.hub_model.specs.HubState.{HubState, new_state}
-use Rattle.hub_model.specs.Replies.{reply_to}
-use Rattle.hub_model.specs.Updates.{after, after_call}
-use Rattle.hub_model.specs.Histories.{IsLegalFrom, step, replies_from}
-use Rattle.hub_model.specs.Laws.{RepliesAreTheRun, KnownByTheCalls, OneMoreEntry}
+use Rattle.hub_model.proofs.Common.{◌≡◌, List, [], ◌∷◌, ◌++◌, refl, ap, ◌∙◌, map, fold, Call, Entry, HubState, new_state, reply_to, after, after_call, IsLegalFrom, step, replies_from, RepliesAreTheRun, KnownByTheCalls, OneMoreEntry}
 
 -- an entry with the answer is a step
 entry_step : (s : HubState) (e : Entry) → e.reply ≡ reply_to s e.call → after s e ≡ step s e.call

@@ -1,43 +1,8 @@
 -- How many items an accepted message makes.
 use native.Mathlib.Omega.{arith}
-use Rattle.std.proofs.Common.{◌≡◌, ℕ, ◌+◌, ◌*◌, ◌≤◌, suc, List, [], ◌∷◌, ◌++◌, length, drop, mul-suc, Option, Some, None, refl, ap, ◌∙◌, true, Bool, not, eqb}
-use Rattle.std.specs.Prelude.{map, filter, flat_map, filter_map, option_map, option_to_list, bytes_eq}
-use Rattle.std.specs.Option.{option_or}
-use Rattle.std.specs.List.{cons_option, range_with_len}
-use Rattle.std.proofs.lemmas.Bool.{cond_both, ltb-false, eq-eqb}
-use Rattle.std.proofs.lemmas.List.{length-append, length-map, length-drop}
-use Rattle.std.proofs.lemmas.List.FromFn.{length-range_with_len}
-use Rattle.std.proofs.lemmas.List.Sums.{length-filter, count_by-le-length}
-use Rattle.taf_codes.specs.declared.code.Railway.{Railway}
-use Rattle.trip_plan.specs.declared.parts.Leg.{Leg}
-use Rattle.trip_plan.specs.Rules.{has}
-use Rattle.taf_messages.specs.declared.movement.MovementKind.{MovementKind}
-use Rattle.taf_messages.specs.declared.movement.MovementKind.TheVariants.{Release, Departure, YardArrival, YardDeparture, Exception, Estimate, Arrival, Delivery}
-use Rattle.taf_messages.specs.declared.message.Message.{Message}
-use Rattle.taf_messages.specs.declared.message.Body.{Body}
+use Rattle.hub_model.proofs.Common.{◌≡◌, ℕ, ◌+◌, ◌*◌, ◌≤◌, suc, List, [], ◌∷◌, ◌++◌, length, drop, mul-suc, Option, Some, None, refl, ap, ◌∙◌, true, Bool, not, eqb, map, filter, flat_map, filter_map, option_map, option_to_list, bytes_eq, option_or, cons_option, range_with_len, cond_both, ltb-false, eq-eqb, length-append, length-map, length-drop, length-range_with_len, length-filter, count_by-le-length, Railway, Leg, has, MovementKind, Release, Departure, YardArrival, YardDeparture, Exception, Estimate, Arrival, Delivery, Message, Body, EstimateAt, ItemBody, Offer, wagons_of, asked_by, Event, Rerouted, leg_index, responsible, journey_state, legs, current_leg, lead_of, runner_of, route_checks, estimate, estimates, passed, same_name, Entry, AddressedItem, HubState, new_state, named_wagons, journey_after, fault, each_once, runners, movement_receivers, route_receivers, notice_receivers, sub_item, sub_items, notices, estimate_item, is_news, estimate_items, alert, alert_receivers, alert_items, items_of, items_to, after_acceptance, offer_given, state_of, IsLegal, HasFewLegs, HasFewWagons, IsWithinLimits, AreWithinLimits, ItemsAreFew, OutboxesAreBounded}
 use Rattle.taf_messages.specs.declared.message.Body.TheVariants as body
-use Rattle.taf_messages.specs.declared.record.EstimateAt.{EstimateAt}
-use Rattle.taf_messages.specs.declared.item.ItemBody.{ItemBody}
 use Rattle.taf_messages.specs.declared.item.ItemBody.TheVariants as item
-use Rattle.interchange.specs.declared.offer.Offer.{Offer}
-use Rattle.interchange.specs.Offers.{wagons_of, asked_by}
-use Rattle.journey.specs.declared.event.Event.{Event}
-use Rattle.journey.specs.declared.event.EventBody.TheVariants.{Rerouted}
-use Rattle.journey.specs.Stages.{leg_index, responsible}
-use Rattle.journey.specs.JourneyStates.{journey_state}
-use Rattle.journey.specs.Legs.{legs, current_leg, lead_of, runner_of}
-use Rattle.journey.specs.Checks.{route_checks}
-use Rattle.eti_chain.specs.Estimates.{estimate, estimates}
-use Rattle.journey.proofs.SoundStateLemmas.{passed}
-use Rattle.replay_numbers.specs.Names.{same_name}
-use Rattle.hub_model.specs.declared.entry.Entry.{Entry}
-use Rattle.hub_model.specs.declared.addressed_item.AddressedItem.{AddressedItem}
-use Rattle.hub_model.specs.HubState.{HubState, new_state, named_wagons, journey_after}
-use Rattle.hub_model.specs.Faults.{fault}
-use Rattle.hub_model.specs.Items.{each_once, runners, movement_receivers, route_receivers, notice_receivers, sub_item, sub_items, notices, estimate_item, is_news, estimate_items, alert, alert_receivers, alert_items, items_of, items_to}
-use Rattle.hub_model.specs.Updates.{after_acceptance, offer_given}
-use Rattle.hub_model.specs.Histories.{state_of, IsLegal}
-use Rattle.hub_model.specs.Bounds.{HasFewLegs, HasFewWagons, IsWithinLimits, AreWithinLimits, ItemsAreFew, OutboxesAreBounded}
 use Rattle.hub_model.proofs.NoFaultLemmas.{no_known_fault, known_allowed, msg}
 use Rattle.hub_model.proofs.JourneyLengthLemmas.{IsTrackState, kept_from}
 use Rattle.hub_model.proofs.GrowthLemmas.{grown_from}

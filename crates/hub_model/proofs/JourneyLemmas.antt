@@ -1,24 +1,5 @@
 -- The journey that is carried along is the part of the wagon's events from the last plan on.
-use Rattle.std.proofs.Common.{◌≡◌, ℕ, Bool, true, false, cond, List, [], ◌∷◌, ◌++◌, refl, ap, ◌∙◌, sym, append_assoc, append-nil}
-use Rattle.std.specs.Prelude.{◌||◌}
-use Rattle.std.specs.Option.{option_or}
-use Rattle.std.specs.List.{list_any, fold}
-use Rattle.std.proofs.lemmas.List.Sums.{fold-append}
-use Rattle.taf_codes.specs.declared.code.Railway.{Railway}
-use Rattle.trip_plan.specs.Rules.{has}
-use Rattle.taf_messages.specs.declared.call.Call.{Call}
-use Rattle.taf_messages.specs.declared.call.Call.TheVariants.{Send, Ask, AskUnit, Deviation, Fetch, Ack}
-use Rattle.taf_messages.specs.declared.reply.Reply.{Reply}
-use Rattle.taf_messages.specs.declared.reply.Reply.TheVariants.{Acknowledged}
-use Rattle.taf_messages.specs.declared.message.Message.{Message}
-use Rattle.journey.specs.declared.event.Event.{Event}
-use Rattle.journey.specs.Words.{newest, from_last}
-use Rattle.journey.specs.Stages.{is_plan}
-use Rattle.hub_model.specs.HubState.{HubState, Offers, new_state, named_wagons, event_for, with_event}
-use Rattle.hub_model.specs.Replies.{reply_to}
-use Rattle.hub_model.specs.Updates.{after_call, offer_given}
-use Rattle.hub_model.specs.Histories.{step}
-use Rattle.hub_model.specs.AcceptedMessages.{accepts, accepted_message, accepted_from, offers_in}
+use Rattle.hub_model.proofs.Common.{◌≡◌, ℕ, Bool, true, false, cond, List, [], ◌∷◌, ◌++◌, refl, ap, ◌∙◌, sym, append_assoc, append-nil, ◌||◌, option_or, list_any, fold, fold-append, Railway, has, Call, Send, Ask, AskUnit, Deviation, Fetch, Ack, Reply, Acknowledged, Message, Event, newest, from_last, is_plan, HubState, Offers, new_state, named_wagons, event_for, with_event, reply_to, after_call, offer_given, step, accepts, accepted_message, accepted_from, offers_in}
 use Rattle.hub_model.proofs.StepLemmas.{step-journey, step-offer}
 use Rattle.hub_model.proofs.ListLemmas.{newest-append, newest_step, acks_offer}
 

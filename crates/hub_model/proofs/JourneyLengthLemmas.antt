@@ -1,21 +1,5 @@
 -- What every accepted message keeps holds after every legal history.
-use Rattle.std.proofs.Common.{◌≡◌, ℕ, cond, List, [], ◌∷◌, Option, Some, None, refl}
-use Rattle.std.specs.Prelude.{is_some}
-use Rattle.std.specs.List.{fold}
-use Rattle.taf_codes.specs.declared.code.Railway.{Railway}
-use Rattle.taf_messages.specs.declared.call.Call.{Call}
-use Rattle.taf_messages.specs.declared.call.Call.TheVariants.{Send, Ask, AskUnit, Deviation, Fetch, Ack}
-use Rattle.taf_messages.specs.declared.reply.Reply.{Reply}
-use Rattle.taf_messages.specs.declared.reply.Reply.TheVariants.{Accepted, Refused, One, Many, Items, Acknowledged}
-use Rattle.taf_messages.specs.declared.message.Message.{Message}
-use Rattle.hub_model.specs.declared.entry.Entry.{Entry}
-use Rattle.hub_model.specs.HubState.{HubState, FirstSend}
-use Rattle.hub_model.specs.declared.fault.Fault.{Fault}
-use Rattle.hub_model.specs.Faults.{fault}
-use Rattle.hub_model.specs.Replies.{reply_to, send_reply, verdict}
-use Rattle.hub_model.specs.Updates.{after_acceptance, with_first_send, with_acknowledgement, after_new, after_call, after}
-use Rattle.hub_model.specs.Histories.{IsLegalFrom}
-use Rattle.hub_model.specs.Laws.{IsSend, EachSend}
+use Rattle.hub_model.proofs.Common.{◌≡◌, ℕ, cond, List, [], ◌∷◌, Option, Some, None, refl, is_some, fold, Railway, Call, Send, Ask, AskUnit, Deviation, Fetch, Ack, Reply, Accepted, Refused, One, Many, Items, Acknowledged, Message, Entry, HubState, FirstSend, Fault, fault, reply_to, send_reply, verdict, after_acceptance, with_first_send, with_acknowledgement, after_new, after_call, after, IsLegalFrom, IsSend, EachSend}
 
 -- a property that each accepted message of this sort keeps, and that speaks of neither sends nor acknowledgements
 pub record IsTrackState (D : Message → Type 0) (P : HubState → Type 0) : Type 0 where

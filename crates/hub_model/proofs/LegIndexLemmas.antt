@@ -1,36 +1,8 @@
 -- Whatever messages are accepted, each wagon with a journey is on one of its legs.
 use native.Mathlib.Omega.{arith}
-use Rattle.std.proofs.Common.{◌≡◌, ℕ, ◌+◌, ◌≤◌, ◌<◌, Bool, true, false, cond, List, [], ◌∷◌, ◌++◌, length, take, Option, Some, None, refl, ap, ◌∙◌, sym}
-use Rattle.std.specs.Option.{option_or, option_eq}
-use Rattle.std.specs.Prelude.{option_map, slice_get, bytes_eq}
-use Rattle.std.proofs.lemmas.Bool.{false≢true, cond_both, not-false, ltb-false}
-use Rattle.std.proofs.lemmas.List.{length-append, length-take-le}
-use Rattle.std.proofs.lemmas.Option.{slice_get_within}
-use Rattle.taf_codes.specs.declared.code.Railway.{Railway}
-use Rattle.trip_plan.specs.Rules.{has}
-use Rattle.trip_plan.specs.Trip.{Trip}
-use Rattle.trip_plan.specs.declared.parts.Leg.{Leg}
-use Rattle.taf_messages.specs.declared.movement.MovementKind.{MovementKind}
-use Rattle.taf_messages.specs.declared.movement.MovementKind.TheVariants.{Release, Departure, YardArrival, YardDeparture, Exception, Estimate, Arrival, Delivery}
-use Rattle.taf_messages.specs.declared.reply.Why.TheVariants.{UnknownWagon, WrongStage}
-use Rattle.taf_messages.specs.declared.message.Body.{Body}
+use Rattle.hub_model.proofs.Common.{◌≡◌, ℕ, ◌+◌, ◌≤◌, ◌<◌, Bool, true, false, cond, List, [], ◌∷◌, ◌++◌, length, take, Option, Some, None, refl, ap, ◌∙◌, sym, option_or, option_eq, option_map, slice_get, bytes_eq, false≢true, cond_both, not-false, ltb-false, length-append, length-take-le, slice_get_within, Railway, has, Trip, Leg, MovementKind, Release, Departure, YardArrival, YardDeparture, Exception, Estimate, Arrival, Delivery, UnknownWagon, WrongStage, Body, Stage, Event, EventBody, Planned, Moved, EstimateAsked, LegTimed, Offered, Answered, Withdrawn, Rerouted, stage, stage_after, leg_index, is_reception, legs, journey_state, refusal, checks, route_checks, stage-push, leg_index-push, legs-push, timed_length, passed, leg_index-kept, moment_in, HubState, new_state, named_wagons, event_for, event_body_for, with_event, journey_after, fault, is_unknown, HasFewLegs, IsOnLeg, AlwaysOnLeg}
 use Rattle.taf_messages.specs.declared.message.Body.TheVariants as body
-use Rattle.taf_messages.specs.declared.record.Stage.{Stage}
 use Rattle.taf_messages.specs.declared.record.Stage.TheVariants as stage_is
-use Rattle.journey.specs.declared.event.Event.{Event}
-use Rattle.journey.specs.declared.event.EventBody.{EventBody}
-use Rattle.journey.specs.declared.event.EventBody.TheVariants.{Planned, Moved, EstimateAsked, LegTimed, Offered, Answered, Withdrawn, Rerouted}
-use Rattle.journey.specs.Stages.{stage, stage_after, leg_index, is_reception}
-use Rattle.journey.specs.Legs.{legs}
-use Rattle.journey.specs.JourneyStates.{journey_state}
-use Rattle.journey.specs.Checks.{refusal, checks, route_checks}
-use Rattle.journey.proofs.LegPositionLemmas.{stage-push, leg_index-push, legs-push, timed_length}
-use Rattle.journey.proofs.SoundStateLemmas.{passed}
-use Rattle.eti_chain.proofs.EstimateLemmas.{leg_index-kept}
-use Rattle.taf_messages.specs.Bodies.{moment_in}
-use Rattle.hub_model.specs.HubState.{HubState, new_state, named_wagons, event_for, event_body_for, with_event, journey_after}
-use Rattle.hub_model.specs.Faults.{fault, is_unknown}
-use Rattle.hub_model.specs.Bounds.{HasFewLegs, IsOnLeg, AlwaysOnLeg}
 use Rattle.hub_model.proofs.NoFaultLemmas.{goes_on, known_allowed, planned_anew, msg}
 use Rattle.hub_model.proofs.SoundnessLemmas.{IsSound, NoPlan, all_known, sound_accepted, sound_nothing}
 use Rattle.hub_model.proofs.JourneyLengthLemmas.{IsTrackState, kept_from}

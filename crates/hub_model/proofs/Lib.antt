@@ -1,3 +1,4 @@
+pub mod Common
 pub mod ExampleWords
 pub mod Examples
 pub mod MoreExamples

@@ -1,28 +1,6 @@
 -- Plans, offers and items that are carried along are those of the accepted messages.
-use Rattle.std.proofs.Common.{◌≡◌, ℕ, Bool, true, false, cond, List, [], ◌∷◌, ◌++◌, Option, None, refl, ap, ◌∙◌, sym, append_assoc, append-nil}
-use Rattle.std.specs.Prelude.{map, filter, flat_map, bytes_eq}
-use Rattle.std.specs.Option.{option_or}
-use Rattle.std.specs.List.{fold}
-use Rattle.std.proofs.lemmas.List.{map-append}
-use Rattle.std.proofs.lemmas.List.Elements.{filter-append}
-use Rattle.taf_codes.specs.declared.code.Railway.{Railway}
-use Rattle.taf_codes.specs.declared.code.UnitCode.{UnitCode}
-use Rattle.taf_codes.specs.declared.name.ConsignmentId.{ConsignmentId}
-use Rattle.taf_messages.specs.declared.call.Call.{Call}
-use Rattle.taf_messages.specs.declared.call.Call.TheVariants.{Send, Ask, AskUnit, Deviation, Fetch, Ack}
-use Rattle.taf_messages.specs.declared.reply.Reply.{Reply}
-use Rattle.taf_messages.specs.declared.reply.Reply.TheVariants.{Acknowledged}
-use Rattle.taf_messages.specs.declared.message.Message.{Message}
-use Rattle.journey.specs.Words.{newest}
-use Rattle.hub_model.specs.HubState.{HubState, new_state}
-use Rattle.hub_model.specs.declared.addressed_item.AddressedItem.{AddressedItem}
-use Rattle.hub_model.specs.Items.{items_of, items_to}
-use Rattle.hub_model.specs.Replies.{reply_to}
-use Rattle.hub_model.specs.Updates.{after_call, plan_given, unit_plan_given, offer_given}
-use Rattle.hub_model.specs.Histories.{step}
-use Rattle.hub_model.specs.AcceptedMessages.{accepts, accepted_message, accepted_from, offers_in, items_from}
+use Rattle.hub_model.proofs.Common.{◌≡◌, ℕ, Bool, true, false, cond, List, [], ◌∷◌, ◌++◌, Option, None, refl, ap, ◌∙◌, sym, append_assoc, append-nil, map, filter, flat_map, bytes_eq, option_or, fold, map-append, filter-append, Railway, UnitCode, ConsignmentId, Call, Send, Ask, AskUnit, Deviation, Fetch, Ack, Reply, Acknowledged, Message, newest, HubState, new_state, AddressedItem, items_of, items_to, reply_to, after_call, plan_given, unit_plan_given, offer_given, step, accepts, accepted_message, accepted_from, offers_in, items_from, option_or-none, option_or_assoc}
 use Rattle.hub_model.proofs.StepLemmas.{step-plan_of, step-unit_plan, step-offer, step-outbox}
-use Rattle.journey.proofs.NewestLemmas.{option_or-none, option_or_assoc}
 
 -- a look-up that no acknowledgement changes
 abbrev pub IgnoresAcks : {A : Type 0} → (HubState → A) → Type 0

@@ -1,5 +1,5 @@
 -- Each look-up is what its list says.
-use Rattle.hub_model.specs.AcceptedMessages.{LookupsAreTheLists}
+use Rattle.hub_model.proofs.Common.{LookupsAreTheLists}
 use Rattle.hub_model.proofs.ListLemmas.{plan_of_list, unit_plan_list, offer_list, outbox_list}
 use Rattle.hub_model.proofs.SendLemmas.{first_send_list, acknowledged_list}
 use Rattle.hub_model.proofs.WagonEventLemmas.{journey_list}

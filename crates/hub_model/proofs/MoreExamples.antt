@@ -1,24 +1,12 @@
 -- Worked histories, computed: lists, items, late reports and the end of a journey.
-use Rattle.std.specs.Prelude.{◌≡◌, List, [], ◌∷◌, ◌++◌, map, length, Some, None, true, false, codes, refl}
-use Rattle.taf_moment.specs.Calendar.{last_minute}
-use Rattle.trip_plan.specs.declared.parts.Load.TheVariants.{Loaded}
-use Rattle.taf_messages.specs.declared.call.Call.{Call}
-use Rattle.taf_messages.specs.declared.call.Call.TheVariants.{Ask, Deviation, Fetch, Ack}
-use Rattle.taf_messages.specs.declared.reply.Reply.TheVariants.{Accepted, Refused, Acknowledged}
+use Rattle.hub_model.proofs.Common.{◌≡◌, List, [], ◌∷◌, ◌++◌, map, length, Some, None, true, false, codes, refl, last_minute, Loaded, Call, Ask, Deviation, Fetch, Ack, Accepted, Refused, Acknowledged, Release, Departure, YardDeparture, Exception, Estimate, Arrival, Delivery, stage, responsible, place, eta, reply_to, view, run, state_after, is_apart}
 use Rattle.taf_messages.specs.declared.reply.Reply.TheVariants as reply_is
 use Rattle.taf_messages.specs.declared.reply.Why.TheVariants as why
 use Rattle.taf_messages.specs.declared.event.RecordEventKind.TheVariants as shown_as
 use Rattle.taf_messages.specs.declared.item.ItemBody.TheVariants as item
 use Rattle.taf_messages.specs.declared.message.Body.TheVariants as body
-use Rattle.taf_messages.specs.declared.movement.MovementKind.TheVariants.{Release, Departure, YardDeparture, Exception, Estimate, Arrival, Delivery}
 use Rattle.taf_messages.specs.declared.record.Stage.TheVariants as stage_is
 use Rattle.taf_messages.specs.declared.record.Status.TheVariants as status_is
-use Rattle.journey.specs.Stages.{stage, responsible}
-use Rattle.journey.specs.Legs.{place}
-use Rattle.eti_chain.specs.Estimates.{eta}
-use Rattle.hub_model.specs.Replies.{reply_to, view}
-use Rattle.hub_model.specs.Histories.{run, state_after}
-use Rattle.hub_model.specs.Overtaking.{is_apart}
 use Rattle.hub_model.proofs.ExampleWords.{w1, w2, r100, r101, r102, border, send, moved, trip, trip_of, departed, many}
 use Rattle.hub_model.proofs.Examples.{offered, answered, delayed}
 

@@ -1,51 +1,7 @@
 -- Records, items and replies reach railways that they concern.
-use Rattle.std.proofs.Common.{◌≡◌, ℕ, ◌+◌, Bool, true, false, cond, not, List, [], ◌∷◌, ◌++◌, length, drop, get_or, Option, Some, None, refl, ap, ◌∙◌, sym, subst, inl, inr, eqb, append_assoc}
-use Rattle.std.specs.Prelude.{◌&&◌, is_some, is_none, map, filter, flat_map, filter_map, slice_get, option_map, option_to_list, option_and_then, bytes_eq, All, Contains}
-use Rattle.std.specs.List.{cons_option, fold, list_any}
-use Rattle.std.proofs.lemmas.Bool.{false≢true, or_cases, or_right, cond_both, false_from_ne_true}
-use Rattle.std.proofs.lemmas.Option.{none-some, same_Some, slice_get-map, slice_get_within, get_or_from_slice_get, slice_get-get_or}
-use Rattle.std.proofs.lemmas.List.Elements.{All-nil, All-cons, All-head, All-tail, All-append, All-map, All-filter, All-drop, All-weaker, All-contains_itself, Contains-append_right}
-use Rattle.std.proofs.lemmas.Slice.Eq.{bytes_eq-Decides}
-use Rattle.taf_codes.specs.declared.code.Railway.{Railway}
-use Rattle.taf_codes.specs.Words.{is_text}
-use Rattle.trip_plan.specs.declared.parts.Leg.{Leg}
-use Rattle.trip_plan.specs.Trip.{Trip}
-use Rattle.trip_plan.specs.Rules.{has}
-use Rattle.taf_messages.specs.declared.call.Call.{Call}
-use Rattle.taf_messages.specs.declared.call.Call.TheVariants.{Send, Ask, AskUnit, Deviation, Fetch, Ack}
-use Rattle.taf_messages.specs.declared.reply.Reply.{Reply}
-use Rattle.taf_messages.specs.declared.reply.Reply.TheVariants.{Refused, One, Many, Acknowledged}
-use Rattle.taf_messages.specs.declared.reply.Why.{Why}
-use Rattle.taf_messages.specs.declared.reply.Why.TheVariants.{UnknownWagon, UnknownUnit, UnknownConsignment, NotYours, NumberReused}
-use Rattle.taf_messages.specs.Content.{same_message}
-use Rattle.taf_messages.specs.declared.item.ItemBody.{ItemBody}
+use Rattle.hub_model.proofs.Common.{◌≡◌, ℕ, ◌+◌, Bool, true, false, cond, not, List, [], ◌∷◌, ◌++◌, length, drop, get_or, Option, Some, None, refl, ap, ◌∙◌, sym, subst, inl, inr, eqb, append_assoc, ◌&&◌, is_some, is_none, map, filter, flat_map, filter_map, slice_get, option_map, option_to_list, option_and_then, bytes_eq, All, Contains, cons_option, fold, list_any, false≢true, or_cases, or_right, cond_both, false_from_ne_true, none-some, same_Some, slice_get-map, slice_get_within, get_or_from_slice_get, slice_get-get_or, All-nil, All-cons, All-head, All-tail, All-append, All-map, All-filter, All-drop, All-weaker, All-contains_itself, Contains-append_right, bytes_eq-Decides, Railway, is_text, Leg, Trip, has, Call, Send, Ask, AskUnit, Deviation, Fetch, Ack, Reply, Refused, One, Many, Acknowledged, Why, UnknownWagon, UnknownUnit, UnknownConsignment, NotYours, NumberReused, same_message, ItemBody, Message, Body, MovementKind, Release, Departure, YardArrival, YardDeparture, Exception, Estimate, Arrival, Delivery, EstimateAt, Record, Stage, Event, leg_index, responsible, plan, stage, legs, lead_of, runner_of, current_leg, asked_by, estimates, record_in, record_of, may_see, AddressedItem, Fault, fault, same_name, HubState, FirstSend, new_state, named_wagons, journey_after, unit_wagon, each_once, runners, movement_receivers, route_receivers, notice_receivers, sub_item, sub_items, notices, estimate_item, is_news, estimate_items, alert, alert_receivers, alert_items, items_of, items_to, reply_to, refusal_reply, verdict, send_reply, record_reply, unit_reply, deviating_records, deviation_reply, after_call, step, state_after, accepts, accepted_message, items_from, IsOfTrip, RecordsAreForTheTrip, is_verdict, MessagesGetVerdicts, Concerns, ItemsGoToTheConcerned, HasSource, ItemsHaveSources, OutsidersLearnWhetherKnown}
 use Rattle.taf_messages.specs.declared.item.ItemBody.TheVariants as item
-use Rattle.taf_messages.specs.declared.message.Message.{Message}
-use Rattle.taf_messages.specs.declared.message.Body.{Body}
 use Rattle.taf_messages.specs.declared.message.Body.TheVariants as body
-use Rattle.taf_messages.specs.declared.movement.MovementKind.{MovementKind}
-use Rattle.taf_messages.specs.declared.movement.MovementKind.TheVariants.{Release, Departure, YardArrival, YardDeparture, Exception, Estimate, Arrival, Delivery}
-use Rattle.taf_messages.specs.declared.record.EstimateAt.{EstimateAt}
-use Rattle.taf_messages.specs.declared.record.Record.{Record}
-use Rattle.taf_messages.specs.declared.record.Stage.{Stage}
-use Rattle.journey.specs.declared.event.Event.{Event}
-use Rattle.journey.specs.Stages.{leg_index, responsible, plan, stage}
-use Rattle.journey.specs.Legs.{legs, lead_of, runner_of, current_leg}
-use Rattle.interchange.specs.Offers.{asked_by}
-use Rattle.eti_chain.specs.Estimates.{estimates}
-use Rattle.wimo.specs.Records.{record_in, record_of, may_see}
-use Rattle.hub_model.specs.declared.addressed_item.AddressedItem.{AddressedItem}
-use Rattle.hub_model.specs.declared.fault.Fault.{Fault}
-use Rattle.hub_model.specs.Faults.{fault}
-use Rattle.replay_numbers.specs.Names.{same_name}
-use Rattle.hub_model.specs.HubState.{HubState, FirstSend, new_state, named_wagons, journey_after}
-use Rattle.hub_model.specs.Units.{unit_wagon}
-use Rattle.hub_model.specs.Items.{each_once, runners, movement_receivers, route_receivers, notice_receivers, sub_item, sub_items, notices, estimate_item, is_news, estimate_items, alert, alert_receivers, alert_items, items_of, items_to}
-use Rattle.hub_model.specs.Replies.{reply_to, refusal_reply, verdict, send_reply, record_reply, unit_reply, deviating_records, deviation_reply}
-use Rattle.hub_model.specs.Updates.{after_call}
-use Rattle.hub_model.specs.Histories.{step, state_after}
-use Rattle.hub_model.specs.AcceptedMessages.{accepts, accepted_message, items_from}
-use Rattle.hub_model.specs.NeedToKnow.{IsOfTrip, RecordsAreForTheTrip, is_verdict, MessagesGetVerdicts, Concerns, ItemsGoToTheConcerned, HasSource, ItemsHaveSources, OutsidersLearnWhetherKnown}
 use Rattle.hub_model.proofs.ListLemmas.{outbox_list}
 use Rattle.hub_model.proofs.NoFaultLemmas.{msg}
 use Rattle.hub_model.proofs.StepLemmas.{state_after-push, step-first_send}

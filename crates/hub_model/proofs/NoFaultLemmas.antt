@@ -1,25 +1,6 @@
 -- What an accepted message passed.
-use Rattle.std.proofs.Common.{◌≡◌, ℕ, true, false, cond, List, [], ◌∷◌, ◌++◌, Option, Some, None, refl, subst, eqb, inl, inr}
-use Rattle.std.specs.Prelude.{option_map}
-use Rattle.std.specs.Option.{option_or}
-use Rattle.std.proofs.lemmas.Bool.{or_cases, and_parts, eqb-true, not-false}
-use Rattle.std.specs.List.{list_all}
-use Rattle.taf_codes.specs.declared.code.Railway.{Railway}
-use Rattle.trip_plan.specs.Rules.{has}
-use Rattle.taf_messages.specs.declared.reply.Why.TheVariants.{UnknownWagon}
-use Rattle.taf_messages.specs.declared.message.Message.{Message}
-use Rattle.taf_messages.specs.declared.message.TrainAnswer.{TrainAnswer}
-use Rattle.taf_messages.specs.declared.message.Body.{Body}
+use Rattle.hub_model.proofs.Common.{◌≡◌, ℕ, true, false, cond, List, [], ◌∷◌, ◌++◌, Option, Some, None, refl, subst, eqb, inl, inr, option_map, option_or, or_cases, and_parts, eqb-true, not-false, list_all, Railway, has, UnknownWagon, Message, TrainAnswer, Body, Event, EventBody, Planned, is_plan, refusal, matches, wagons_of, passed, HubState, named_wagons, with_event, fault, whole_checks, whole_fault, first_fault, wagon_fault, known_fault, is_unknown}
 use Rattle.taf_messages.specs.declared.message.Body.TheVariants as body
-use Rattle.journey.specs.declared.event.Event.{Event}
-use Rattle.journey.specs.declared.event.EventBody.{EventBody}
-use Rattle.journey.specs.declared.event.EventBody.TheVariants.{Planned}
-use Rattle.journey.specs.Stages.{is_plan}
-use Rattle.journey.specs.Checks.{refusal}
-use Rattle.interchange.specs.Offers.{matches, wagons_of}
-use Rattle.journey.proofs.SoundStateLemmas.{passed}
-use Rattle.hub_model.specs.HubState.{HubState, named_wagons, with_event}
-use Rattle.hub_model.specs.Faults.{fault, whole_checks, whole_fault, first_fault, wagon_fault, known_fault, is_unknown}
 
 -- parts of a choice that is none
 pub or_none_left : {A : Type 0} (a b : Option A) → option_or a b ≡ None → a ≡ None

@@ -1,24 +1,6 @@
 -- An offer is open where it was accepted, and nothing accepted answers or withdraws it.
-use Rattle.std.proofs.Common.{◌≡◌, ℕ, Bool, true, false, cond, not, List, [], ◌∷◌, ◌++◌, Option, Some, None, refl, ap, ◌∙◌, sym, subst, inl, inr, append_assoc, append-nil}
-use Rattle.std.specs.Prelude.{◌&&◌, ◌||◌, is_some, is_none, unwrap_or}
-use Rattle.std.specs.List.{fold}
-use Rattle.std.proofs.lemmas.Bool.{and_parts, or_cases, or_left, false≢true, true≢false}
-use Rattle.std.proofs.lemmas.List.Folds.{list_any-append}
-use Rattle.taf_codes.specs.declared.code.Railway.{Railway}
-use Rattle.taf_messages.specs.declared.call.Call.{Call}
-use Rattle.taf_messages.specs.declared.call.Call.TheVariants.{Send, Ask, AskUnit, Deviation, Fetch, Ack}
-use Rattle.taf_messages.specs.declared.reply.Reply.{Reply}
-use Rattle.taf_messages.specs.declared.reply.Reply.TheVariants.{Acknowledged}
-use Rattle.taf_messages.specs.declared.message.Message.{Message}
-use Rattle.taf_messages.specs.declared.message.Body.{Body}
+use Rattle.hub_model.proofs.Common.{◌≡◌, ℕ, Bool, true, false, cond, not, List, [], ◌∷◌, ◌++◌, Option, Some, None, refl, ap, ◌∙◌, sym, subst, inl, inr, append_assoc, append-nil, ◌&&◌, ◌||◌, is_some, is_none, unwrap_or, fold, and_parts, or_cases, or_left, false≢true, true≢false, list_any-append, Railway, Call, Send, Ask, AskUnit, Deviation, Fetch, Ack, Reply, Acknowledged, Message, Body, same_name, HubState, FirstSend, new_state, fault, whole_fault, reply_to, verdict, after_call, opening_given, step, accepts, accepted_message, accepted_from, makes_offer, closes_offer, is_offer_made, is_offer_closed, is_open_in}
 use Rattle.taf_messages.specs.declared.message.Body.TheVariants as body
-use Rattle.replay_numbers.specs.Names.{same_name}
-use Rattle.hub_model.specs.HubState.{HubState, FirstSend, new_state}
-use Rattle.hub_model.specs.Faults.{fault, whole_fault}
-use Rattle.hub_model.specs.Replies.{reply_to, verdict}
-use Rattle.hub_model.specs.Updates.{after_call, opening_given}
-use Rattle.hub_model.specs.Histories.{step}
-use Rattle.hub_model.specs.AcceptedMessages.{accepts, accepted_message, accepted_from, makes_offer, closes_offer, is_offer_made, is_offer_closed, is_open_in}
 use Rattle.hub_model.proofs.NamedWagonLemmas.{from_same_name}
 use Rattle.hub_model.proofs.NoFaultLemmas.{no_whole_fault, answer_fits, withdraw_fits}
 use Rattle.hub_model.proofs.StepLemmas.{step-is_open, step-first_send}

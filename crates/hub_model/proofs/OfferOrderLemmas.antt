@@ -1,11 +1,5 @@
 -- What holds of offers and wagons at every moment.
-use Rattle.std.proofs.Common.{List, ◌∙◌, sym}
-use Rattle.journey.proofs.OfferStageLemmas.{stage_in_offer}
-use Rattle.journey.proofs.OnItsWayLemmas.{responsible-on_its_way}
-use Rattle.hub_model.specs.declared.entry.Entry.{Entry}
-use Rattle.hub_model.specs.HubState.{HubState, new_state}
-use Rattle.hub_model.specs.Histories.{IsLegal, state_of}
-use Rattle.hub_model.specs.Laws.{IsInOrder, AlwaysInOrder}
+use Rattle.hub_model.proofs.Common.{List, ◌∙◌, sym, stage_in_offer, responsible-on_its_way, Entry, HubState, new_state, IsLegal, state_of, IsInOrder, AlwaysInOrder}
 use Rattle.hub_model.proofs.NamedWagonLemmas.{some_pair}
 use Rattle.hub_model.proofs.SoundnessLemmas.{IsSound, sound_accepted, sound_nothing}
 use Rattle.hub_model.proofs.JourneyLengthLemmas.{IsTrackState, kept_from, each_any}

@@ -1,15 +1,6 @@
 -- What the refusals of its messages tell an outsider, computed.
-use Rattle.std.specs.Prelude.{◌≡◌, ℕ, List, [], ◌∷◌, ◌++◌, map, Some, None, codes, refl}
-use Rattle.taf_messages.specs.declared.call.Call.{Call}
-use Rattle.taf_messages.specs.declared.reply.Reply.{Reply}
-use Rattle.taf_messages.specs.declared.reply.Reply.TheVariants.{Refused}
-use Rattle.taf_messages.specs.declared.reply.Why.{Why}
-use Rattle.taf_messages.specs.declared.reply.Why.TheVariants.{UnknownWagon, UnknownOffer, ConsignmentTaken, WagonBusy, WrongStage, NotYours, NoSuchLeg}
-use Rattle.taf_messages.specs.declared.message.Body.{Body}
+use Rattle.hub_model.proofs.Common.{◌≡◌, ℕ, List, [], ◌∷◌, ◌++◌, map, Some, None, codes, refl, Call, Reply, Refused, Why, UnknownWagon, UnknownOffer, ConsignmentTaken, WagonBusy, WrongStage, NotYours, NoSuchLeg, Body, Release, Departure, YardArrival, YardDeparture, Exception, Estimate, Arrival, Delivery, reply_to, state_after}
 use Rattle.taf_messages.specs.declared.message.Body.TheVariants as body
-use Rattle.taf_messages.specs.declared.movement.MovementKind.TheVariants.{Release, Departure, YardArrival, YardDeparture, Exception, Estimate, Arrival, Delivery}
-use Rattle.hub_model.specs.Replies.{reply_to}
-use Rattle.hub_model.specs.Histories.{state_after}
 use Rattle.hub_model.proofs.ExampleWords.{w1, w2, w3, r100, r101, r102, border, send, moved, leg, trip, trip_of, departed}
 use Rattle.hub_model.proofs.Examples.{offered, answered}
 

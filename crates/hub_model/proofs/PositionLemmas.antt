@@ -1,26 +1,7 @@
 -- The first send of a name stands in the history at its position.
 use native.Mathlib.Omega.{arith}
-use Rattle.std.proofs.Common.{◌≡◌, ℕ, ◌+◌, Bool, true, false, cond, suc, List, [], ◌∷◌, length, Option, Some, None, refl, ap, ◌∙◌, sym}
-use Rattle.std.specs.Prelude.{is_some, slice_get, not, nat_lt}
-use Rattle.std.specs.Option.{option_or, option_and_then}
-use Rattle.std.specs.List.{fold, position_or_len}
-use Rattle.std.proofs.lemmas.Bool.{ltb-true, ltb-false}
-use Rattle.std.proofs.lemmas.Option.{slice_get_past}
-use Rattle.taf_codes.specs.declared.code.Railway.{Railway}
-use Rattle.taf_messages.specs.declared.call.Call.{Call}
-use Rattle.taf_messages.specs.declared.call.Call.TheVariants.{Send, Ask, AskUnit, Deviation, Fetch, Ack}
-use Rattle.taf_messages.specs.declared.reply.Reply.{Reply}
-use Rattle.taf_messages.specs.declared.reply.Reply.TheVariants.{Acknowledged}
-use Rattle.taf_messages.specs.declared.message.Message.{Message}
-use Rattle.journey.specs.Words.{oldest}
-use Rattle.replay_numbers.specs.Names.{same_name}
-use Rattle.hub_model.specs.declared.entry.Entry.{Entry}
-use Rattle.hub_model.specs.HubState.{HubState, FirstSend, new_state}
-use Rattle.hub_model.specs.Updates.{after_acceptance, after_new, after_call, after, is_accepted}
-use Rattle.hub_model.specs.AcceptedMessages.{send_of_name}
-use Rattle.hub_model.specs.Bounds.{StandsAt, FirstSendsStand}
+use Rattle.hub_model.proofs.Common.{◌≡◌, ℕ, ◌+◌, Bool, true, false, cond, suc, List, [], ◌∷◌, length, Option, Some, None, refl, ap, ◌∙◌, sym, is_some, slice_get, not, nat_lt, option_or, option_and_then, fold, position_or_len, ltb-true, ltb-false, slice_get_past, Railway, Call, Send, Ask, AskUnit, Deviation, Fetch, Ack, Reply, Acknowledged, Message, oldest, same_name, Entry, HubState, FirstSend, new_state, after_acceptance, after_new, after_call, after, is_accepted, send_of_name, StandsAt, FirstSendsStand, option_or-none, option_or_assoc}
 use Rattle.hub_model.proofs.NamedWagonLemmas.{from_same_name}
-use Rattle.journey.proofs.NewestLemmas.{option_or-none, option_or_assoc}
 
 -- the first of a name stays, and a message is the first of its name where there was none
 first_new : (s : HubState) (m : Message) (reply : Reply) (b : Bool) (by : Railway) (n : ℕ) → (cond b (after_acceptance s m) s).first_send by n ≡ s.first_send by n

@@ -1,29 +1,9 @@
 -- The railway that answers for a wagon is the last that received it.
-use Rattle.std.proofs.Common.{◌≡◌, ℕ, Bool, true, false, cond, List, [], ◌∷◌, ◌++◌, Option, Some, None, refl, ap, ◌∙◌, sym, eqb}
-use Rattle.std.specs.Prelude.{◌&&◌, ◌||◌, is_some, filter_map}
-use Rattle.std.specs.Option.{option_or, option_and_then}
-use Rattle.std.specs.List.{list_any, cons_option}
-use Rattle.std.proofs.lemmas.Bool.{false≢true}
-use Rattle.taf_codes.specs.declared.code.Railway.{Railway}
-use Rattle.trip_plan.specs.Rules.{has}
-use Rattle.taf_messages.specs.declared.message.Message.{Message}
-use Rattle.taf_messages.specs.declared.message.Body.{Body}
+use Rattle.hub_model.proofs.Common.{◌≡◌, ℕ, Bool, true, false, cond, List, [], ◌∷◌, ◌++◌, Option, Some, None, refl, ap, ◌∙◌, sym, eqb, ◌&&◌, ◌||◌, is_some, filter_map, option_or, option_and_then, list_any, cons_option, false≢true, Railway, has, Message, Body, MovementKind, Release, Departure, YardArrival, YardDeparture, Exception, Estimate, Arrival, Delivery, Event, Moved, Answered, newest, from_last, is_plan, is_departure, is_on_its_way, new_responsible, responsible-on_its_way, Offers, event_for, state_after, accepted_in, offers_in, event_if_named, events_from, receiver_in, last_receiver, LastReceiverAnswers, option_or-none}
 use Rattle.taf_messages.specs.declared.message.Body.TheVariants as body
-use Rattle.taf_messages.specs.declared.movement.MovementKind.{MovementKind}
-use Rattle.taf_messages.specs.declared.movement.MovementKind.TheVariants.{Release, Departure, YardArrival, YardDeparture, Exception, Estimate, Arrival, Delivery}
-use Rattle.journey.specs.declared.event.Event.{Event}
-use Rattle.journey.specs.declared.event.EventBody.TheVariants.{Moved, Answered}
-use Rattle.journey.specs.Words.{newest, from_last}
-use Rattle.journey.specs.Stages.{is_plan, is_departure, is_on_its_way, new_responsible}
-use Rattle.journey.proofs.OnItsWayLemmas.{responsible-on_its_way}
-use Rattle.hub_model.specs.HubState.{Offers, event_for}
-use Rattle.hub_model.specs.Histories.{state_after}
-use Rattle.hub_model.specs.AcceptedMessages.{accepted_in, offers_in, event_if_named, events_from}
-use Rattle.hub_model.specs.Responsibility.{receiver_in, last_receiver, LastReceiverAnswers}
 use Rattle.hub_model.proofs.NoFaultLemmas.{msg}
 use Rattle.hub_model.proofs.WagonEventLemmas.{journey_list}
 use Rattle.hub_model.proofs.DependencyLemmas.{has-left}
-use Rattle.journey.proofs.NewestLemmas.{option_or-none}
 
 abbrev took : Event → Option Railway
 took e = new_responsible e.by e.body

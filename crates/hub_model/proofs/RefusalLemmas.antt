@@ -1,33 +1,8 @@
 -- What a refusal tells a railway that is not involved in the wagon.
 use native.Mathlib.Omega.{arith}
-use Rattle.std.proofs.Common.{◌≡◌, ℕ, Bool, true, false, cond, not, zero, suc, List, [], ◌∷◌, length, drop, Option, Some, None, refl, ap, ◌∙◌, sym, subst, inl, inr}
-use Rattle.std.specs.Prelude.{is_some, is_none, slice_get, option_map}
-use Rattle.std.specs.Option.{option_or, option_eq}
-use Rattle.std.specs.List.{list_any}
-use Rattle.std.proofs.lemmas.Bool.{false≢true, not_from_false, false_from_ne_true}
-use Rattle.std.proofs.lemmas.Option.{none-some, same_Some}
-use Rattle.taf_codes.specs.declared.code.Railway.{Railway}
-use Rattle.taf_codes.specs.Words.{first_of}
-use Rattle.trip_plan.specs.declared.parts.Leg.{Leg}
-use Rattle.taf_messages.specs.declared.reply.Why.{Why}
-use Rattle.taf_messages.specs.declared.reply.Why.TheVariants.{UnknownWagon, WrongStage, NotYours, NoSuchLeg}
-use Rattle.taf_messages.specs.declared.message.Body.{Body}
+use Rattle.hub_model.proofs.Common.{◌≡◌, ℕ, Bool, true, false, cond, not, zero, suc, List, [], ◌∷◌, length, drop, Option, Some, None, refl, ap, ◌∙◌, sym, subst, inl, inr, is_some, is_none, slice_get, option_map, option_or, option_eq, list_any, false≢true, not_from_false, false_from_ne_true, none-some, same_Some, Railway, first_of, Leg, Why, UnknownWagon, WrongStage, NotYours, NoSuchLeg, Body, MovementKind, Release, Departure, YardArrival, YardDeparture, Exception, Estimate, Arrival, Delivery, Stage, Event, EventBody, Moved, EstimateAsked, LegTimed, Rerouted, stage, responsible, is_on_its_way, legs, lead_of, runner_of, journey_state, same_stage, is_in, is_lead, is_responsible, runs_leg, checks, refusal, Fault, HubState, fault, is_unknown, IsInvolved, only_wagon, LookAlike, RefusalsTellTheStage}
 use Rattle.taf_messages.specs.declared.message.Body.TheVariants as body
-use Rattle.taf_messages.specs.declared.movement.MovementKind.{MovementKind}
-use Rattle.taf_messages.specs.declared.movement.MovementKind.TheVariants.{Release, Departure, YardArrival, YardDeparture, Exception, Estimate, Arrival, Delivery}
-use Rattle.taf_messages.specs.declared.record.Stage.{Stage}
 use Rattle.taf_messages.specs.declared.record.Stage.TheVariants as stage_is
-use Rattle.journey.specs.declared.event.Event.{Event}
-use Rattle.journey.specs.declared.event.EventBody.{EventBody}
-use Rattle.journey.specs.declared.event.EventBody.TheVariants.{Moved, EstimateAsked, LegTimed, Rerouted}
-use Rattle.journey.specs.Stages.{stage, responsible, is_on_its_way}
-use Rattle.journey.specs.Legs.{legs, lead_of, runner_of}
-use Rattle.journey.specs.JourneyStates.{journey_state}
-use Rattle.journey.specs.Checks.{same_stage, is_in, is_lead, is_responsible, runs_leg, checks, refusal}
-use Rattle.hub_model.specs.declared.fault.Fault.{Fault}
-use Rattle.hub_model.specs.HubState.{HubState}
-use Rattle.hub_model.specs.Faults.{fault, is_unknown}
-use Rattle.hub_model.specs.NeedToKnow.{IsInvolved, only_wagon, LookAlike, RefusalsTellTheStage}
 use Rattle.hub_model.proofs.NoFaultLemmas.{msg}
 use Rattle.hub_model.proofs.ResponsibleEventLemmas.{text_is}
 use Rattle.hub_model.proofs.NeedToKnowLemmas.{in_runners}

@@ -1,28 +1,11 @@
 -- Worked histories, computed: what is fetched, shown and replied along the way.
-use Rattle.std.specs.Prelude.{◌≡◌, ℕ, List, [], ◌∷◌, ◌++◌, map, length, Bool, Option, Some, None, true, false, codes, refl}
-use Rattle.taf_moment.specs.Calendar.{last_minute}
-use Rattle.taf_messages.specs.declared.call.Call.TheVariants.{Ask, Deviation, Fetch}
-use Rattle.taf_messages.specs.declared.reply.Reply.TheVariants.{Accepted, Refused, Acknowledged}
+use Rattle.hub_model.proofs.Common.{◌≡◌, ℕ, List, [], ◌∷◌, ◌++◌, map, length, Bool, Option, Some, None, true, false, codes, refl, last_minute, Ask, Deviation, Fetch, Accepted, Refused, Acknowledged, Body, Release, Departure, YardDeparture, Exception, Estimate, Arrival, Delivery, Railway, Place, Stage, Status, stage, leg_index, responsible, place, estimates, eta, late_by, accepted_in, last_receiver, reply_to, view, run, state_after, is_apart}
 use Rattle.taf_messages.specs.declared.reply.Reply.TheVariants as reply_is
 use Rattle.taf_messages.specs.declared.reply.Why.TheVariants as why
 use Rattle.taf_messages.specs.declared.item.ItemBody.TheVariants as item
-use Rattle.taf_messages.specs.declared.message.Body.{Body}
 use Rattle.taf_messages.specs.declared.message.Body.TheVariants as body
-use Rattle.taf_messages.specs.declared.movement.MovementKind.TheVariants.{Release, Departure, YardDeparture, Exception, Estimate, Arrival, Delivery}
-use Rattle.taf_codes.specs.declared.code.Railway.{Railway}
-use Rattle.taf_codes.specs.declared.code.Place.{Place}
-use Rattle.taf_messages.specs.declared.record.Stage.{Stage}
-use Rattle.taf_messages.specs.declared.record.Status.{Status}
 use Rattle.taf_messages.specs.declared.record.Stage.TheVariants as stage_is
 use Rattle.taf_messages.specs.declared.record.Status.TheVariants as status_is
-use Rattle.journey.specs.Stages.{stage, leg_index, responsible}
-use Rattle.journey.specs.Legs.{place}
-use Rattle.eti_chain.specs.Estimates.{estimates, eta, late_by}
-use Rattle.hub_model.specs.AcceptedMessages.{accepted_in}
-use Rattle.hub_model.specs.Responsibility.{last_receiver}
-use Rattle.hub_model.specs.Replies.{reply_to, view}
-use Rattle.hub_model.specs.Histories.{run, state_after}
-use Rattle.hub_model.specs.Overtaking.{is_apart}
 use Rattle.hub_model.proofs.ExampleWords.{w1, w2, w3, r100, r101, r102, border, send, moved, trip, trip_of, departed, many}
 use Rattle.hub_model.proofs.Examples.{unready, offered, answered, delayed}
 use Rattle.hub_model.proofs.MoreExamples.{delivered, withdrawn}

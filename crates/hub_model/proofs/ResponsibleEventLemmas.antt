@@ -1,28 +1,6 @@
 -- What one more event of a journey changes of the responsible railway.
-use Rattle.std.proofs.Common.{◌≡◌, ◌⊎◌, ℕ, Bool, true, false, cond, not, List, [], ◌∷◌, ◌++◌, Option, Some, None, refl, ap, ◌∙◌, sym, inl, inr}
-use Rattle.std.specs.Prelude.{◌&&◌, ◌||◌, is_some}
-use Rattle.std.specs.Option.{option_or, option_eq, option_flatten}
-use Rattle.std.proofs.lemmas.Bool.{false≢true, not-false, not_from_true, or_from, and_right, cond-false}
-use Rattle.std.proofs.lemmas.Option.{none-some, same_Some, cond_some}
-use Rattle.std.proofs.lemmas.List.Folds.{list_any-append}
-use Rattle.std.proofs.lemmas.Slice.Eq.{bytes_eq-Decides}
-use Rattle.taf_codes.specs.declared.code.Railway.{Railway}
-use Rattle.taf_codes.specs.Words.{is_text}
-use Rattle.taf_messages.specs.declared.movement.MovementKind.{MovementKind}
-use Rattle.taf_messages.specs.declared.movement.MovementKind.TheVariants.{Release, Departure, YardArrival, YardDeparture, Exception, Estimate, Arrival, Delivery}
-use Rattle.taf_messages.specs.declared.record.Stage.{Stage}
+use Rattle.hub_model.proofs.Common.{◌≡◌, ◌⊎◌, ℕ, Bool, true, false, cond, not, List, [], ◌∷◌, ◌++◌, Option, Some, None, refl, ap, ◌∙◌, sym, inl, inr, ◌&&◌, ◌||◌, is_some, option_or, option_eq, option_flatten, false≢true, not-false, not_from_true, or_from, and_right, cond-false, none-some, same_Some, cond_some, list_any-append, bytes_eq-Decides, Railway, is_text, MovementKind, Release, Departure, YardArrival, YardDeparture, Exception, Estimate, Arrival, Delivery, Stage, Event, EventBody, Planned, Moved, EstimateAsked, LegTimed, Offered, Answered, Withdrawn, Rerouted, newest, stage, stage_after, moved_to, has_departed, is_departure, is_delivered, is_delivery, is_reception, is_plan, new_responsible, responsible, journey_state, responsible_in, checks, movement_checks, refusal, same_stage, stage-push, in_offer, offering, offering_by, in_offer-push, journey_state-push, passed, taken_by}
 use Rattle.taf_messages.specs.declared.record.Stage.TheVariants as stage_is
-use Rattle.journey.specs.declared.event.Event.{Event}
-use Rattle.journey.specs.declared.event.EventBody.{EventBody}
-use Rattle.journey.specs.declared.event.EventBody.TheVariants.{Planned, Moved, EstimateAsked, LegTimed, Offered, Answered, Withdrawn, Rerouted}
-use Rattle.journey.specs.Words.{newest}
-use Rattle.journey.specs.Stages.{stage, stage_after, moved_to, has_departed, is_departure, is_delivered, is_delivery, is_reception, is_plan, new_responsible, responsible}
-use Rattle.journey.specs.JourneyStates.{journey_state, responsible_in}
-use Rattle.journey.specs.Checks.{checks, movement_checks, refusal, same_stage}
-use Rattle.journey.proofs.LegPositionLemmas.{stage-push}
-use Rattle.journey.proofs.OfferStageLemmas.{in_offer, offering, offering_by, in_offer-push}
-use Rattle.journey.proofs.SoundStateLemmas.{journey_state-push, passed}
-use Rattle.journey.proofs.OnItsWayLemmas.{taken_by}
 
 -- before the departure
 abbrev is_early : Option Stage → Bool

@@ -1,18 +1,10 @@
 -- Worked reroutes, computed.
-use Rattle.std.specs.Prelude.{◌≡◌, ℕ, List, [], ◌∷◌, ◌++◌, length, Some, None, codes, refl}
-use Rattle.taf_messages.specs.declared.call.Call.{Call}
-use Rattle.taf_messages.specs.declared.call.Call.TheVariants.{Ask}
-use Rattle.taf_messages.specs.declared.reply.Reply.TheVariants.{Accepted, Refused}
+use Rattle.hub_model.proofs.Common.{◌≡◌, ℕ, List, [], ◌∷◌, ◌++◌, length, Some, None, codes, refl, Call, Ask, Accepted, Refused, eta, estimate, reply_to, state_after, Leg, Body}
 use Rattle.taf_messages.specs.declared.reply.Why.TheVariants as why
 use Rattle.taf_messages.specs.declared.item.ItemBody.TheVariants as item
 use Rattle.taf_messages.specs.declared.message.Body.TheVariants as body
-use Rattle.eti_chain.specs.Estimates.{eta, estimate}
-use Rattle.hub_model.specs.Replies.{reply_to}
-use Rattle.hub_model.specs.Histories.{state_after}
 use Rattle.hub_model.proofs.ExampleWords.{w1, r100, r101, r102, r103, border, send, leg, departed}
 use Rattle.hub_model.proofs.Examples.{answered}
-use Rattle.trip_plan.specs.declared.parts.Leg.{Leg}
-use Rattle.taf_messages.specs.declared.message.Body.{Body}
 
 -- a leg of 180 minutes to a new end
 abbrev to : List ℕ → List ℕ → Body

@@ -1,29 +1,7 @@
 -- First sends and acknowledgements that are carried along are those of the calls.
-use Rattle.std.proofs.Common.{◌≡◌, ℕ, Bool, true, false, cond, not, List, [], ◌∷◌, Option, Some, None, refl, ap, ◌∙◌, sym}
-use Rattle.std.specs.Prelude.{◌&&◌, max, is_none, bytes_eq}
-use Rattle.std.specs.Option.{option_or}
-use Rattle.std.specs.List.{fold}
-use Rattle.std.proofs.lemmas.Slice.Eq.{bytes_eq-Decides}
-use Rattle.std.proofs.lemmas.List.Sums.{fold-append}
-use Rattle.taf_codes.specs.declared.code.Railway.{Railway}
-use Rattle.taf_messages.specs.declared.call.Call.{Call}
-use Rattle.taf_messages.specs.declared.call.Call.TheVariants.{Send, Ask, AskUnit, Deviation, Fetch, Ack}
-use Rattle.taf_messages.specs.declared.reply.Reply.{Reply}
-use Rattle.taf_messages.specs.declared.reply.Reply.TheVariants.{Refused, Acknowledged}
-use Rattle.taf_messages.specs.declared.reply.Why.TheVariants.{AckAhead}
-use Rattle.taf_messages.specs.declared.message.Message.{Message}
-use Rattle.journey.specs.Words.{oldest}
-use Rattle.outbox.specs.Numbering.{is_ahead}
-use Rattle.replay_numbers.specs.Names.{same_name}
-use Rattle.hub_model.specs.HubState.{HubState, FirstSend, new_state}
-use Rattle.hub_model.specs.Faults.{fault}
-use Rattle.hub_model.specs.Replies.{reply_to, send_reply, verdict}
-use Rattle.hub_model.specs.Updates.{after_call}
-use Rattle.hub_model.specs.Histories.{step}
-use Rattle.hub_model.specs.AcceptedMessages.{send_of_name, entries_from, acknowledged_by, acknowledged_from, greatest}
+use Rattle.hub_model.proofs.Common.{◌≡◌, ℕ, Bool, true, false, cond, not, List, [], ◌∷◌, Option, Some, None, refl, ap, ◌∙◌, sym, ◌&&◌, max, is_none, bytes_eq, option_or, fold, bytes_eq-Decides, fold-append, Railway, Call, Send, Ask, AskUnit, Deviation, Fetch, Ack, Reply, Refused, Acknowledged, AckAhead, Message, oldest, is_ahead, same_name, HubState, FirstSend, new_state, fault, reply_to, send_reply, verdict, after_call, step, send_of_name, entries_from, acknowledged_by, acknowledged_from, greatest, option_or-none, option_or_assoc}
 use Rattle.hub_model.proofs.NamedWagonLemmas.{from_same_name}
 use Rattle.hub_model.proofs.StepLemmas.{step-first_send, step-acknowledged}
-use Rattle.journey.proofs.NewestLemmas.{option_or-none, option_or_assoc}
 
 -- the first of a name stays, and a message is the first of its name where there was none
 first_cases : (s : HubState) (m : Message) (first before : Option FirstSend) (same : Bool) → (same ≡ true → before ≡ first) →

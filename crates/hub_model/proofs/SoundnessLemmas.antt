@@ -1,27 +1,7 @@
 -- What every legal history keeps of offers and wagons.
-use Rattle.std.proofs.Common.{◌≡◌, ℕ, Bool, true, false, cond, List, [], ◌∷◌, Option, Some, None, refl, ◌∙◌, sym, inl, inr}
-use Rattle.std.specs.Prelude.{unwrap_or}
-use Rattle.std.specs.Option.{option_or}
-use Rattle.std.proofs.lemmas.Bool.{true≢false, false≢true, cond_both, cases_Bool}
-use Rattle.taf_codes.specs.declared.code.Railway.{Railway}
-use Rattle.trip_plan.specs.Rules.{has}
-use Rattle.taf_messages.specs.declared.reply.Why.TheVariants.{UnknownWagon, WagonBusy}
-use Rattle.taf_messages.specs.declared.message.Message.{Message}
-use Rattle.taf_messages.specs.declared.message.TrainOffer.{TrainOffer}
-use Rattle.taf_messages.specs.declared.message.Body.{Body}
+use Rattle.hub_model.proofs.Common.{◌≡◌, ℕ, Bool, true, false, cond, List, [], ◌∷◌, Option, Some, None, refl, ◌∙◌, sym, inl, inr, unwrap_or, option_or, true≢false, false≢true, cond_both, cases_Bool, Railway, has, UnknownWagon, WagonBusy, Message, TrainOffer, Body, Event, EventBody, Planned, Moved, EstimateAsked, LegTimed, Offered, Answered, Withdrawn, Rerouted, stage, is_delivered, refusal, in_offer, offering_by, stage_in_offer, in_offer-push, in_offer-kept, settles, StaysDelivered, delivered-kept, wagons_of, same_name, HubState, new_state, named_wagons, event_for, event_body_for, with_event, journey_after, fault, known_fault, is_unknown, is_busy, after_acceptance, opening_given, offer_given}
 use Rattle.taf_messages.specs.declared.message.Body.TheVariants as body
 use Rattle.taf_messages.specs.declared.record.Stage.TheVariants as stage_is
-use Rattle.journey.specs.declared.event.Event.{Event}
-use Rattle.journey.specs.declared.event.EventBody.{EventBody}
-use Rattle.journey.specs.declared.event.EventBody.TheVariants.{Planned, Moved, EstimateAsked, LegTimed, Offered, Answered, Withdrawn, Rerouted}
-use Rattle.journey.specs.Stages.{stage, is_delivered}
-use Rattle.journey.specs.Checks.{refusal}
-use Rattle.journey.proofs.OfferStageLemmas.{in_offer, offering_by, stage_in_offer, in_offer-push, in_offer-kept, settles, StaysDelivered, delivered-kept}
-use Rattle.interchange.specs.Offers.{wagons_of}
-use Rattle.replay_numbers.specs.Names.{same_name}
-use Rattle.hub_model.specs.HubState.{HubState, new_state, named_wagons, event_for, event_body_for, with_event, journey_after}
-use Rattle.hub_model.specs.Faults.{fault, known_fault, is_unknown, is_busy}
-use Rattle.hub_model.specs.Updates.{after_acceptance, opening_given, offer_given}
 use Rattle.hub_model.proofs.NamedWagonLemmas.{same_name_true, from_same_name, some_name, some_pair}
 use Rattle.hub_model.proofs.NoFaultLemmas.{no_whole_fault, no_named_fault, goes_on, known_allowed, planned_anew, listed, answer_fits, withdraw_fits, msg, no_known_fault}
 

@@ -1,26 +1,5 @@
 -- What one more message changes of each look-up.
-use Rattle.std.proofs.Common.{◌≡◌, ℕ, Bool, true, false, cond, List, [], ◌∷◌, ◌++◌, Option, Some, None, refl, ap, ◌∙◌, sym, append-nil}
-use Rattle.std.specs.Prelude.{◌&&◌, is_some, is_none, unwrap_or}
-use Rattle.std.specs.Option.{option_or}
-use Rattle.std.proofs.lemmas.List.Sums.{fold-append}
-use Rattle.taf_codes.specs.declared.code.Railway.{Railway}
-use Rattle.taf_codes.specs.declared.code.UnitCode.{UnitCode}
-use Rattle.taf_codes.specs.declared.name.ConsignmentId.{ConsignmentId}
-use Rattle.taf_messages.specs.declared.call.Call.{Call}
-use Rattle.taf_messages.specs.declared.call.Call.TheVariants.{Send}
-use Rattle.taf_messages.specs.declared.reply.Reply.TheVariants.{Accepted}
-use Rattle.taf_messages.specs.declared.item.ItemBody.{ItemBody}
-use Rattle.taf_messages.specs.declared.message.Message.{Message}
-use Rattle.replay_numbers.specs.Names.{same_name}
-use Rattle.hub_model.specs.declared.entry.Entry.{Entry}
-use Rattle.hub_model.specs.HubState.{HubState, FirstSend, new_state, journey_after}
-use Rattle.hub_model.specs.declared.fault.Fault.{Fault}
-use Rattle.hub_model.specs.Faults.{fault}
-use Rattle.hub_model.specs.Items.{items_of, items_to}
-use Rattle.hub_model.specs.Replies.{send_reply, verdict}
-use Rattle.hub_model.specs.Updates.{after_acceptance, with_first_send, after_new, after, plan_given, unit_plan_given, offer_given, opening_given}
-use Rattle.hub_model.specs.Histories.{state_of, state_after, step}
-use Rattle.hub_model.specs.AcceptedMessages.{accepts}
+use Rattle.hub_model.proofs.Common.{◌≡◌, ℕ, Bool, true, false, cond, List, [], ◌∷◌, ◌++◌, Option, Some, None, refl, ap, ◌∙◌, sym, append-nil, ◌&&◌, is_some, is_none, unwrap_or, option_or, fold-append, Railway, UnitCode, ConsignmentId, Call, Send, Accepted, ItemBody, Message, same_name, Entry, HubState, FirstSend, new_state, journey_after, Fault, fault, items_of, items_to, send_reply, verdict, after_acceptance, with_first_send, after_new, after, plan_given, unit_plan_given, offer_given, opening_given, state_of, state_after, step, accepts}
 
 -- one more entry, and one more call
 pub state_of-push : (history : List Entry) (e : Entry) → state_of (history ++ e ∷ []) ≡ after (state_of history) e

@@ -1,23 +1,12 @@
 -- Worked intermodal units, computed.
-use Rattle.std.specs.Prelude.{◌≡◌, ℕ, List, [], ◌∷◌, ◌++◌, Some, None, true, false, codes, refl}
-use Rattle.trip_plan.specs.declared.parts.Load.TheVariants.{Loaded}
-use Rattle.taf_messages.specs.declared.call.Call.{Call}
-use Rattle.taf_messages.specs.declared.call.Call.TheVariants.{AskUnit}
-use Rattle.taf_messages.specs.declared.reply.Reply.TheVariants.{Accepted, Refused, Acknowledged}
+use Rattle.hub_model.proofs.Common.{◌≡◌, ℕ, List, [], ◌∷◌, ◌++◌, Some, None, true, false, codes, refl, Loaded, Call, AskUnit, Accepted, Refused, Acknowledged, Release, Departure, Arrival, Delivery, reply_to, run, state_after, unit_wagon, is_apart, Trip, UnitLoad}
 use Rattle.taf_messages.specs.declared.reply.Reply.TheVariants as reply_is
 use Rattle.taf_messages.specs.declared.reply.Why.TheVariants as why
 use Rattle.taf_messages.specs.declared.event.RecordEventKind.TheVariants as shown_as
 use Rattle.taf_messages.specs.declared.message.Body.TheVariants as body
-use Rattle.taf_messages.specs.declared.movement.MovementKind.TheVariants.{Release, Departure, Arrival, Delivery}
 use Rattle.taf_messages.specs.declared.record.Stage.TheVariants as stage_is
 use Rattle.taf_messages.specs.declared.record.Status.TheVariants as status_is
-use Rattle.hub_model.specs.Replies.{reply_to}
-use Rattle.hub_model.specs.Histories.{run, state_after}
-use Rattle.hub_model.specs.Units.{unit_wagon}
-use Rattle.hub_model.specs.Overtaking.{is_apart}
 use Rattle.hub_model.proofs.ExampleWords.{w1, w2, w3, r100, r102, border, send, moved, leg, trip}
-use Rattle.trip_plan.specs.Trip.{Trip}
-use Rattle.trip_plan.specs.declared.parts.UnitLoad.{UnitLoad}
 
 abbrev unit : List ℕ
 unit = codes "CSQU3054383"

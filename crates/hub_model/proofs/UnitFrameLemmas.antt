@@ -1,39 +1,12 @@
 -- A message leaves the units that it doesn't count with as busy as they were.
-use Rattle.std.proofs.Common.{◌≡◌, ℕ, Bool, true, false, cond, not, List, [], ◌∷◌, ◌++◌, Option, Some, None, refl, ap, ◌∙◌, sym, subst, inl, inr}
-use Rattle.std.specs.Prelude.{is_some, is_none, option_map, bytes_eq}
-use Rattle.std.specs.Option.{option_or, option_map_or, option_and_then}
-use Rattle.std.proofs.lemmas.Bool.{and_parts, or_left, or_right, cases_Bool, false≢true, true≢false}
-use Rattle.std.proofs.lemmas.Slice.Eq.{bytes_eq-Decides}
-use Rattle.taf_codes.specs.declared.code.UnitCode.{UnitCode}
-use Rattle.taf_codes.specs.Words.{is_text}
-use Rattle.trip_plan.specs.Trip.{Trip}
-use Rattle.trip_plan.specs.Rules.{has, loads}
-use Rattle.taf_messages.specs.declared.call.Call.{Call}
-use Rattle.taf_messages.specs.declared.call.Call.TheVariants.{Send}
-use Rattle.taf_messages.specs.declared.reply.Why.TheVariants.{ConsignmentTaken}
-use Rattle.taf_messages.specs.declared.message.Message.{Message}
-use Rattle.taf_messages.specs.declared.message.Body.{Body}
+use Rattle.hub_model.proofs.Common.{◌≡◌, ℕ, Bool, true, false, cond, not, List, [], ◌∷◌, ◌++◌, Option, Some, None, refl, ap, ◌∙◌, sym, subst, inl, inr, is_some, is_none, option_map, bytes_eq, option_or, option_map_or, option_and_then, and_parts, or_left, or_right, cases_Bool, false≢true, true≢false, bytes_eq-Decides, UnitCode, is_text, Trip, has, loads, Call, Send, ConsignmentTaken, Message, Body, Event, EventBody, Planned, newest, plan, plan_in, is_plan, is_delivered, plan-push, HubState, named_wagons, event_for, event_body_for, with_event, journey_after, is_on_plan, loaded_on, wagon_by, unit_wagon, is_unit_busy, units_in, fault, whole_fault, plan_given, unit_plan_given, step, state_after, accepts, accepted_in, affected_wagons, affects_unit, some_left, some_right}
 use Rattle.taf_messages.specs.declared.message.Body.TheVariants as body
-use Rattle.journey.specs.declared.event.Event.{Event}
-use Rattle.journey.specs.declared.event.EventBody.{EventBody}
-use Rattle.journey.specs.declared.event.EventBody.TheVariants.{Planned}
-use Rattle.journey.specs.Words.{newest}
-use Rattle.journey.specs.Stages.{plan, plan_in, is_plan, is_delivered}
-use Rattle.journey.proofs.LegPositionLemmas.{plan-push}
-use Rattle.hub_model.specs.HubState.{HubState, named_wagons, event_for, event_body_for, with_event, journey_after}
-use Rattle.hub_model.specs.Units.{is_on_plan, loaded_on, wagon_by, unit_wagon, is_unit_busy, units_in}
-use Rattle.hub_model.specs.Faults.{fault, whole_fault}
-use Rattle.hub_model.specs.Updates.{plan_given, unit_plan_given}
-use Rattle.hub_model.specs.Histories.{step, state_after}
-use Rattle.hub_model.specs.AcceptedMessages.{accepts, accepted_in}
-use Rattle.hub_model.specs.Overtaking.{affected_wagons, affects_unit}
 use Rattle.hub_model.proofs.NoFaultLemmas.{no_whole_fault, planned_anew}
 use Rattle.hub_model.proofs.OfferOpeningLemmas.{none_fault}
 use Rattle.hub_model.proofs.ListLemmas.{plan_of_list, unit_plan_list}
 use Rattle.hub_model.proofs.StepLemmas.{step-journey}
 use Rattle.hub_model.proofs.FrameLemmas.{journey-other, unit_plan-other}
 use Rattle.hub_model.proofs.ApartLemmas.{counts_named}
-use Rattle.journey.proofs.OnItsWayLemmas.{some_left, some_right}
 
 -- the plan of a unit is the plan of its consignment
 abbrev pub KnowsPlans : HubState → Type 0

@@ -1,30 +1,6 @@
 -- An event by the offers known before its message is the event by the offers of the whole list.
-use Rattle.std.proofs.Common.{◌≡◌, ℕ, Bool, true, false, cond, List, [], ◌∷◌, ◌++◌, Option, Some, None, refl, ap, ◌∙◌, sym, inl, inr}
-use Rattle.std.specs.Prelude.{◌&&◌, is_some, is_none, filter_map}
-use Rattle.std.specs.Option.{option_or}
-use Rattle.std.specs.List.{fold, cons_option}
-use Rattle.std.proofs.lemmas.Bool.{and_parts, cases_Bool, false≢true}
-use Rattle.std.proofs.lemmas.List.Elements.{filter_map-append}
-use Rattle.taf_codes.specs.declared.code.Railway.{Railway}
-use Rattle.trip_plan.specs.Rules.{has}
-use Rattle.taf_messages.specs.declared.call.Call.{Call}
-use Rattle.taf_messages.specs.declared.call.Call.TheVariants.{Send, Ask, AskUnit, Deviation, Fetch, Ack}
-use Rattle.taf_messages.specs.declared.reply.Reply.{Reply}
-use Rattle.taf_messages.specs.declared.reply.Reply.TheVariants.{Acknowledged}
-use Rattle.taf_messages.specs.declared.message.Message.{Message}
-use Rattle.taf_messages.specs.declared.message.Body.{Body}
+use Rattle.hub_model.proofs.Common.{◌≡◌, ℕ, Bool, true, false, cond, List, [], ◌∷◌, ◌++◌, Option, Some, None, refl, ap, ◌∙◌, sym, inl, inr, ◌&&◌, is_some, is_none, filter_map, option_or, fold, cons_option, and_parts, cases_Bool, false≢true, filter_map-append, Railway, has, Call, Send, Ask, AskUnit, Deviation, Fetch, Ack, Reply, Acknowledged, Message, Body, Event, from_last, is_plan, passed, same_name, HubState, FirstSend, Offers, new_state, named_wagons, event_for, fault, whole_checks, reply_to, verdict, after_call, offer_given, step, accepts, accepted_message, accepted_from, offers_in, event_if_named, events_from}
 use Rattle.taf_messages.specs.declared.message.Body.TheVariants as body
-use Rattle.journey.specs.declared.event.Event.{Event}
-use Rattle.journey.specs.Words.{from_last}
-use Rattle.journey.specs.Stages.{is_plan}
-use Rattle.journey.proofs.SoundStateLemmas.{passed}
-use Rattle.replay_numbers.specs.Names.{same_name}
-use Rattle.hub_model.specs.HubState.{HubState, FirstSend, Offers, new_state, named_wagons, event_for}
-use Rattle.hub_model.specs.Faults.{fault, whole_checks}
-use Rattle.hub_model.specs.Replies.{reply_to, verdict}
-use Rattle.hub_model.specs.Updates.{after_call, offer_given}
-use Rattle.hub_model.specs.Histories.{step}
-use Rattle.hub_model.specs.AcceptedMessages.{accepts, accepted_message, accepted_from, offers_in, event_if_named, events_from}
 use Rattle.hub_model.proofs.NamedWagonLemmas.{from_same_name}
 use Rattle.hub_model.proofs.NoFaultLemmas.{no_whole_fault, msg}
 use Rattle.hub_model.proofs.StepLemmas.{step-offer, step-first_send}

@@ -1,21 +1,8 @@
 -- The lists that the look-ups are of, without any state that is carried along.
 use Rattle.std.specs.Prelude.{◌≡◌, ℕ, max, Bool, false, not, ◌&&◌, if◌then◌else◌, List, [], ◌∷◌, ◌++◌, fold, filter_map, flat_map, Option, Some, None, is_none, bytes_eq}
 use Rattle.std.specs.List.{list_any}
-use Rattle.taf_codes.specs.declared.code.Railway.{Railway}
-use Rattle.taf_codes.specs.declared.code.UnitCode.{UnitCode}
-use Rattle.taf_codes.specs.declared.name.ConsignmentId.{ConsignmentId}
-use Rattle.trip_plan.specs.Rules.{has}
-use Rattle.taf_messages.specs.declared.call.Call.{Call}
-use Rattle.taf_messages.specs.declared.call.Call.TheVariants.{Send, Ack}
-use Rattle.taf_messages.specs.declared.reply.Reply.{Reply}
-use Rattle.taf_messages.specs.declared.message.Message.{Message}
-use Rattle.taf_messages.specs.declared.message.Body.{Body}
+use Rattle.hub_model.specs.Common.{Railway, UnitCode, ConsignmentId, has, Call, Send, Ack, Reply, Message, Body, Event, newest, oldest, from_last, is_plan, is_ahead, same_name}
 use Rattle.taf_messages.specs.declared.message.Body.TheVariants as body
-use Rattle.journey.specs.declared.event.Event.{Event}
-use Rattle.journey.specs.Words.{newest, oldest, from_last}
-use Rattle.journey.specs.Stages.{is_plan}
-use Rattle.outbox.specs.Numbering.{is_ahead}
-use Rattle.replay_numbers.specs.Names.{same_name}
 use Rattle.hub_model.specs.declared.entry.Entry.{Entry}
 use Rattle.hub_model.specs.HubState.{HubState, FirstSend, Offers, new_state, named_wagons, event_for}
 use Rattle.hub_model.specs.Faults.{fault}

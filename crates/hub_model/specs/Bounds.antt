@@ -1,13 +1,8 @@
 -- How many legs, events and items there are at most.
 use Rattle.std.specs.Prelude.{◌≡◌, ◌≤◌, ◌<◌, ◌*◌, ℕ, false, List, length, position, slice_get, Option, Some, None, is_some}
 use Rattle.std.specs.Option.{option_and_then}
-use Rattle.taf_codes.specs.declared.code.Railway.{Railway}
-use Rattle.taf_messages.specs.declared.message.Message.{Message}
-use Rattle.taf_messages.specs.declared.message.Body.{Body}
+use Rattle.hub_model.specs.Common.{Railway, Message, Body, Event, leg_index, legs}
 use Rattle.taf_messages.specs.declared.message.Body.TheVariants as body
-use Rattle.journey.specs.declared.event.Event.{Event}
-use Rattle.journey.specs.Stages.{leg_index}
-use Rattle.journey.specs.Legs.{legs}
 use Rattle.hub_model.specs.declared.entry.Entry.{Entry}
 use Rattle.hub_model.specs.Faults.{fault, is_unknown}
 use Rattle.hub_model.specs.Items.{items_of}

@@ -1,15 +1,7 @@
 -- How responsibility for a wagon passes from one railway to the next (4.2.7, 4.2.8).
 use Rattle.std.specs.Prelude.{◌≡◌, ◌⊎◌, ℕ, ◌==◌, Bool, true, false, ◌&&◌, List, [], ◌∷◌, ◌++◌, Some}
-use Rattle.taf_codes.specs.declared.code.Railway.{Railway}
-use Rattle.trip_plan.specs.Rules.{has}
-use Rattle.taf_messages.specs.declared.call.Call.{Call}
-use Rattle.taf_messages.specs.declared.call.Call.TheVariants.{Send}
-use Rattle.taf_messages.specs.declared.message.Message.{Message}
-use Rattle.taf_messages.specs.declared.message.Body.{Body}
+use Rattle.hub_model.specs.Common.{Railway, has, Call, Send, Message, Body, Moved, is_delivery, responsible, asked_by}
 use Rattle.taf_messages.specs.declared.message.Body.TheVariants as body
-use Rattle.journey.specs.declared.event.EventBody.TheVariants.{Moved}
-use Rattle.journey.specs.Stages.{is_delivery, responsible}
-use Rattle.interchange.specs.Offers.{asked_by}
 use Rattle.hub_model.specs.declared.entry.Entry.{Entry}
 use Rattle.hub_model.specs.HubState.{HubState}
 use Rattle.hub_model.specs.Histories.{IsLegal, answer, state_of, state_after}

@@ -1,19 +1,8 @@
 -- Why a new message is refused (4.2.7, 4.2.8).
 use Rattle.std.specs.Prelude.{ℕ, Bool, true, false, not, ◌&&◌, if◌then◌else◌, List, [], ◌∷◌, ◌++◌, Option, Some, None, is_some, is_none, option_map}
 use Rattle.std.specs.Option.{option_or}
-use Rattle.taf_codes.specs.declared.code.Railway.{Railway}
-use Rattle.taf_codes.specs.Words.{first_of, is_text}
-use Rattle.trip_plan.specs.declared.parts.UnitLoad.{UnitLoad}
-use Rattle.taf_messages.specs.declared.reply.Why.{Why}
-use Rattle.taf_messages.specs.declared.reply.Why.TheVariants.{UnknownWagon, UnknownOffer, ConsignmentTaken, WagonBusy, UnitBusy, NotYours, OfferClosed, ListsDiffer, BeyondCalendar}
-use Rattle.taf_messages.specs.declared.message.Message.{Message}
-use Rattle.taf_messages.specs.declared.message.Body.{Body}
+use Rattle.hub_model.specs.Common.{Railway, first_of, is_text, UnitLoad, Why, UnknownWagon, UnknownOffer, ConsignmentTaken, WagonBusy, UnitBusy, NotYours, OfferClosed, ListsDiffer, BeyondCalendar, Message, Body, Event, is_delivered, refusal, matches, wagons_of, asked_by, fits, is_calendar_checked}
 use Rattle.taf_messages.specs.declared.message.Body.TheVariants as body
-use Rattle.journey.specs.declared.event.Event.{Event}
-use Rattle.journey.specs.Stages.{is_delivered}
-use Rattle.journey.specs.Checks.{refusal}
-use Rattle.interchange.specs.Offers.{matches, wagons_of, asked_by}
-use Rattle.eti_chain.specs.Estimates.{fits, is_calendar_checked}
 use Rattle.hub_model.specs.declared.fault.Fault.{Fault}
 use Rattle.hub_model.specs.HubState.{HubState, named_wagons, event_body_for, journey_after}
 use Rattle.hub_model.specs.Units.{is_unit_busy, units_in}

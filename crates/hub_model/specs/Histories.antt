@@ -1,7 +1,6 @@
 -- What is known after a history, which histories are legal, and the run of calls.
 use Rattle.std.specs.Prelude.{◌≡◌, List, [], ◌∷◌, fold}
-use Rattle.taf_messages.specs.declared.call.Call.{Call}
-use Rattle.taf_messages.specs.declared.reply.Reply.{Reply}
+use Rattle.hub_model.specs.Common.{Call, Reply}
 use Rattle.hub_model.specs.declared.entry.Entry.{Entry}
 use Rattle.hub_model.specs.HubState.{HubState, new_state}
 use Rattle.hub_model.specs.Replies.{reply_to}

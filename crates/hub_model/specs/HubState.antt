@@ -1,23 +1,7 @@
 -- What the hub has to look up, and what a message says of the wagons that it names (4.2.7, 4.2.8).
 use Rattle.std.specs.Prelude.{ℕ, Bool, false, if◌then◌else◌, List, [], ◌∷◌, ◌++◌, Option, Some, None}
-use Rattle.wagon_number.specs.declared.number.WagonNumber.{WagonNumber}
-use Rattle.taf_codes.specs.declared.code.Railway.{Railway}
-use Rattle.taf_codes.specs.declared.code.UnitCode.{UnitCode}
-use Rattle.taf_codes.specs.declared.name.ConsignmentId.{ConsignmentId}
-use Rattle.trip_plan.specs.Trip.{Trip}
-use Rattle.trip_plan.specs.Rules.{has}
-use Rattle.taf_messages.specs.declared.reply.Reply.{Reply}
-use Rattle.taf_messages.specs.declared.item.ItemBody.{ItemBody}
-use Rattle.taf_messages.specs.declared.message.Message.{Message}
-use Rattle.taf_messages.specs.declared.message.Body.{Body}
+use Rattle.hub_model.specs.Common.{WagonNumber, Railway, UnitCode, ConsignmentId, Trip, has, Reply, ItemBody, Message, Body, moment_in, Event, EventBody, Planned, Moved, EstimateAsked, LegTimed, Offered, Answered, Withdrawn, Rerouted, is_plan, Offer, wagons_of, place_of}
 use Rattle.taf_messages.specs.declared.message.Body.TheVariants as body
-use Rattle.taf_messages.specs.Bodies.{moment_in}
-use Rattle.journey.specs.declared.event.Event.{Event}
-use Rattle.journey.specs.declared.event.EventBody.{EventBody}
-use Rattle.journey.specs.declared.event.EventBody.TheVariants.{Planned, Moved, EstimateAsked, LegTimed, Offered, Answered, Withdrawn, Rerouted}
-use Rattle.journey.specs.Stages.{is_plan}
-use Rattle.interchange.specs.declared.offer.Offer.{Offer}
-use Rattle.interchange.specs.Offers.{wagons_of, place_of}
 
 -- a send, and the reply that it got
 pub record FirstSend : Type 0 where

@@ -1,23 +1,9 @@
 -- What an accepted message makes for the railways (4.2.6, 4.2.7, 4.2.8).
 use Rattle.std.specs.Prelude.{ℕ, ◌+◌, ◌==◌, nat_eq, not, ◌||◌, Bool, if◌then◌else◌, List, [], ◌∷◌, ◌++◌, length, map, filter, flat_map, filter_map, drop, Option, Some, None, option_map, option_to_list, bytes_eq}
 use Rattle.std.specs.Option.{option_eq}
-use Rattle.taf_codes.specs.declared.code.Railway.{Railway}
-use Rattle.taf_codes.specs.Words.{same_text}
-use Rattle.trip_plan.specs.declared.parts.Leg.{Leg}
-use Rattle.taf_messages.specs.declared.item.ItemBody.{ItemBody}
+use Rattle.hub_model.specs.Common.{Railway, same_text, Leg, ItemBody, Message, TrainAnswer, Body, MovementKind, Release, Estimate, EstimateAt, Event, leg_index, responsible, legs, current_leg, runner_of, lead_of, asked_by, estimate, estimates, late_by, is_late}
 use Rattle.taf_messages.specs.declared.item.ItemBody.TheVariants as item
-use Rattle.taf_messages.specs.declared.message.Message.{Message}
-use Rattle.taf_messages.specs.declared.message.TrainAnswer.{TrainAnswer}
-use Rattle.taf_messages.specs.declared.message.Body.{Body}
 use Rattle.taf_messages.specs.declared.message.Body.TheVariants as body
-use Rattle.taf_messages.specs.declared.movement.MovementKind.{MovementKind}
-use Rattle.taf_messages.specs.declared.movement.MovementKind.TheVariants.{Release, Estimate}
-use Rattle.taf_messages.specs.declared.record.EstimateAt.{EstimateAt}
-use Rattle.journey.specs.declared.event.Event.{Event}
-use Rattle.journey.specs.Stages.{leg_index, responsible}
-use Rattle.journey.specs.Legs.{legs, current_leg, runner_of, lead_of}
-use Rattle.interchange.specs.Offers.{asked_by}
-use Rattle.eti_chain.specs.Estimates.{estimate, estimates, late_by, is_late}
 use Rattle.hub_model.specs.declared.addressed_item.AddressedItem.{AddressedItem}
 use Rattle.hub_model.specs.HubState.{HubState, named_wagons, journey_after}
 

@@ -1,17 +1,8 @@
 -- What holds of wagons, offers and estimates at every moment.
 use Rattle.std.specs.Prelude.{◌≡◌, ◌↔◌, ◌≤◌, ℕ, true, List, [], ◌∷◌, ◌++◌, map, Option, Some, None, IsSome}
-use Rattle.taf_codes.specs.declared.code.Railway.{Railway}
-use Rattle.taf_moment.specs.Calendar.{last_minute}
-use Rattle.trip_plan.specs.Rules.{has}
-use Rattle.taf_messages.specs.declared.call.Call.{Call}
-use Rattle.taf_messages.specs.declared.call.Call.TheVariants.{Send}
-use Rattle.taf_messages.specs.declared.message.Message.{Message}
+use Rattle.hub_model.specs.Common.{Railway, last_minute, has, Call, Send, Message, stage, responsible, is_on_its_way, wagons_of, fits, moment_in}
 use Rattle.taf_messages.specs.declared.record.Stage.TheVariants as stage_is
-use Rattle.journey.specs.Stages.{stage, responsible, is_on_its_way}
-use Rattle.interchange.specs.Offers.{wagons_of}
-use Rattle.eti_chain.specs.Estimates.{fits}
 use Rattle.hub_model.specs.declared.entry.Entry.{Entry}
-use Rattle.taf_messages.specs.Bodies.{moment_in}
 use Rattle.hub_model.specs.HubState.{HubState}
 use Rattle.hub_model.specs.Histories.{IsLegal, answer, run, state_of, state_after}
 

@@ -1,3 +1,4 @@
+pub mod Common
 pub mod HubState
 pub mod Units
 pub mod Faults

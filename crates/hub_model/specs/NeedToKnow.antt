@@ -1,23 +1,7 @@
 -- Who is shown records, and who gets items (4.2.6, 4.2.7, 4.2.8, 4.2.11).
 use Rattle.std.specs.Prelude.{◌≡◌, ◌⊎◌, ℕ, Bool, true, false, List, ◌∷◌, ◌++◌, length, Option, Some, None, IsSome, is_some, option_map, option_and_then, All, Contains}
-use Rattle.taf_codes.specs.declared.code.Railway.{Railway}
-use Rattle.taf_codes.specs.declared.code.UnitCode.{UnitCode}
-use Rattle.taf_codes.specs.declared.name.ConsignmentId.{ConsignmentId}
-use Rattle.trip_plan.specs.Rules.{has}
-use Rattle.taf_messages.specs.declared.call.Call.{Call}
-use Rattle.taf_messages.specs.declared.call.Call.TheVariants.{Send, Ask, AskUnit, Deviation}
-use Rattle.taf_messages.specs.declared.reply.Reply.{Reply}
-use Rattle.taf_messages.specs.declared.reply.Reply.TheVariants.{Accepted, Refused, One, Many}
-use Rattle.taf_messages.specs.declared.item.ItemBody.{ItemBody}
-use Rattle.taf_messages.specs.declared.message.Message.{Message}
-use Rattle.taf_messages.specs.declared.message.Body.{Body}
+use Rattle.hub_model.specs.Common.{Railway, UnitCode, ConsignmentId, has, Call, Send, Ask, AskUnit, Deviation, Reply, Accepted, Refused, One, Many, ItemBody, Message, Body, Record, Event, stage, responsible, is_on_its_way, legs, lead_of, asked_by, record_of}
 use Rattle.taf_messages.specs.declared.message.Body.TheVariants as body
-use Rattle.taf_messages.specs.declared.record.Record.{Record}
-use Rattle.journey.specs.declared.event.Event.{Event}
-use Rattle.journey.specs.Stages.{stage, responsible, is_on_its_way}
-use Rattle.journey.specs.Legs.{legs, lead_of}
-use Rattle.interchange.specs.Offers.{asked_by}
-use Rattle.wimo.specs.Records.{record_of}
 use Rattle.hub_model.specs.HubState.{HubState, named_wagons, journey_after}
 use Rattle.hub_model.specs.Units.{unit_wagon}
 use Rattle.hub_model.specs.Faults.{fault, is_unknown}

@@ -2,17 +2,8 @@
 use Rattle.std.specs.Prelude.{◌≡◌, ◌↔◌, ℕ, Bool, true, false, not, ◌&&◌, ◌||◌, IsTrue, List, [], ◌∷◌, ◌++◌, Option, Some, None, bytes_eq, IsPermutation}
 use Rattle.std.specs.Option.{option_map_or}
 use Rattle.std.specs.List.{list_any}
-use Rattle.taf_codes.specs.declared.code.Railway.{Railway}
-use Rattle.taf_codes.specs.declared.code.UnitCode.{UnitCode}
-use Rattle.taf_codes.specs.declared.name.ConsignmentId.{ConsignmentId}
-use Rattle.trip_plan.specs.Rules.{has, loads}
-use Rattle.taf_messages.specs.declared.call.Call.{Call}
-use Rattle.taf_messages.specs.declared.call.Call.TheVariants.{Send, Fetch}
-use Rattle.taf_messages.specs.declared.message.Message.{Message}
-use Rattle.taf_messages.specs.declared.message.Body.{Body}
+use Rattle.hub_model.specs.Common.{Railway, UnitCode, ConsignmentId, has, loads, Call, Send, Fetch, Message, Body, wagons_of, same_name}
 use Rattle.taf_messages.specs.declared.message.Body.TheVariants as body
-use Rattle.interchange.specs.Offers.{wagons_of}
-use Rattle.replay_numbers.specs.Names.{same_name}
 use Rattle.hub_model.specs.HubState.{HubState, named_wagons}
 use Rattle.hub_model.specs.Units.{unit_wagon, units_in}
 use Rattle.hub_model.specs.Replies.{reply_to}

@@ -1,20 +1,6 @@
 -- What the hub replies to each call (4.2.6, 4.2.7, 4.2.8, 4.2.11).
 use Rattle.std.specs.Prelude.{ℕ, max, ◌&&◌, if◌then◌else◌, List, length, filter, filter_map, Option, Some, None, bytes_eq}
-use Rattle.taf_codes.specs.declared.code.Railway.{Railway}
-use Rattle.trip_plan.specs.Trip.{Trip}
-use Rattle.taf_messages.specs.declared.call.Call.{Call}
-use Rattle.taf_messages.specs.declared.call.Call.TheVariants.{Send, Ask, AskUnit, Deviation, Fetch, Ack}
-use Rattle.taf_messages.specs.declared.reply.Reply.{Reply}
-use Rattle.taf_messages.specs.declared.reply.Reply.TheVariants.{Accepted, Refused, One, Many, Items, Acknowledged}
-use Rattle.taf_messages.specs.declared.reply.Why.{Why}
-use Rattle.taf_messages.specs.declared.reply.Why.TheVariants.{UnknownWagon, UnknownConsignment, UnknownUnit, NotYours, NumberReused, AckAhead}
-use Rattle.taf_messages.specs.declared.message.Message.{Message}
-use Rattle.taf_messages.specs.declared.record.Record.{Record}
-use Rattle.taf_messages.specs.Content.{same_message}
-use Rattle.journey.specs.declared.event.Event.{Event}
-use Rattle.eti_chain.specs.Estimates.{is_late}
-use Rattle.outbox.specs.Numbering.{items_to_fetch, is_ahead}
-use Rattle.wimo.specs.Records.{record_of, may_see}
+use Rattle.hub_model.specs.Common.{Railway, Trip, Call, Send, Ask, AskUnit, Deviation, Fetch, Ack, Reply, Accepted, Refused, One, Many, Items, Acknowledged, Why, UnknownWagon, UnknownConsignment, UnknownUnit, NotYours, NumberReused, AckAhead, Message, Record, same_message, Event, is_late, items_to_fetch, is_ahead, record_of, may_see}
 use Rattle.hub_model.specs.HubState.{HubState, FirstSend}
 use Rattle.hub_model.specs.Units.{is_on_plan, unit_wagon}
 use Rattle.hub_model.specs.declared.fault.Fault.{Fault}

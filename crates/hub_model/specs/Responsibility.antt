@@ -1,14 +1,7 @@
 -- Who answers for a wagon, by the messages that were accepted (4.2.7, 4.2.8).
 use Rattle.std.specs.Prelude.{◌≡◌, ℕ, ◌==◌, ◌&&◌, if◌then◌else◌, List, Option, Some, None}
-use Rattle.taf_codes.specs.declared.code.Railway.{Railway}
-use Rattle.trip_plan.specs.Rules.{has}
-use Rattle.taf_messages.specs.declared.call.Call.{Call}
-use Rattle.taf_messages.specs.declared.message.Message.{Message}
-use Rattle.taf_messages.specs.declared.message.Body.{Body}
+use Rattle.hub_model.specs.Common.{Railway, has, Call, Message, Body, Moved, newest, is_departure, is_on_its_way, responsible}
 use Rattle.taf_messages.specs.declared.message.Body.TheVariants as body
-use Rattle.journey.specs.declared.event.EventBody.TheVariants.{Moved}
-use Rattle.journey.specs.Words.{newest}
-use Rattle.journey.specs.Stages.{is_departure, is_on_its_way, responsible}
 use Rattle.hub_model.specs.Histories.{state_after}
 use Rattle.hub_model.specs.AcceptedMessages.{accepted_in}
 

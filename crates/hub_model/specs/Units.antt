@@ -1,14 +1,8 @@
 -- Where the intermodal units are (4.2.11).
 use Rattle.std.specs.Prelude.{ℕ, Bool, not, false, if◌then◌else◌, List, [], find, Option, Some, None, option_map, bytes_eq}
 use Rattle.std.specs.Option.{option_map_or, option_and_then}
-use Rattle.taf_codes.specs.declared.code.UnitCode.{UnitCode}
-use Rattle.taf_codes.specs.Words.{is_text}
-use Rattle.trip_plan.specs.declared.parts.UnitLoad.{UnitLoad}
-use Rattle.trip_plan.specs.Trip.{Trip}
-use Rattle.taf_messages.specs.declared.message.Body.{Body}
+use Rattle.hub_model.specs.Common.{UnitCode, is_text, UnitLoad, Trip, Body, Event, plan, is_delivered}
 use Rattle.taf_messages.specs.declared.message.Body.TheVariants as body
-use Rattle.journey.specs.declared.event.Event.{Event}
-use Rattle.journey.specs.Stages.{plan, is_delivered}
 use Rattle.hub_model.specs.HubState.{HubState}
 
 -- the journey begins with this plan; a consignment has one accepted plan

@@ -1,20 +1,8 @@
 -- What a call with its reply changes of all that is looked up.
 use Rattle.std.specs.Prelude.{ℕ, ◌==◌, Bool, true, false, not, if◌then◌else◌, List, [], ◌∷◌, ◌++◌, filter, Option, Some, None, is_some, unwrap_or, bytes_eq}
 use Rattle.std.specs.Option.{option_or}
-use Rattle.taf_codes.specs.declared.code.Railway.{Railway}
-use Rattle.taf_codes.specs.declared.code.UnitCode.{UnitCode}
-use Rattle.taf_codes.specs.declared.name.ConsignmentId.{ConsignmentId}
-use Rattle.trip_plan.specs.Trip.{Trip}
-use Rattle.trip_plan.specs.Rules.{has, loads}
-use Rattle.taf_messages.specs.declared.call.Call.{Call}
-use Rattle.taf_messages.specs.declared.call.Call.TheVariants.{Send, Ack}
-use Rattle.taf_messages.specs.declared.reply.Reply.{Reply}
-use Rattle.taf_messages.specs.declared.reply.Reply.TheVariants.{Accepted, Acknowledged}
-use Rattle.taf_messages.specs.declared.message.Message.{Message}
-use Rattle.taf_messages.specs.declared.message.Body.{Body}
+use Rattle.hub_model.specs.Common.{Railway, UnitCode, ConsignmentId, Trip, has, loads, Call, Send, Ack, Reply, Accepted, Acknowledged, Message, Body, Offer, same_name}
 use Rattle.taf_messages.specs.declared.message.Body.TheVariants as body
-use Rattle.interchange.specs.declared.offer.Offer.{Offer}
-use Rattle.replay_numbers.specs.Names.{same_name}
 use Rattle.hub_model.specs.declared.entry.Entry.{Entry}
 use Rattle.hub_model.specs.HubState.{HubState, journey_after}
 use Rattle.hub_model.specs.Items.{items_of, items_to}

@@ -1,15 +1,5 @@
 -- What is counted.
-use Rattle.std.proofs.Common.{◌≡◌, ℕ, ◌+◌, nat_lt, true, false, cond, List, [], ◌∷◌, ◌++◌, length, length-append, arith, codes, refl, subst, ap, ◌∙◌}
-use Rattle.std.proofs.lemmas.List.Sums.{sum_by-cons}
-use Rattle.std.specs.List.{count_by}
-use Rattle.taf_messages.specs.declared.call.Call.{Call}
-use Rattle.hub_model.specs.declared.entry.Entry.{Entry}
-use Rattle.hub_replay.specs.declared.counts.Counts.{Counts}
-use Rattle.call_lines.specs.declared.parsed.ParsedLine.{ParsedLine}
-use Rattle.call_lines.specs.declared.parsed.ParsedLine.TheVariants.{Blank, TooLong, Fault, Called}
-use Rattle.call_lines.specs.Lines.{fault_text}
-use Rattle.hub_replay.specs.Lines.{parsed_lines}
-use Rattle.hub_replay.specs.Outcomes.{Outcome, outcome, with_fault_line, with_reply_line, entry_of, is_answered, Answers, start_of}
+use Rattle.hub_replay.proofs.Common.{◌≡◌, ℕ, ◌+◌, nat_lt, true, false, cond, List, [], ◌∷◌, ◌++◌, length, length-append, arith, codes, refl, subst, ap, ◌∙◌, sum_by-cons, count_by, Call, Entry, Counts, ParsedLine, Blank, TooLong, Fault, Called, fault_text, parsed_lines, Outcome, outcome, with_fault_line, with_reply_line, entry_of, is_answered, Answers, start_of}
 
 -- lines that lead from one outcome to another
 record IsCounted (o p : Outcome) (hs : List ParsedLine) : Type 0 where

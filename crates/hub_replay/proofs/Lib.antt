@@ -1,3 +1,4 @@
+pub mod Common
 pub mod LineLemmas
 pub mod StreamLemmas
 pub mod RunLemmas

@@ -1,15 +1,5 @@
 -- How lines begin and end.
-use Rattle.std.proofs.Common.{◌≡◌, ℕ, ◌+◌, ◌-◌, ◌<◌, ◌≤◌, ◌==◌, true, false, cond, Bool, List, [], ◌∷◌, ◌++◌, length, get_or, take, drop, map, refl, ap, ◌∙◌, sym, arith, append_assoc, append-nil, length-drop, length-append}
-use Rattle.std.specs.List.{slice_range}
-use Rattle.std.proofs.Math.Seq.{take-add}
-use Rattle.std.proofs.lemmas.List.{drop-drop, drop-take, drop_all, length-take-le}
-use Rattle.std.proofs.lemmas.List.Folds.{drop_split}
-use Rattle.std.proofs.lemmas.Grind.{common_steps}
-use Rattle.call_lines.specs.declared.parsed.ParsedLine.{ParsedLine}
-use Rattle.call_lines.specs.declared.parsed.ParsedLine.TheVariants.{TooLong}
-use Rattle.call_lines.specs.Lines.{has_no_newline, parsed_line}
-use Rattle.call_lines.proofs.LineLemmas.{not_newline, rest_unbroken, line_split, too_long}
-use Rattle.hub_replay.specs.Lines.{onto_first, lines_of, after_newline, after_skipping, parsed_lines, IsTaken, IsCut}
+use Rattle.hub_replay.proofs.Common.{◌≡◌, ℕ, ◌+◌, ◌-◌, ◌<◌, ◌≤◌, ◌==◌, true, false, cond, Bool, List, [], ◌∷◌, ◌++◌, length, get_or, take, drop, map, refl, ap, ◌∙◌, sym, arith, append_assoc, append-nil, length-drop, length-append, slice_range, take-add, drop-drop, drop-take, drop_all, length-take-le, drop_split, common_steps, ParsedLine, TooLong, has_no_newline, parsed_line, not_newline, rest_unbroken, line_split, too_long, onto_first, lines_of, after_newline, after_skipping, parsed_lines, IsTaken, IsCut}
 
 -- what stands before the first newline
 abbrev pub upto : List ℕ → List ℕ

@@ -1,21 +1,5 @@
 -- How a run goes on, and where it may stop.
-use Rattle.std.proofs.Common.{◌≡◌, ℕ, ◌+◌, ◌<◌, ◌≤◌, ◌^◌, nat_lt, true, false, cond, List, [], ◌∷◌, ◌++◌, length, Option, Result, Ok, Err, OnOk, OnErr, refl, ap, ◌∙◌, sym, subst, append_assoc, append-nil, length-append, arith, codes}
-use Rattle.std.proofs.lemmas.Bool.{lt-ltb, false≢true}
-use Rattle.std.proofs.lemmas.List.Sums.{fold-append}
-use Rattle.std.specs.Prelude.{IfErr, IsErr}
-use Rattle.std.specs.Io.KnownBytes.{Appends, Keeps}
-use Rattle.taf_messages.specs.declared.call.Call.{Call}
-use Rattle.hub_model.specs.declared.entry.Entry.{Entry}
-use Rattle.hub_replay.specs.declared.counts.Counts.{Counts}
-use Rattle.hub_replay.specs.declared.output.Output.{Output}
-use Rattle.call_lines.specs.declared.parsed.ParsedLine.{ParsedLine}
-use Rattle.call_lines.specs.declared.parsed.ParsedLine.TheVariants.{Blank, TooLong, Fault, Called}
-use Rattle.hub_replay.specs.declared.fault.RunFault.{RunFault}
-use Rattle.hub_replay.specs.declared.fault.RunFault.TheVariants.{Read, Write, NoEnd, Memory}
-use Rattle.call_lines.specs.Lines.{reply_text}
-use Rattle.hub_replay.specs.Lines.{parsed_lines}
-use Rattle.hub_replay.specs.Outcomes.{Outcome, outcome, after, with_fault_line, with_reply_line, entry_of, one_fault_more, one_call_more, IsStopped, start_of, Answers}
-use Rattle.hub_replay.specs.Running.{IsUnderway, Advances, StopsWithin, IsLateFault, ExplainsFault, Blames, RunState, AnswersLines}
+use Rattle.hub_replay.proofs.Common.{◌≡◌, ℕ, ◌+◌, ◌<◌, ◌≤◌, ◌^◌, nat_lt, true, false, cond, List, [], ◌∷◌, ◌++◌, length, Option, Result, Ok, Err, OnOk, OnErr, refl, ap, ◌∙◌, sym, subst, append_assoc, append-nil, length-append, arith, codes, lt-ltb, false≢true, fold-append, IfErr, IsErr, Appends, Keeps, Call, Entry, Counts, Output, ParsedLine, Blank, TooLong, Fault, Called, RunFault, Read, Write, NoEnd, Memory, reply_text, parsed_lines, Outcome, outcome, after, with_fault_line, with_reply_line, entry_of, one_fault_more, one_call_more, IsStopped, start_of, Answers, IsUnderway, Advances, StopsWithin, IsLateFault, ExplainsFault, Blames, RunState, AnswersLines}
 use Rattle.hub_replay.proofs.StreamLemmas.{Appends-none, Appends-kept, Appends-append}
 
 pub outcome-append : (o : Outcome) (xs ys : List ParsedLine) → outcome o (xs ++ ys) ≡ outcome (outcome o xs) ys

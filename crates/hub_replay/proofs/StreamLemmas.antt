@@ -1,7 +1,5 @@
 -- Bytes that were read or written in turn.
-use Rattle.std.proofs.Common.{◌≡◌, ℕ, ◌-◌, ◌≤◌, List, [], ◌++◌, take, drop, length, Option, Some, None, refl, ap, ◌∙◌, sym, arith, append_assoc, append-nil, length-drop, take-append-drop}
-use Rattle.std.proofs.lemmas.List.{take_all}
-use Rattle.std.specs.Io.KnownBytes.{Appends, Consumes, Keeps}
+use Rattle.hub_replay.proofs.Common.{◌≡◌, ℕ, ◌-◌, ◌≤◌, List, [], ◌++◌, take, drop, length, Option, Some, None, refl, ap, ◌∙◌, sym, arith, append_assoc, append-nil, length-drop, take-append-drop, take_all, Appends, Consumes, Keeps}
 
 pub Appends-none : (c : Option (List ℕ)) → Appends c c []
 Appends-none None = tt

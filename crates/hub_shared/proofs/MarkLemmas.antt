@@ -1,20 +1,7 @@
 -- What the mark_count of a settling stand for.
-use Rattle.std.proofs.Common.{◌≡◌, ℕ, zero, suc, ◌+◌, ◌-◌, ◌<◌, ◌≤◌, eqb, eq-eqb, ne_eqb, cond, Bool, true, false, List, [], ◌∷◌, length, take, get_or, set, Some, sum_by, refl, sym, ap, ◌∙◌, subst, arith, get_or-take, length-take-le}
-use Rattle.std.specs.Prelude.{slice_get}
-use Rattle.std.specs.List.{All}
-use Rattle.std.proofs.lemmas.List.{take_more, get_or_default, get_or-set_same, get_or-set_other}
-use Rattle.std.proofs.lemmas.List.Sums.{sum_by_more, sum_by_more_le, sum_by-set, sum_by-cons, sum_by-take-le, count_by-le-length}
-use Rattle.std.proofs.lemmas.List.Elements.{All-push}
-use Rattle.std.proofs.lemmas.Option.{slice_get_within, get_or_from_slice_get}
+use Rattle.hub_shared.proofs.Common.{◌≡◌, ℕ, zero, suc, ◌+◌, ◌-◌, ◌<◌, ◌≤◌, eqb, eq-eqb, ne_eqb, cond, Bool, true, false, List, [], ◌∷◌, length, take, get_or, set, Some, sum_by, refl, sym, ap, ◌∙◌, subst, arith, get_or-take, length-take-le, slice_get, All, take_more, get_or_default, get_or-set_same, get_or-set_other, sum_by_more, sum_by_more_le, sum_by-set, sum_by-cons, sum_by-take-le, count_by-le-length, All-push, slice_get_within, get_or_from_slice_get, Entry, Told, SettleFault, CountDiffers, Foreign, Twice, OutOfOrder, Memory, TallyState, StandsIn, times_told, IsRising, IsTold, IsSettleFault, mark, mark_count, MarksTally, IsTallyFault, MarksTallies}
 use mathlib.Core.Logic.{dite}
 use native.Mathlib.Decide.{ℕ_discrete}
-use Rattle.hub_model.specs.declared.entry.Entry.{Entry}
-use Rattle.tallies.specs.declared.tally.Told.{Told}
-use Rattle.hub_shared.specs.declared.settling.SettleFault.{SettleFault}
-use Rattle.hub_shared.specs.declared.settling.SettleFault.TheVariants.{CountDiffers, Foreign, Twice, OutOfOrder, Memory}
-use Rattle.tallies.specs.Tallies.{TallyState}
-use Rattle.hub_shared.specs.Settling.{StandsIn, times_told, IsRising, IsTold, IsSettleFault}
-use Rattle.hub_shared.specs.Marks.{mark, mark_count, MarksTally, IsTallyFault, MarksTallies}
 
 abbrev one : Bool → ℕ
 one b = cond b 1 0

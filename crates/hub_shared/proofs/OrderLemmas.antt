@@ -1,16 +1,7 @@
 -- A history that is told is an interleaving of what the sessions were told.
-use Rattle.std.proofs.Common.{◌≡◌, ◌≢◌, ℕ, suc, zero, ◌+◌, ◌-◌, ◌<◌, ◌≤◌, eqb, eq-eqb, ne_eqb, cond, Some, None, List, [], ◌∷◌, length, map, get_or, sum_by, refl, sym, ap, ◌∙◌, subst, arith}
-use Rattle.std.specs.Prelude.{slice_get}
-use Rattle.std.specs.List.{All}
-use Rattle.std.proofs.lemmas.List.Elements.{All-nil, All-head, All-tail}
-use Rattle.std.proofs.lemmas.List.Sums.{sum_by-cons}
+use Rattle.hub_shared.proofs.Common.{◌≡◌, ◌≢◌, ℕ, suc, zero, ◌+◌, ◌-◌, ◌<◌, ◌≤◌, eqb, eq-eqb, ne_eqb, cond, Some, None, List, [], ◌∷◌, length, map, get_or, sum_by, refl, sym, ap, ◌∙◌, subst, arith, slice_get, All, All-nil, All-head, All-tail, sum_by-cons, Entry, Told, TallyState, entry_of, StandsIn, times_told, IsRising, IsTold, items_of_label, Interleaves, entries_of}
 use mathlib.Core.Logic.{dite}
 use native.Mathlib.Decide.{ℕ_discrete}
-use Rattle.hub_model.specs.declared.entry.Entry.{Entry}
-use Rattle.tallies.specs.declared.tally.Told.{Told}
-use Rattle.tallies.specs.Tallies.{TallyState}
-use Rattle.hub_shared.specs.Settling.{entry_of, StandsIn, times_told, IsRising, IsTold}
-use Rattle.hub_shared.specs.Orders.{items_of_label, Interleaves, entries_of}
 
 -- the first session that was told of a position
 abbrev teller : ℕ → List TallyState → ℕ

@@ -1,18 +1,7 @@
 -- What the lanes have once all passes came back.
-use Rattle.std.proofs.Common.{◌≡◌, ℕ, suc, zero, ◌+◌, ◌%◌, ◌<◌, eq-eqb, ne_eqb, cond, List, [], ◌∷◌, ◌++◌, length, map, get_or, sum_by, refl, sym, ap, ◌∙◌, subst, arith, append_assoc}
-use Rattle.std.specs.List.{All}
-use Rattle.std.proofs.lemmas.List.{map-append, length-map}
-use Rattle.std.proofs.lemmas.List.Elements.{All-nil, All-cons, All-head, All-tail, All-push, All-weaker}
-use Rattle.std.proofs.lemmas.List.Sums.{sum_by-append, sum_by-cons}
+use Rattle.hub_shifts.proofs.Common.{◌≡◌, ℕ, suc, zero, ◌+◌, ◌%◌, ◌<◌, eq-eqb, ne_eqb, cond, List, [], ◌∷◌, ◌++◌, length, map, get_or, sum_by, refl, sym, ap, ◌∙◌, subst, arith, append_assoc, All, map-append, length-map, All-nil, All-cons, All-head, All-tail, All-push, All-weaker, sum_by-append, sum_by-cons, Job, ALL_PARTS, IsKept, PassState, IsKeptBy, LaneState, new_lane, thread_pass, EachAt, of_lane, HandsOut, TakesBack, EachLane, of_lane-map, LaneIsKept}
 use mathlib.Core.Logic.{dite}
 use native.Mathlib.Decide.{ℕ_discrete}
-use Rattle.inbox.specs.declared.rule.Job.{Job}
-use Rattle.inbox.specs.Rules.{ALL_PARTS}
-use Rattle.inbox.specs.Interleavings.{IsKept}
-use Rattle.inbox.specs.States.{PassState, IsKeptBy}
-use Rattle.session_lanes.specs.Lanes.{LaneState, new_lane, thread_pass, EachAt, of_lane, HandsOut, TakesBack, EachLane}
-use Rattle.session_lanes.proofs.FallLemmas.{of_lane-map}
-use Rattle.hub_shifts.specs.Shifts.{LaneIsKept}
 
 -- what holds of each item, by the lane that it falls to, holds of the items of a lane
 pub of_lane-all : {X : Type 0} (Q : ℕ → X → Type 0) (k lanes i : ℕ) (xs : List X) → ((j : ℕ) (d : X) → j < length xs → Q ((i + j) % lanes) (get_or xs j d)) → All (Q k) (of_lane k lanes i xs)

@@ -1,17 +1,8 @@
 -- The jobs of a session in its lane.
-use Rattle.std.proofs.Common.{◌≡◌, ◌≢◌, ℕ, suc, zero, ◌+◌, ◌%◌, ◌<◌, eqb, eq-eqb, ne_eqb, cond, false, List, [], ◌∷◌, ◌++◌, length, map, get_or, refl, sym, ap, ◌∙◌, subst, arith}
-use Rattle.std.specs.List.{All}
-use Rattle.std.proofs.lemmas.List.Elements.{All-head, All-tail}
+use Rattle.hub_shifts.proofs.Common.{◌≡◌, ◌≢◌, ℕ, suc, zero, ◌+◌, ◌%◌, ◌<◌, eqb, eq-eqb, ne_eqb, cond, false, List, [], ◌∷◌, ◌++◌, length, map, get_or, refl, sym, ap, ◌∙◌, subst, arith, All, All-head, All-tail, Job, of_session, lane, EachAt, of_lane, SessionState, IsOfSession, put_lists, LanesInOrder, length-map}
 use mathlib.Core.Logic.{dite}
 use native.Mathlib.Decide.{ℕ_discrete}
-use Rattle.inbox.specs.declared.rule.Job.{Job}
-use Rattle.inbox.specs.Sessions.{of_session}
-use Rattle.inbox.proofs.LaneLemmas.{lane}
-use Rattle.session_lanes.specs.Lanes.{EachAt, of_lane}
-use Rattle.hub_shifts.specs.Shifts.{SessionState, IsOfSession, put_lists}
-use Rattle.hub_shifts.specs.Laws.{LanesInOrder}
 use Rattle.hub_shifts.proofs.KeptLemmas.{read_map, some_item}
-use Rattle.std.proofs.lemmas.List.{length-map}
 
 -- all are of one session
 abbrev Of : ℕ → List Job → Type 0

@@ -1,17 +1,5 @@
 -- What the tally of a session tells.
-use Rattle.std.proofs.Common.{◌≡◌, ℕ, Bool, true, false, List, [], ◌++◌, length, Result, Ok, Err, is_ok, refl, sym, ap, ◌∙◌, subst, rules, tests, arith, append-nil}
-use Rattle.inbox.specs.declared.rule.Job.{Job}
-use Rattle.session_lines.specs.declared.session.Done.{Done}
-use Rattle.session_lines.specs.States.{State, new_state, jobs_out}
-use Rattle.session_lines.specs.Runs.{Run, new_run, run}
-use Rattle.session_lines.specs.Tallies.{own_dones, IsOwnTally}
-use Rattle.session_lines.proofs.TallyLemmas.{IsOwnTally-run, all_answered}
-use Rattle.session_serving.specs.declared.fault.SessionFault.{SessionFault}
-use Rattle.session_serving.specs.Faults.{sends_all}
-use Rattle.session_lanes.specs.declared.ends.SessionEnd.TheVariants.{Complete}
-use Rattle.session_lanes.specs.Ends.{end_of}
-use Rattle.hub_shifts.specs.Shifts.{SessionState, IsOfSession}
-use Rattle.hub_shifts.specs.Laws.{TellsOwnJobs}
+use Rattle.hub_shifts.proofs.Common.{◌≡◌, ℕ, Bool, true, false, List, [], ◌++◌, length, Result, Ok, Err, is_ok, refl, sym, ap, ◌∙◌, subst, rules, tests, arith, append-nil, Job, Done, State, new_state, jobs_out, Run, new_run, run, own_dones, IsOwnTally, IsOwnTally-run, all_answered, SessionFault, sends_all, Complete, end_of, SessionState, IsOfSession, TellsOwnJobs}
 
 record WasWhole (served : Result (Unit {0}) SessionFault) (has_failed : Bool) : Type 0 where
   ok : is_ok served ≡ true

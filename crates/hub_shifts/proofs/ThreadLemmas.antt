@@ -1,8 +1,5 @@
 -- What the threads give back, by what they began with.
-use Rattle.std.proofs.Common.{Result, Ok, Err, IfOk, ◌≡◌, ℕ, ◌<◌, List, [], ◌∷◌, ◌++◌, length, get_or, ◌∙◌, subst, sym, arith}
-use Rattle.inbox.specs.States.{PassState}
-use Rattle.session_lanes.specs.Lanes.{EachAt, EachPair}
-use Rattle.session_lanes.proofs.FallLemmas.{EachPair-push}
+use Rattle.hub_shifts.proofs.Common.{Result, Ok, Err, IfOk, ◌≡◌, ℕ, ◌<◌, List, [], ◌∷◌, ◌++◌, length, get_or, ◌∙◌, subst, sym, arith, PassState, EachAt, EachPair, EachPair-push}
 use Rattle.hub_shifts.proofs.KeptLemmas.{some_item}
 
 -- from what the threads began with, by their handles, to what they gave back

@@ -1,26 +1,6 @@
 -- What the tables know once they have taken a message.
-use Rattle.std.proofs.Common.{◌≡◌, ℕ, ◌==◌, ◌&&◌, Bool, true, false, List, [], ◌∷◌, ◌++◌, Option, Some, None, IfSome, Result, Ok, Err, OnOk, refl, sym, ap, ◌∙◌, append-nil, true≢false}
-use Rattle.std.specs.Prelude.{bytes_eq, unwrap_or}
-use Rattle.std.specs.Option.{option_or}
-use Rattle.std.specs.List.{list_all}
-use Rattle.std.specs.Map.{lookup, keys_of}
-use Rattle.std.proofs.lemmas.Bool.{and_parts}
-use Rattle.taf_codes.specs.declared.code.Railway.{Railway}
-use Rattle.taf_codes.specs.declared.code.UnitCode.{UnitCode}
-use Rattle.taf_codes.specs.declared.name.ConsignmentId.{ConsignmentId}
-use Rattle.trip_plan.specs.Rules.{has, all_differ, times_named}
-use Rattle.taf_messages.specs.declared.message.Message.{Message}
-use Rattle.taf_messages.specs.declared.message.TrainAnswer.{TrainAnswer}
-use Rattle.taf_messages.specs.declared.message.Body.{Body}
+use Rattle.hub_tables.proofs.Common.{◌≡◌, ℕ, ◌==◌, ◌&&◌, Bool, true, false, List, [], ◌∷◌, ◌++◌, Option, Some, None, IfSome, Result, Ok, Err, OnOk, refl, sym, ap, ◌∙◌, append-nil, true≢false, bytes_eq, unwrap_or, option_or, list_all, lookup, keys_of, and_parts, Railway, UnitCode, ConsignmentId, has, all_differ, times_named, Message, TrainAnswer, Body, offer_of, is_standing, matches, wagons_of, HubState, new_state, named_wagons, wagons_in, fault, whole_fault, after_acceptance, plan_given, unit_plan_given, offer_given, opening_given, planned_in, fleet_after, no_whole_fault, answer_fits, TableEntries, table_state, table_part, continues_journeys, ContinuesJourneys, HasAccepted}
 use Rattle.taf_messages.specs.declared.message.Body.TheVariants as body
-use Rattle.interchange.specs.OfferTable.{offer_of, is_standing}
-use Rattle.interchange.specs.Offers.{matches, wagons_of}
-use Rattle.hub_model.specs.HubState.{HubState, new_state, named_wagons, wagons_in}
-use Rattle.hub_model.specs.Faults.{fault, whole_fault}
-use Rattle.hub_model.specs.Updates.{after_acceptance, plan_given, unit_plan_given, offer_given, opening_given, planned_in, fleet_after}
-use Rattle.hub_model.proofs.NoFaultLemmas.{no_whole_fault, answer_fits}
-use Rattle.hub_tables.specs.TableStates.{TableEntries, table_state, table_part, continues_journeys}
-use Rattle.hub_tables.specs.Acceptance.{ContinuesJourneys, HasAccepted}
 use Rattle.hub_tables.proofs.NextEventLemmas.{passes_named}
 
 pub on_ok : {A E : Type 0} {P Q : Type 0} (r : Result A E) → (P → Q) → OnOk r P → OnOk r Q

@@ -1,18 +1,6 @@
 -- Messages that name one wagon alone.
-use Rattle.std.proofs.Common.{◌≡◌, ℕ, ◌||◌, Bool, true, false, List, [], ◌∷◌, Option, Some, None, refl, sym, ap, ◌∙◌}
-use Rattle.std.specs.Prelude.{option_map}
-use Rattle.std.proofs.lemmas.Option.{same_Some}
-use Rattle.taf_codes.specs.Equality.{numbers}
-use Rattle.taf_codes.specs.declared.code.Railway.{Railway}
-use Rattle.trip_plan.specs.Rules.{has}
-use Rattle.taf_messages.specs.declared.message.Message.{Message}
-use Rattle.taf_messages.specs.declared.message.Body.{Body}
+use Rattle.hub_tables.proofs.Common.{◌≡◌, ℕ, ◌||◌, Bool, true, false, List, [], ◌∷◌, Option, Some, None, refl, sym, ap, ◌∙◌, option_map, same_Some, numbers, Railway, has, Message, Body, moment_in, Event, EventBody, HubState, Offers, wagons_in, named_wagons, event_body_for, event_for, continues_journeys, named_alone, event_alone}
 use Rattle.taf_messages.specs.declared.message.Body.TheVariants as body
-use Rattle.taf_messages.specs.Bodies.{moment_in}
-use Rattle.journey.specs.declared.event.Event.{Event}
-use Rattle.journey.specs.declared.event.EventBody.{EventBody}
-use Rattle.hub_model.specs.HubState.{HubState, Offers, wagons_in, named_wagons, event_body_for, event_for}
-use Rattle.hub_tables.specs.TableStates.{continues_journeys, named_alone, event_alone}
 
 -- such a message names no other wagon
 pub alone_named : (offers : Offers) (by : Railway) (says : Body) (w : ℕ) → named_alone says ≡ Some w → wagons_in offers by says ≡ w ∷ []

@@ -1,17 +1,5 @@
 -- Journeys that go on in the table of wagons.
-use Rattle.std.proofs.Common.{◌≡◌, ℕ, Bool, true, false, cond, List, [], ◌∷◌, ◌++◌, length, Option, Some, None, IfSome, refl, sym, ap, subst, ◌∙◌, arith, if◌then◌else◌}
-use Rattle.std.specs.Prelude.{nat_eq}
-use Rattle.std.specs.Option.{option_map_or}
-use Rattle.std.specs.List.{AllByRecursion, IsDistinct}
-use Rattle.std.specs.Map.{lookup, keys_of, update_all}
-use Rattle.indexmap.specs.IndexMap.{IndexMap, get, insert_entry, insert_all}
-use Rattle.std.proofs.lemmas.Bool.{eqb-true}
-use Rattle.taf_codes.specs.Equality.{numbers}
-use Rattle.journey.specs.declared.event.Event.{Event}
-use Rattle.journey.specs.Journey.{Journey}
-use Rattle.hub_model.specs.Faults.{is_unknown}
-use Rattle.hub_tables.specs.TableStates.{events_in, IsJourneyEntry, AreJourneyEntries}
-use Rattle.hub_tables.specs.Acceptance.{MayComeNext, IsAdmitted, with_event_on}
+use Rattle.hub_tables.proofs.Common.{◌≡◌, ℕ, Bool, true, false, cond, List, [], ◌∷◌, ◌++◌, length, Option, Some, None, IfSome, refl, sym, ap, subst, ◌∙◌, arith, if◌then◌else◌, nat_eq, option_map_or, AllByRecursion, IsDistinct, lookup, keys_of, update_all, IndexMap, get, insert_entry, insert_all, eqb-true, numbers, Event, Journey, is_unknown, events_in, IsJourneyEntry, AreJourneyEntries, MayComeNext, IsAdmitted, with_event_on}
 
 pub nothing_left : {X : Type 0} (xs : List X) → length xs ≡ 0 → xs ≡ []
 nothing_left [] h = refl

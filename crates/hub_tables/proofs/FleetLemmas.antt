@@ -1,14 +1,5 @@
 -- The fleet once a plan's wagons are entered.
-use Rattle.std.proofs.Common.{◌≡◌, ℕ, ◌==◌, ◌||◌, Bool, true, false, cond, not, List, [], ◌∷◌, ◌++◌, map, refl, sym, ap, ◌∙◌, append-nil, append_assoc}
-use Rattle.std.specs.Prelude.{nat_eq, filter, fold}
-use Rattle.std.specs.Map.{keys_of}
-use Rattle.std.proofs.lemmas.Bool.{eqb-true}
-use Rattle.std.proofs.lemmas.List.Folds.{list_any-append}
-use Rattle.taf_codes.specs.Equality.{numbers, is_equivalence}
-use Rattle.trip_plan.specs.Rules.{has}
-use Rattle.indexmap.specs.IndexMap.{insert_entry, insert_all}
-use Rattle.hub_model.specs.Updates.{each_wagon, fleet_after}
-use Rattle.hub_model.proofs.FleetLemmas.{two_sieves}
+use Rattle.hub_tables.proofs.Common.{◌≡◌, ℕ, ◌==◌, ◌||◌, Bool, true, false, cond, not, List, [], ◌∷◌, ◌++◌, map, refl, sym, ap, ◌∙◌, append-nil, append_assoc, nat_eq, filter, fold, keys_of, eqb-true, list_any-append, numbers, is_equivalence, has, insert_entry, insert_all, each_wagon, fleet_after, two_sieves}
 
 -- a key that is new goes last
 abbrev pub with_key : List ℕ → ℕ → List ℕ

@@ -1,24 +1,6 @@
 -- The tables once a plan is entered.
-use Rattle.std.proofs.Common.{◌≡◌, ℕ, ◌||◌, Bool, true, false, cond, List, [], ◌∷◌, map, Option, Some, None, IfSome, refl, sym, ap, subst, ◌∙◌, if◌then◌else◌}
-use Rattle.std.specs.Prelude.{nat_eq, bytes_eq}
-use Rattle.std.specs.List.{list_any}
-use Rattle.std.specs.Option.{option_or}
-use Rattle.std.specs.Map.{lookup, keys_of, update_all}
-use Rattle.std.proofs.lemmas.Bool.{eqb-true}
-use Rattle.taf_codes.specs.declared.code.UnitCode.{UnitCode}
-use Rattle.taf_codes.specs.declared.name.ConsignmentId.{ConsignmentId}
-use Rattle.trip_plan.specs.Trip.{Trip}
-use Rattle.trip_plan.specs.Rules.{has, loads}
-use Rattle.taf_messages.specs.declared.message.Message.{Message}
-use Rattle.taf_messages.specs.declared.message.Body.{Body}
+use Rattle.hub_tables.proofs.Common.{◌≡◌, ℕ, ◌||◌, Bool, true, false, cond, List, [], ◌∷◌, map, Option, Some, None, IfSome, refl, sym, ap, subst, ◌∙◌, if◌then◌else◌, nat_eq, bytes_eq, list_any, option_or, lookup, keys_of, update_all, eqb-true, UnitCode, ConsignmentId, Trip, has, loads, Message, Body, Journey, is_plan, insert_all, wagons_in, event_for, event_body_for, with_event, journey_after, plan_given, unit_plan_given, planned_in, fleet_after, planned_anew, TableEntries, events_in, table_state, IsJourneyEntry, AreJourneyEntries}
 use Rattle.taf_messages.specs.declared.message.Body.TheVariants as body
-use Rattle.journey.specs.Journey.{Journey}
-use Rattle.journey.specs.Stages.{is_plan}
-use Rattle.indexmap.specs.IndexMap.{insert_all}
-use Rattle.hub_model.specs.HubState.{wagons_in, event_for, event_body_for, with_event, journey_after}
-use Rattle.hub_model.specs.Updates.{plan_given, unit_plan_given, planned_in, fleet_after}
-use Rattle.hub_model.proofs.NoFaultLemmas.{planned_anew}
-use Rattle.hub_tables.specs.TableStates.{TableEntries, events_in, table_state, IsJourneyEntry, AreJourneyEntries}
 use Rattle.hub_tables.proofs.EntryLemmas.{of_journey}
 use Rattle.hub_tables.proofs.FleetLemmas.{fleet_entered}
 

@@ -1,26 +1,7 @@
 -- The events by which journeys go on.
-use Rattle.std.proofs.Common.{◌≡◌, ℕ, ◌+◌, ◌<◌, ◌≤◌, ◌^◌, ◌==◌, ◌||◌, Bool, true, false, cond, List, [], ◌∷◌, ◌++◌, length, map, get_or, Some, refl, sym, ap, subst, ◌∙◌, arith, true≢false, if◌then◌else◌, inl, inr}
-use Rattle.std.specs.Prelude.{nat_lt, fold}
-use Rattle.std.specs.List.{list_all}
-use Rattle.std.proofs.lemmas.Bool.{and_parts, or_cases, eqb-true, cases_Bool, or_right}
-use Rattle.std.proofs.lemmas.Bool.Decides.{Decides-ltb}
-use Rattle.std.proofs.lemmas.List.Folds.{list_any_at}
-use Rattle.std.proofs.lemmas.List.Sums.{sum_by-append}
-use Rattle.taf_codes.specs.Equality.{numbers}
-use Rattle.trip_plan.specs.Rules.{has, all_differ, times_named}
-use Rattle.taf_codes.specs.declared.code.Railway.{Railway}
-use Rattle.taf_messages.specs.declared.message.Message.{Message}
-use Rattle.taf_messages.specs.declared.message.Body.{Body}
+use Rattle.hub_tables.proofs.Common.{◌≡◌, ℕ, ◌+◌, ◌<◌, ◌≤◌, ◌^◌, ◌==◌, ◌||◌, Bool, true, false, cond, List, [], ◌∷◌, ◌++◌, length, map, get_or, Some, refl, sym, ap, subst, ◌∙◌, arith, true≢false, if◌then◌else◌, inl, inr, nat_lt, fold, list_all, and_parts, or_cases, eqb-true, cases_Bool, or_right, Decides-ltb, list_any_at, sum_by-append, numbers, has, all_differ, times_named, Railway, Message, Body, Event, is_plan, fits, HubState, Offers, named_wagons, event_for, event_body_for, with_event, journey_after, is_unknown, IsAcceptable, continues_journeys, named_alone, event_alone, MayComeNext, IsAdmitted, AreAdmitted, with_event_on, neither}
 use Rattle.taf_messages.specs.declared.message.Body.TheVariants as body
-use Rattle.journey.specs.declared.event.Event.{Event}
-use Rattle.journey.specs.Stages.{is_plan}
-use Rattle.eti_chain.specs.Estimates.{fits}
-use Rattle.hub_model.specs.HubState.{HubState, Offers, named_wagons, event_for, event_body_for, with_event, journey_after}
-use Rattle.hub_model.specs.Faults.{is_unknown}
-use Rattle.hub_tables.specs.TableStates.{IsAcceptable, continues_journeys, named_alone, event_alone}
-use Rattle.hub_tables.specs.Acceptance.{MayComeNext, IsAdmitted, AreAdmitted, with_event_on}
 use Rattle.hub_tables.proofs.AloneLemmas.{alone_named, alone_has, event_given}
-use Rattle.trip_plan.proofs.WagonLemmas.{neither}
 
 -- no wagon of the list comes again
 abbrev pub Differ : List ℕ → Type 0

@@ -1,6 +1,5 @@
 -- Lists that are made of others, item by item.
-use Rattle.std.proofs.Common.{◌≡◌, ℕ, ◌+◌, ◌<◌, ◌≤◌, List, [], ◌∷◌, ◌++◌, length, get_or, map, take, take_all, ap, sym, ◌∙◌}
-use Rattle.std.proofs.lemmas.List.{map_more}
+use Rattle.hub_tables.proofs.Common.{◌≡◌, ℕ, ◌+◌, ◌<◌, ◌≤◌, List, [], ◌∷◌, ◌++◌, length, get_or, map, take, take_all, ap, sym, ◌∙◌, map_more}
 
 -- with one item more
 pub made_more : {X Y : Type 0} (f : X → Y) (xs : List X) (i : ℕ) (x : X) → i < length xs → x ≡ get_or xs i x → (before after : List Y) (y : Y) → before ≡ map f (take i xs) → after ≡ before ++ y ∷ [] → y ≡ f x →

@@ -1,15 +1,5 @@
 -- What is known once all passes are one.
-use Rattle.std.proofs.Common.{◌≡◌, ℕ, ◌+◌, ◌<◌, List, [], ◌∷◌, ◌++◌, map, length, get_or, take, drop, sum_by, Option, Some, None, MatchOption, refl, sym, ap, ◌∙◌, subst, arith}
-use Rattle.std.proofs.lemmas.List.{map-id}
-use Rattle.std.proofs.lemmas.List.Sums.{sum_by-cons}
-use Rattle.crossbeam_queue.specs.Fifo.{Pops, Merges, Learns, Held}
-use Rattle.atomic_table.specs.Seated.{TableId}
-use Rattle.inbox.specs.declared.rule.Job.{Job}
-use Rattle.inbox.specs.declared.rule.PassJobs.{PassJobs}
-use Rattle.inbox.specs.declared.rule.PassView.{PassView}
-use Rattle.inbox.specs.Interleavings.{IsKept}
-use Rattle.inbox.specs.Rules.{ALL_PARTS, pass_jobs, pass_view, KeepsRule, put_lists, taken_lists, own_put, own_taken, IsOnePass, jobs_left, KnowsContent}
-use Rattle.inbox.specs.States.{PassState, state_of, jobs_of}
+use Rattle.inbox.proofs.Common.{◌≡◌, ℕ, ◌+◌, ◌<◌, List, [], ◌∷◌, ◌++◌, map, length, get_or, take, drop, sum_by, Option, Some, None, MatchOption, refl, sym, ap, ◌∙◌, subst, arith, map-id, sum_by-cons, Pops, Merges, Learns, Held, TableId, Job, PassJobs, PassView, IsKept, ALL_PARTS, pass_jobs, pass_view, KeepsRule, put_lists, taken_lists, own_put, own_taken, IsOnePass, jobs_left, KnowsContent, PassState, state_of, jobs_of}
 use Rattle.inbox.proofs.StepLemmas.{merges, seals, settles, follows, knows}
 
 pub first_rest : {T : Type 0} (xs rest : List T) (x : T) → 0 < length xs → x ≡ get_or xs 0 x → rest ≡ take 0 xs ++ drop 1 xs → xs ≡ x ∷ rest

@@ -1,13 +1,7 @@
 -- What a kept queue says of a lane, which has one taking pass, and into which each session puts by a pass of its own.
-use Rattle.std.proofs.Common.{◌≡◌, ◌≢◌, ℕ, eqb, eq-eqb, ne_eqb, cond, Bool, true, false, List, [], ◌∷◌, ◌++◌, length, get_or, filter, refl, sym, ap, ◌∙◌, subst, arith}
-use Rattle.std.proofs.lemmas.List.Elements.{filter-append}
+use Rattle.inbox.proofs.Common.{◌≡◌, ◌≢◌, ℕ, eqb, eq-eqb, ne_eqb, cond, Bool, true, false, List, [], ◌∷◌, ◌++◌, length, get_or, filter, refl, sym, ap, ◌∙◌, subst, arith, filter-append, All, All-head, All-tail, Job, items_of_label, IsKept, of_session, LaneInOrder}
 use mathlib.Core.Logic.{dite}
 use native.Mathlib.Decide.{ℕ_discrete}
-use Rattle.std.specs.List.{All}
-use Rattle.std.proofs.lemmas.List.Elements.{All-head, All-tail}
-use Rattle.inbox.specs.declared.rule.Job.{Job}
-use Rattle.inbox.specs.Interleavings.{items_of_label, IsKept}
-use Rattle.inbox.specs.Sessions.{of_session, LaneInOrder}
 
 module _ {T : Type 0} where
   hit : (w : ℕ) (labels : List ℕ) (x : T) (q : List T) → items_of_label w (w ∷ labels) (x ∷ q) ≡ x ∷ items_of_label w labels q

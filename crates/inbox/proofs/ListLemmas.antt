@@ -1,12 +1,9 @@
 -- Lists, their totals and their interleavings.
-use Rattle.std.proofs.Common.{◌≡◌, ◌≢◌, ℕ, zero, suc, ◌+◌, ◌<◌, ◌≤◌, eqb, eq-eqb, ne_eqb, cond, Bool, true, false, List, [], ◌∷◌, ◌++◌, map, length, get_or, set, refl, sym, ap, ◌∙◌, arith, append-nil, zero-add, lt_of_not-le}
-use Rattle.std.proofs.lemmas.List.{length-map}
+use Rattle.inbox.proofs.Common.{◌≡◌, ◌≢◌, ℕ, zero, suc, ◌+◌, ◌<◌, ◌≤◌, eqb, eq-eqb, ne_eqb, cond, Bool, true, false, List, [], ◌∷◌, ◌++◌, map, length, get_or, set, refl, sym, ap, ◌∙◌, arith, append-nil, zero-add, lt_of_not-le, length-map, items_of_label, Interleaves, times, total, AllBelow}
 use mathlib.Core.Option.{some, some-ne-none, some-injective}
 use mathlib.Core.Logic.{dite}
 use native.Mathlib.Decide.{ℕ_discrete, dec_le}
 use lib.ListN.{get_elem?}
-use Rattle.inbox.specs.Interleavings.{items_of_label, Interleaves}
-use Rattle.inbox.specs.Rules.{times, total, AllBelow}
 
 cond_append : {T : Type 0} (b : Bool) (y : T) (l m : List T) → cond b (y ∷ (l ++ m)) (l ++ m) ≡ cond b (y ∷ l) l ++ m
 cond_append true y l m = refl

@@ -1,17 +1,9 @@
 -- Each step of a pass keeps the rule of the inbox.
-use Rattle.std.proofs.Common.{◌≡◌, ◌≢◌, ◌⊎◌, ⊎_elim, inl, inr, ℕ, zero, suc, ◌+◌, ◌-◌, ◌<◌, ◌≤◌, List, [], ◌∷◌, ◌++◌, map, length, get_or, set, Some, None, refl, sym, ap, ◌∙◌, subst, arith, length-append, length-set, append_assoc, lt_of_not-le}
-use Rattle.std.proofs.lemmas.List.{map-append, get_or-set_same, get_or-set_other, get_or_append_left, get_or-append_right}
+use Rattle.inbox.proofs.Common.{◌≡◌, ◌≢◌, ◌⊎◌, ⊎_elim, inl, inr, ℕ, zero, suc, ◌+◌, ◌-◌, ◌<◌, ◌≤◌, List, [], ◌∷◌, ◌++◌, map, length, get_or, set, Some, None, refl, sym, ap, ◌∙◌, subst, arith, length-append, length-set, append_assoc, lt_of_not-le, map-append, get_or-set_same, get_or-set_other, get_or_append_left, get_or-append_right, Pushes, Pops, Forks, Merges, Learns, at_set, Job, PassJobs, PassView, items_of_label, Interleaves, IsKept, ALL_PARTS, pass_jobs, pass_view, times, total, jobs_of_label, ShowsRow, IsShared, IsClosed, KeepsRule, put_lists, taken_lists, CanHold, add_put, add_taken, own_put, own_taken, IsOnePass}
 use mathlib.Core.Option.{some, some-ne-none, some-injective}
 use mathlib.Core.Logic.{dite}
 use native.Mathlib.Decide.{ℕ_discrete, dec_le}
 use lib.ListN.{get_elem?}
-use Rattle.crossbeam_queue.specs.Fifo.{Pushes, Pops, Forks, Merges, Learns}
-use Rattle.crossbeam_queue.proofs.Lists.{at_set}
-use Rattle.inbox.specs.declared.rule.Job.{Job}
-use Rattle.inbox.specs.declared.rule.PassJobs.{PassJobs}
-use Rattle.inbox.specs.declared.rule.PassView.{PassView}
-use Rattle.inbox.specs.Interleavings.{items_of_label, Interleaves, IsKept}
-use Rattle.inbox.specs.Rules.{ALL_PARTS, pass_jobs, pass_view, times, total, jobs_of_label, ShowsRow, IsShared, IsClosed, KeepsRule, put_lists, taken_lists, CanHold, add_put, add_taken, own_put, own_taken, IsOnePass}
 use Rattle.inbox.proofs.ListLemmas.{items_of_label-same, items_of_label-other, items_of_label-none, below-snoc, below-more, times-append, times-one, times-other, total-append, total_set, total_put, total_both, total_get, total_two, total_alone, row_one, row_none, row_same, interleaves_row}
 
 abbrev parts_of : PassView → ℕ

@@ -1,12 +1,5 @@
 -- What one more event does to stage, leg index and legs.
-use Rattle.std.proofs.Common.{◌≡◌, ℕ, ◌+◌, zero, suc, cond, List, [], ◌∷◌, ◌++◌, length, refl, ap, ◌∙◌}
-use Rattle.std.specs.List.{fold}
-use Rattle.std.specs.Option.{option_or}
-use Rattle.std.proofs.lemmas.List.Sums.{fold-append}
-use Rattle.trip_plan.specs.declared.parts.Leg.{Leg}
-use Rattle.journey.specs.declared.event.Event.{Event}
-use Rattle.journey.specs.Stages.{stage, stage_after, leg_index, is_reception, plan, plan_in}
-use Rattle.journey.specs.Legs.{LegPosition, leg_position, leg_position_after, index_after, legs, legs_after, with_leg_minutes}
+use Rattle.journey.proofs.Common.{◌≡◌, ℕ, ◌+◌, zero, suc, cond, List, [], ◌∷◌, ◌++◌, length, refl, ap, ◌∙◌, fold, option_or, fold-append, Leg, Event, stage, stage_after, leg_index, is_reception, plan, plan_in, LegPosition, leg_position, leg_position_after, index_after, legs, legs_after, with_leg_minutes}
 use Rattle.journey.proofs.NewestLemmas.{newest-push}
 
 pub stage-push : (events : List Event) (e : Event) → stage (events ++ e ∷ []) ≡ option_or (stage_after e.body) (stage events)

@@ -1,8 +1,5 @@
 -- Legs of which one takes other minutes.
-use Rattle.std.proofs.Common.{◌≡◌, ℕ, ◌<◌, ◌≤◌, zero, suc, List, [], ◌∷◌, length, take, refl, ap, arith}
-use Rattle.std.specs.Prelude.{slice_index_or, slice_set}
-use Rattle.trip_plan.specs.declared.parts.Leg.{Leg}
-use Rattle.journey.specs.Legs.{with_leg_minutes}
+use Rattle.journey.proofs.Common.{◌≡◌, ℕ, ◌<◌, ◌≤◌, zero, suc, List, [], ◌∷◌, length, take, refl, ap, arith, slice_index_or, slice_set, Leg, with_leg_minutes}
 
 -- a leg that isn't there
 pub timed_past : (ls : List Leg) (i minutes : ℕ) → length ls ≤ i → with_leg_minutes ls i minutes ≡ ls

@@ -1,3 +1,4 @@
+pub mod Common
 pub mod NewestLemmas
 pub mod LegPositionLemmas
 pub mod LegTimeLemmas

@@ -1,23 +1,5 @@
 -- The legs of a journey are those that the newest events set.
-use Rattle.std.proofs.Common.{◌≡◌, ℕ, ◌+◌, ◌-◌, ◌<◌, ◌≤◌, zero, suc, Bool, true, false, cond, List, [], ◌∷◌, ◌++◌, length, take, Option, Some, None, refl, ap, ◌∙◌, sym, inl, inr, ◌⊎◌, arith, ◌==◌, append-nil, append_assoc}
-use Rattle.std.specs.Prelude.{fold, slice_get, option_map, unwrap_or, nat_lt, if◌then◌else◌}
-use Rattle.std.specs.Option.{option_or}
-use Rattle.std.proofs.lemmas.Bool.{lt-ltb, le-ltb}
-use Rattle.std.proofs.lemmas.Bool.Decides.{eqb_tells}
-use Rattle.std.proofs.lemmas.List.{length-append, length-take-le}
-use Rattle.std.proofs.lemmas.Option.{slice_get_past, slice_get_within}
-use Rattle.taf_codes.specs.Words.{first_of}
-use Rattle.trip_plan.specs.declared.parts.Leg.{Leg}
-use Rattle.journey.specs.declared.event.Event.{Event}
-use Rattle.journey.specs.declared.event.EventBody.{EventBody}
-use Rattle.journey.specs.declared.event.EventBody.TheVariants.{Planned, Moved, EstimateAsked, LegTimed, Offered, Answered, Withdrawn, Rerouted}
-use Rattle.journey.specs.Words.{newest}
-use Rattle.journey.specs.Stages.{leg_index, is_reception}
-use Rattle.journey.specs.Legs.{legs, legs_after, index_after, with_leg_minutes}
-use Rattle.journey.specs.JourneyStates.{journey_state, journey_state_after}
-use Rattle.journey.specs.Checks.{checks}
-use Rattle.journey.specs.TrackStates.{IsSound}
-use Rattle.journey.specs.NewestLegs.{EventOnLeg, with_minutes, events_on_legs_from, events_on_legs, route_leg, leg_set, minutes_set, count_set, count_by_newest, leg_by_newest, IsPlanOfLegs, AllAdmitted, IsJourney, OnLegsByCount, LegsAreTheNewest, AsManyLegs, RerouteUndoesTimes}
+use Rattle.journey.proofs.Common.{◌≡◌, ℕ, ◌+◌, ◌-◌, ◌<◌, ◌≤◌, zero, suc, Bool, true, false, cond, List, [], ◌∷◌, ◌++◌, length, take, Option, Some, None, refl, ap, ◌∙◌, sym, inl, inr, ◌⊎◌, arith, ◌==◌, append-nil, append_assoc, fold, slice_get, option_map, unwrap_or, nat_lt, if◌then◌else◌, option_or, lt-ltb, le-ltb, eqb_tells, length-append, length-take-le, slice_get_past, slice_get_within, first_of, Leg, Event, EventBody, Planned, Moved, EstimateAsked, LegTimed, Offered, Answered, Withdrawn, Rerouted, newest, leg_index, is_reception, legs, legs_after, index_after, with_leg_minutes, journey_state, journey_state_after, checks, IsSound, EventOnLeg, with_minutes, events_on_legs_from, events_on_legs, route_leg, leg_set, minutes_set, count_set, count_by_newest, leg_by_newest, IsPlanOfLegs, AllAdmitted, IsJourney, OnLegsByCount, LegsAreTheNewest, AsManyLegs, RerouteUndoesTimes}
 use Rattle.journey.proofs.NewestLemmas.{newest-push}
 use Rattle.journey.proofs.LegPositionLemmas.{legs-push, timed_length}
 use Rattle.journey.proofs.SoundStateLemmas.{journey_state-push, sound-after}

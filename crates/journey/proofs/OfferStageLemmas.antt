@@ -1,20 +1,6 @@
 -- How the offer that a wagon is in, and its stage, go along.
-use Rattle.std.proofs.Common.{◌≡◌, ℕ, Bool, true, false, List, [], ◌∷◌, ◌++◌, Option, Some, None, refl, ap, ◌∙◌}
-use Rattle.std.specs.Prelude.{◌||◌}
-use Rattle.std.specs.Option.{option_or, option_flatten}
-use Rattle.std.proofs.lemmas.List.Folds.{list_any-append}
-use Rattle.taf_codes.specs.declared.code.Railway.{Railway}
-use Rattle.taf_messages.specs.declared.reply.Why.TheVariants.{WrongStage}
-use Rattle.taf_messages.specs.declared.movement.MovementKind.{MovementKind}
-use Rattle.taf_messages.specs.declared.movement.MovementKind.TheVariants.{Release, Departure, YardArrival, YardDeparture, Exception, Estimate, Arrival, Delivery}
-use Rattle.taf_messages.specs.declared.record.Stage.{Stage}
+use Rattle.journey.proofs.Common.{◌≡◌, ℕ, Bool, true, false, List, [], ◌∷◌, ◌++◌, Option, Some, None, refl, ap, ◌∙◌, ◌||◌, option_or, option_flatten, list_any-append, Railway, WrongStage, MovementKind, Release, Departure, YardArrival, YardDeparture, Exception, Estimate, Arrival, Delivery, Stage, Event, EventBody, Planned, Moved, EstimateAsked, LegTimed, Offered, Answered, Withdrawn, Rerouted, newest, stage, stage_after, moved_to, is_delivery, is_delivered, refusal}
 use Rattle.taf_messages.specs.declared.record.Stage.TheVariants as stage_is
-use Rattle.journey.specs.declared.event.Event.{Event}
-use Rattle.journey.specs.declared.event.EventBody.{EventBody}
-use Rattle.journey.specs.declared.event.EventBody.TheVariants.{Planned, Moved, EstimateAsked, LegTimed, Offered, Answered, Withdrawn, Rerouted}
-use Rattle.journey.specs.Words.{newest}
-use Rattle.journey.specs.Stages.{stage, stage_after, moved_to, is_delivery, is_delivered}
-use Rattle.journey.specs.Checks.{refusal}
 use Rattle.journey.proofs.NewestLemmas.{newest-push}
 use Rattle.journey.proofs.LegPositionLemmas.{stage-push}
 

@@ -1,15 +1,5 @@
 -- A wagon has a responsible railway exactly when it is on its way.
-use Rattle.std.proofs.Common.{◌≡◌, Bool, true, false, cond, List, [], ◌∷◌, Option, Some, None, refl, inl, inr}
-use Rattle.std.specs.Prelude.{◌↔◌, IsSome, is_some}
-use Rattle.std.specs.Option.{option_or}
-use Rattle.std.proofs.lemmas.Bool.{or_cases, and_parts, false≢true}
-use Rattle.taf_codes.specs.declared.code.Railway.{Railway}
-use Rattle.taf_messages.specs.declared.movement.MovementKind.TheVariants.{Departure}
-use Rattle.journey.specs.declared.event.Event.{Event}
-use Rattle.journey.specs.declared.event.EventBody.{EventBody}
-use Rattle.journey.specs.declared.event.EventBody.TheVariants.{Moved}
-use Rattle.journey.specs.Words.{newest}
-use Rattle.journey.specs.Stages.{responsible, is_on_its_way, is_departure, has_departed, new_responsible}
+use Rattle.journey.proofs.Common.{◌≡◌, Bool, true, false, cond, List, [], ◌∷◌, Option, Some, None, refl, inl, inr, ◌↔◌, IsSome, is_some, option_or, or_cases, and_parts, false≢true, Railway, Departure, Event, EventBody, Moved, newest, responsible, is_on_its_way, is_departure, has_departed, new_responsible}
 
 pub taken_by : (by : Railway) (body : EventBody) → is_departure body ≡ true → is_some (new_responsible by body) ≡ true
 taken_by by (Moved Departure) h = refl

@@ -1,27 +1,6 @@
 -- One more event: the state that it leads to, and what stays true of it.
-use Rattle.std.proofs.Common.{◌≡◌, ℕ, ◌+◌, ◌<◌, ◌≤◌, Bool, true, false, cond, zero, suc, List, [], ◌∷◌, ◌++◌, length, take, Option, Some, None, refl, ap, ◌∙◌, sym, inl, inr, arith, add-zero}
-use Rattle.std.specs.Prelude.{◌||◌, fold, slice_get, option_map, is_some}
-use Rattle.std.specs.Option.{option_or, option_eq}
-use Rattle.std.specs.List.{list_any}
-use Rattle.std.proofs.lemmas.Bool.{cases_Bool, not-false, ltb-false}
-use Rattle.std.proofs.lemmas.List.{length-append, length-take-le}
-use Rattle.std.proofs.lemmas.List.Folds.{list_any-append}
-use Rattle.taf_codes.specs.declared.code.Railway.{Railway}
-use Rattle.taf_codes.specs.Words.{first_of, is_text}
-use Rattle.trip_plan.specs.declared.parts.Leg.{Leg}
-use Rattle.taf_messages.specs.declared.movement.MovementKind.{MovementKind}
-use Rattle.taf_messages.specs.declared.movement.MovementKind.TheVariants.{Release, Departure, YardArrival, YardDeparture, Exception, Estimate, Arrival, Delivery}
-use Rattle.taf_messages.specs.declared.record.Stage.{Stage}
+use Rattle.journey.proofs.Common.{◌≡◌, ℕ, ◌+◌, ◌<◌, ◌≤◌, Bool, true, false, cond, zero, suc, List, [], ◌∷◌, ◌++◌, length, take, Option, Some, None, refl, ap, ◌∙◌, sym, inl, inr, arith, add-zero, ◌||◌, fold, slice_get, option_map, is_some, option_or, option_eq, list_any, cases_Bool, not-false, ltb-false, length-append, length-take-le, list_any-append, Railway, first_of, is_text, Leg, MovementKind, Release, Departure, YardArrival, YardDeparture, Exception, Estimate, Arrival, Delivery, Stage, Event, EventBody, Planned, Moved, EstimateAsked, LegTimed, Offered, Answered, Withdrawn, Rerouted, JourneyState, stage_after, is_reception, is_departure, is_delivery, new_responsible, is_plan, plan, plan_in, has_later_plan, HasRoom, HaveRoom, legs_after, index_after, lead_of, lead_in, yard_in, journey_state, journey_state_after, checks, route_checks, same_stage, IsSound, IsTrackState, first_plan}
 use Rattle.taf_messages.specs.declared.record.Stage.TheVariants as stage_is
-use Rattle.journey.specs.declared.event.Event.{Event}
-use Rattle.journey.specs.declared.event.EventBody.{EventBody}
-use Rattle.journey.specs.declared.event.EventBody.TheVariants.{Planned, Moved, EstimateAsked, LegTimed, Offered, Answered, Withdrawn, Rerouted}
-use Rattle.journey.specs.declared.journey_state.JourneyState.{JourneyState}
-use Rattle.journey.specs.Stages.{stage_after, is_reception, is_departure, is_delivery, new_responsible, is_plan, plan, plan_in, has_later_plan}
-use Rattle.journey.specs.Legs.{HasRoom, HaveRoom, legs_after, index_after, lead_of, lead_in, yard_in}
-use Rattle.journey.specs.JourneyStates.{journey_state, journey_state_after}
-use Rattle.journey.specs.Checks.{checks, route_checks, same_stage}
-use Rattle.journey.specs.TrackStates.{IsSound, IsTrackState, first_plan}
 use Rattle.journey.proofs.NewestLemmas.{newest-push}
 use Rattle.journey.proofs.LegPositionLemmas.{stage-push, plan-push, leg_index-push, legs-push, timed_length}
 use Rattle.journey.proofs.OnItsWayLemmas.{some_right}

@@ -1,24 +1,9 @@
 -- Records without lists, read without a tree.
-use Rattle.std.proofs.Common.{◌≡◌, ℕ, ◌+◌, ◌-◌, ◌<◌, ◌≤◌, Bool, true, false, cond, List, [], ◌∷◌, ◌++◌, length, take, get_or, Option, Some, None, option_map, option_and_then, bytes_eq, refl, sym, ap, ◌∙◌, arith, append-nil, true≢false, subst}
-use Rattle.std.specs.Prelude.{unwrap_or}
-use Rattle.std.specs.Option.{option_or}
-use Rattle.std.proofs.lemmas.Slice.Eq.{bytes_eq-Decides}
-use Rattle.std.proofs.lemmas.List.{take_more}
-use Rattle.json.specs.Token.{Token}
+use Rattle.json_tokens.proofs.Common.{◌≡◌, ℕ, ◌+◌, ◌-◌, ◌<◌, ◌≤◌, Bool, true, false, cond, List, [], ◌∷◌, ◌++◌, length, take, get_or, Option, Some, None, option_map, option_and_then, bytes_eq, refl, sym, ap, ◌∙◌, arith, append-nil, true≢false, subst, unwrap_or, option_or, bytes_eq-Decides, take_more, Token, token_of, Yields, tokens, value-json_tokens, Members, no_members, object, put, get_member, of_json, of_members, read, max_depth, get_member-put, get_member-put_other, Member, scalar_token, scalar_json, scalar_data, IsSpelt, AreSpelt, member_tokens, member_json, put_all, flat_data, under, last_under, Scalar, Text, Whole}
 use Rattle.json.specs.Token as token
 use Rattle.json.specs.Json as json
 use Rattle.json.specs.Tree as tree
-use Rattle.json.specs.Reads.{token_of, Yields}
 use Rattle.json.specs.declared.token.Token.{Token as TokenRead}
-use Rattle.json.specs.Lex.{tokens}
-use Rattle.json.proofs.Printed.Trees.{value-json_tokens}
-use Rattle.serde_json.specs.Data.{Members, no_members, object, put}
-use Rattle.serde_json.specs.Find.{get_member}
-use Rattle.serde_json.specs.Read.{of_json, of_members, read, max_depth}
-use Rattle.serde_json.proofs.Views.{get_member-put, get_member-put_other}
-use Rattle.json_tokens.specs.Flat.{Member, scalar_token, scalar_json, scalar_data, IsSpelt, AreSpelt, member_tokens, member_json, put_all, flat_data, under, last_under}
-use Rattle.json_tokens.specs.declared.flat.Scalar.{Scalar}
-use Rattle.json_tokens.specs.declared.flat.Scalar.TheVariants.{Text, Whole}
 use Rattle.json_tokens.proofs.ReadLemmas.{whole_of}
 
 -- ---- the members of a text

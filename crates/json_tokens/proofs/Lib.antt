@@ -1,3 +1,4 @@
+pub mod Common
 pub mod PlainTextLemmas
 pub mod TextLemmas
 pub mod ReadLemmas

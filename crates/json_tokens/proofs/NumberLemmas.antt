@@ -1,19 +1,5 @@
 -- A text whose numbers are whole ones of 64 bits is that of a tree of such numbers.
-use Rattle.std.proofs.Common.{◌≡◌, ℕ, zero, suc, ◌+◌, ◌/◌, ◌%◌, ◌<◌, ◌^◌, ◌==◌, List, [], ◌∷◌, ◌++◌, Bool, true, false, cond, length, Result, Ok, Err, decimal, refl, sym, ap, subst, ◌∙◌, arith}
-use Rattle.std.specs.Prelude.{◌&&◌, OnOk, IfOk, Some}
-use Rattle.std.specs.Fmt.{digits, digits_onto, digit_glyph}
-use Rattle.std.specs.Str.Parse.{digits_value}
-use Rattle.std.proofs.Math.Nat.{one-le-pow, pow-suc}
-use Rattle.std.proofs.lemmas.Bool.{and_parts, eqb-true, false≢true}
-use Rattle.std.proofs.lemmas.Fmt.{decimal_is_IsNumeral, decimal_is_IsNumeral_wide, length-decimal-le}
-use Rattle.std.proofs.lemmas.List.Elements.{All-nil, All-cons, All-head, All-tail}
-use Rattle.json.specs.Token.{Token}
-use Rattle.json.specs.Tree.{json_tokens, items_tokens, members_tokens}
-use Rattle.serde_json.specs.Data.{unsigned, negative, float, Data, null, boolean, number, string, array, object, Items, no_items, item, Members, no_members, member}
-use Rattle.serde_json.specs.Read.{read}
-use Rattle.serde_json.specs.Written.{outline, items_outline, members_outline, compact_text}
-use Rattle.json_tokens.specs.SmallNumbers.{HasSmallNumbers, ItemsHaveSmallNumbers, MembersHaveSmallNumbers}
-use Rattle.json_tokens.specs.Texts.{IsSmallToken, AreSmall}
+use Rattle.json_tokens.proofs.Common.{◌≡◌, ℕ, zero, suc, ◌+◌, ◌/◌, ◌%◌, ◌<◌, ◌^◌, ◌==◌, List, [], ◌∷◌, ◌++◌, Bool, true, false, cond, length, Result, Ok, Err, decimal, refl, sym, ap, subst, ◌∙◌, arith, ◌&&◌, OnOk, IfOk, Some, digits, digits_onto, digit_glyph, digits_value, one-le-pow, pow-suc, and_parts, eqb-true, false≢true, decimal_is_IsNumeral, decimal_is_IsNumeral_wide, length-decimal-le, All-nil, All-cons, All-head, All-tail, Token, json_tokens, items_tokens, members_tokens, unsigned, negative, float, Data, null, boolean, number, string, array, object, Items, no_items, item, Members, no_members, member, read, outline, items_outline, members_outline, compact_text, HasSmallNumbers, ItemsHaveSmallNumbers, MembersHaveSmallNumbers, IsSmallToken, AreSmall}
 use Rattle.json_tokens.proofs.ReadLemmas.{is_ordered, items_are_ordered, members_are_ordered, is_below_all, read-compact_text}
 
 -- ---- a number is told by its decimal, if that is the decimal of a number of 64 bits

@@ -1,10 +1,5 @@
 -- JSON shows a plain text as it is.
-use Rattle.std.proofs.Common.{◌≡◌, ℕ, ◌≤◌, List, [], ◌∷◌, ◌++◌, true, refl, arith}
-use Rattle.std.proofs.lemmas.Bool.{and_parts}
-use Rattle.std.proofs.lemmas.Bool.Decides.{nat_tests}
-use Rattle.json.specs.Print.{escape}
-use Rattle.json.proofs.Printed.Strings.{escape_byte_plain}
-use Rattle.json_tokens.specs.Writing.{is_plain_letter, is_plain}
+use Rattle.json_tokens.proofs.Common.{◌≡◌, ℕ, ◌≤◌, List, [], ◌∷◌, ◌++◌, true, refl, arith, and_parts, nat_tests, escape, escape_byte_plain, is_plain_letter, is_plain}
 
 plain_byte : (x : ℕ) → is_plain_letter x ≡ true → ((x ≡ 34 → ⊥) × (x ≡ 92 → ⊥)) × (32 ≤ x)
 plain_byte x h = ((λ e. grind (arith, nat_tests), λ e. grind (arith, nat_tests)), grind (arith, nat_tests))

@@ -1,28 +1,9 @@
 -- A record that is scanned is the text of its members.
-use Rattle.std.proofs.Common.{◌≡◌, ℕ, zero, suc, ◌+◌, ◌*◌, ◌/◌, ◌%◌, ◌<◌, ◌≤◌, ◌^◌, Bool, true, false, not, cond, eqb, ltb, ◌||◌, ◌⊎◌, inl, inr, List, [], ◌∷◌, ◌++◌, map, length, take, drop, get_or, decimal, refl, sym, ap, ap₂, subst, ◌∙◌, arith, append_assoc, take-append-drop}
-use Rattle.std.specs.Prelude.{Some}
-use Rattle.std.specs.List.{prefix_len}
+use Rattle.json_tokens.proofs.Common.{◌≡◌, ℕ, zero, suc, ◌+◌, ◌*◌, ◌/◌, ◌%◌, ◌<◌, ◌≤◌, ◌^◌, Bool, true, false, not, cond, eqb, ltb, ◌||◌, ◌⊎◌, inl, inr, List, [], ◌∷◌, ◌++◌, map, length, take, drop, get_or, decimal, refl, sym, ap, ap₂, subst, ◌∙◌, arith, append_assoc, take-append-drop, Some, prefix_len, and_from, cases_lt, length-chunk, mask_l-mod, trailing_mask_l, run_in_chunk_le, run_in_chunk_fails, none_from_empty_mask, decimal_digit, decimal_step, drop_more, take_more, length-map, Token, tokens, print, print_from, separator, token_text, quoted, escape, IsNumber, IsPrintable, ArePrintable, tokens-print, IsNumber-decimal, unsigned, number_of, read, number_of-decimal, Member, scalar_token, IsSpelt, AreSpelt, member_tokens, flat_data, IsDecimal, AreDecimal, PlainUpTo, member_text, members_text, flat_tokens, is_stop, is_plain, is_plain_letter, Scalar, Text, Whole}
 use lib.Bits.{bit_or}
 use lib.Count.{count_trailing_zeros}
 use lib.Lanes.{chunk, mask_l, top}
-use Rattle.std.proofs.lemmas.Bool.{and_from, cases_lt}
-use Rattle.std.proofs.lemmas.Simd.{length-chunk, mask_l-mod, trailing_mask_l, run_in_chunk_le, run_in_chunk_fails, none_from_empty_mask}
-use Rattle.std.proofs.lemmas.Fmt.{decimal_digit, decimal_step}
-use Rattle.std.proofs.lemmas.List.{drop_more, take_more, length-map}
-use Rattle.json.specs.Token.{Token}
 use Rattle.json.specs.Token as token
-use Rattle.json.specs.Lex.{tokens}
-use Rattle.json.specs.Print.{print, print_from, separator, token_text, quoted, escape, IsNumber, IsPrintable, ArePrintable}
-use Rattle.json.proofs.Printed.Tokens.{tokens-print}
-use Rattle.json.proofs.Printed.Decimals.{IsNumber-decimal}
-use Rattle.serde_json.specs.Data.{unsigned}
-use Rattle.serde_json.specs.Read.{number_of, read}
-use Rattle.serde_json.proofs.Numbers.{number_of-decimal}
-use Rattle.json_tokens.specs.Flat.{Member, scalar_token, IsSpelt, AreSpelt, member_tokens, flat_data}
-use Rattle.json_tokens.specs.FlatText.{IsDecimal, AreDecimal, PlainUpTo, member_text, members_text, flat_tokens, is_stop}
-use Rattle.json_tokens.specs.Writing.{is_plain, is_plain_letter}
-use Rattle.json_tokens.specs.declared.flat.Scalar.{Scalar}
-use Rattle.json_tokens.specs.declared.flat.Scalar.TheVariants.{Text, Whole}
 use Rattle.json_tokens.proofs.FlatLemmas.{flat_read}
 use Rattle.json_tokens.proofs.PlainTextLemmas.{escape_plain}
 

@@ -1,19 +1,10 @@
 -- What is found on a tape is what is found in the data that it stands for.
-use Rattle.std.proofs.Common.{◌≡◌, ℕ, ◌≤◌, Bool, true, false, cond, List, [], ◌∷◌, ◌++◌, Option, Some, None, MatchOption, IfNone, is_some, option_map, option_and_then, unwrap_or, bytes_eq, refl, sym, ap, subst, ◌∙◌, arith, true≢false}
-use Rattle.std.proofs.lemmas.Slice.Eq.{bytes_eq-Decides}
-use Rattle.json.specs.Token.{Token}
+use Rattle.json_tokens.proofs.Common.{◌≡◌, ℕ, ◌≤◌, Bool, true, false, cond, List, [], ◌∷◌, ◌++◌, Option, Some, None, MatchOption, IfNone, is_some, option_map, option_and_then, unwrap_or, bytes_eq, refl, sym, ap, subst, ◌∙◌, arith, true≢false, bytes_eq-Decides, Token, BeginsWith, InItems, InMembers, NextItem, Finds, not_found, Some_inj, opened, value-json_tokens_back, Num, Data, null, number, array, object, Items, no_items, item, Members, no_members, put, number_of, of_json, of_items, of_members, max_depth, get_member-put, get_member-put_other, first_data, first_items, tape_data, tape_items}
 use Rattle.json.specs.Token as token
 use Rattle.json.specs.Json as json
 use Rattle.json.specs.Find as found
-use Rattle.json.specs.Find.{BeginsWith, InItems, InMembers, NextItem, Finds}
 use Rattle.json.specs.Tree as tree
-use Rattle.json.proofs.Found.{not_found, Some_inj, opened}
-use Rattle.json.proofs.Unique.Spelling.{value-json_tokens_back}
-use Rattle.serde_json.specs.Data.{Num, Data, null, number, array, object, Items, no_items, item, Members, no_members, put}
 use Rattle.serde_json.specs.Find as find
-use Rattle.serde_json.specs.Read.{number_of, of_json, of_items, of_members, max_depth}
-use Rattle.serde_json.proofs.Views.{get_member-put, get_member-put_other}
-use Rattle.json_tokens.specs.Tapes.{first_data, first_items, tape_data, tape_items}
 use Rattle.json_tokens.proofs.FlatLemmas as flat
 use Rattle.json_tokens.proofs.TapeReadLemmas.{Stands, stands, stands_first, there, items_first}
 

@@ -1,23 +1,8 @@
 -- A text is read as the data of its tape, if its tokens are simple.
-use Rattle.std.proofs.Common.{◌≡◌, ℕ, ◌+◌, ◌-◌, ◌<◌, ◌≤◌, true, List, [], ◌∷◌, ◌++◌, map, length, drop, get_or, Option, Some, None, IsSome, is_some, option_map, option_and_then, unwrap_or, refl, sym, ap, subst, ◌∙◌, arith, append-nil, append_assoc, true≢false}
-use Rattle.std.proofs.lemmas.List.{drop_more, drop_all}
-use Rattle.json.specs.Token.{Token}
+use Rattle.json_tokens.proofs.Common.{◌≡◌, ℕ, ◌+◌, ◌-◌, ◌<◌, ◌≤◌, true, List, [], ◌∷◌, ◌++◌, map, length, drop, get_or, Option, Some, None, IsSome, is_some, option_map, option_and_then, unwrap_or, refl, sym, ap, subst, ◌∙◌, arith, append-nil, append_assoc, true≢false, drop_more, drop_all, Token, BeginsWith, InItems, tokens, node_token, Node, not_found, items_close, items_go_on, closed_array, value-depth, value-json_tokens, value-json_tokens_back, tokens-document, Data, null, boolean, number, unsigned, string, array, object, Items, no_items, item, Members, no_members, put, as_array, of_json, of_items, of_members, read, max_depth, first_data, first_items, tape_data, IsSimpleAt}
 use Rattle.json.specs.Token as token
 use Rattle.json.specs.Json as json
-use Rattle.json.specs.Find.{BeginsWith, InItems}
-use Rattle.json.specs.Lex.{tokens}
-use Rattle.json.specs.Tape.{node_token}
 use Rattle.json.specs.Tree as tree
-use Rattle.json.specs.declared.tape.Node.{Node}
-use Rattle.json.proofs.Found.{not_found, items_close, items_go_on}
-use Rattle.json.proofs.Grammar.{closed_array}
-use Rattle.json.proofs.Nesting.{value-depth}
-use Rattle.json.proofs.Printed.Trees.{value-json_tokens}
-use Rattle.json.proofs.Unique.Spelling.{value-json_tokens_back, tokens-document}
-use Rattle.serde_json.specs.Data.{Data, null, boolean, number, unsigned, string, array, object, Items, no_items, item, Members, no_members, put}
-use Rattle.serde_json.specs.Find.{as_array}
-use Rattle.serde_json.specs.Read.{of_json, of_items, of_members, read, max_depth}
-use Rattle.json_tokens.specs.Tapes.{first_data, first_items, tape_data, IsSimpleAt}
 use Rattle.json_tokens.proofs.ReadLemmas.{whole_of}
 
 -- ---- what tokens begin with

@@ -1,21 +1,5 @@
 -- The tokens of an object are those of its fields.
-use Rattle.std.proofs.Common.{◌≡◌, List, [], ◌∷◌, ◌++◌, refl, sym, ap, ◌∙◌, append_assoc}
-use Rattle.json.specs.Token.{Token}
-use Rattle.json.specs.Written.{Written}
-use Rattle.json.specs.Tree.{json_tokens, members_tokens, items_tokens}
-use Rattle.serde_json.specs.Written.{outline, members_outline, items_outline}
-use Rattle.json_tokens.specs.Texts.{Fields, members, fields, field_tokens, item_tokens, with_field_tokens, Adds, AddsData, AddsFields}
-use Rattle.serde_json.specs.Data.{Data, array}
-use Rattle.serde_json.specs.View.{items_of}
-use Rattle.std.proofs.lemmas.List.{append-nil}
-use Rattle.std.proofs.Common.{ℕ, ◌+◌, ◌<◌, length, take, get_or}
-use Rattle.std.specs.Prelude.{map}
-use Rattle.std.proofs.Common.{add-one}
-use Rattle.std.proofs.Math.Seq.{take-suc}
-use Rattle.std.proofs.lemmas.List.{map_push}
-use Rattle.json.specs.Print.{print}
-use Rattle.serde_json.specs.Written.{compact_text}
-use Rattle.serde_json.proofs.Texts.{print-outline}
+use Rattle.json_tokens.proofs.Common.{◌≡◌, List, [], ◌∷◌, ◌++◌, refl, sym, ap, ◌∙◌, append_assoc, Token, Written, json_tokens, members_tokens, items_tokens, outline, members_outline, items_outline, Fields, members, fields, field_tokens, item_tokens, with_field_tokens, Adds, AddsData, AddsFields, Data, array, items_of, append-nil, ℕ, ◌+◌, ◌<◌, length, take, get_or, map, add-one, take-suc, map_push, print, compact_text, print-outline}
 
 pub field_tokens-append : (fs gs : Fields) → field_tokens (fs ++ gs) ≡ field_tokens fs ++ field_tokens gs
 field_tokens-append [] gs = refl

@@ -1,13 +1,5 @@
 -- A whole number, and the digits that say it.
-use Rattle.std.proofs.Common.{◌≡◌, ℕ, ◌<◌, ◌==◌, ◌^◌, ◌&&◌, not, if◌then◌else◌, Bool, true, false, ℤ, Float, List, length, drop, Option, Some, None, option_and_then, refl, sym, ap, subst, ◌∙◌}
-use Rattle.std.specs.Prelude.{slice_index, nat_lt, nat_le, SomeIff, IfSome}
-use Rattle.std.specs.Float.{binary64, float_is_finite}
-use Rattle.std.proofs.lemmas.Bool.{and_parts, eqb-true, false≢true}
-use Rattle.std.proofs.lemmas.Bool.Decides.{Decides-ltb}
-use Rattle.fast_float.specs.Text.{Parts, scan, digits_of, nearest, with_sign, IsInteger}
-use Rattle.serde_json.specs.Data.{unsigned, negative, float}
-use Rattle.serde_json.specs.Find.{as_u64}
-use Rattle.serde_json.specs.Read.{number_of, number_from, float_of, is_integer}
+use Rattle.json_tokens.proofs.Common.{◌≡◌, ℕ, ◌<◌, ◌==◌, ◌^◌, ◌&&◌, not, if◌then◌else◌, Bool, true, false, ℤ, Float, List, length, drop, Option, Some, None, option_and_then, refl, sym, ap, subst, ◌∙◌, slice_index, nat_lt, nat_le, SomeIff, IfSome, binary64, float_is_finite, and_parts, eqb-true, false≢true, Decides-ltb, Parts, scan, digits_of, nearest, with_sign, IsInteger, unsigned, negative, float, as_u64, number_of, number_from, float_of, is_integer}
 
 -- ---- what is a whole number
 

@@ -1,16 +1,6 @@
 -- One token more.
-use Rattle.std.proofs.Common.{◌≡◌, ℕ, true, false, List, [], ◌∷◌, ◌++◌, length, take, drop, sym, ap, subst, ◌∙◌, arith, length-append, append_assoc}
-use Rattle.std.proofs.lemmas.List.{take-append-le, drop-append-le}
-use Rattle.std.proofs.lemmas.List.Elements.{All-nil, All-cons, All-head, All-tail}
-use Rattle.json.specs.Token.{Token}
-use Rattle.json.specs.Lex.{tokens}
-use Rattle.json.specs.Print.{separator, token_text, ends, quoted, IsNumber, IsPrintable}
-use Rattle.json.proofs.Printed.Tokens.{tokens-print, print_from_push, ends_push, ArePrintable-push}
-use Rattle.json.proofs.Printed.Decimals.{IsNumber-decimal}
-use Rattle.json_tokens.specs.Texts.{IsSmallToken, AreSmall}
-use Rattle.json_tokens.specs.Writing.{written, IsWriting, CanBePut, is_plain}
+use Rattle.json_tokens.proofs.Common.{◌≡◌, ℕ, true, false, List, [], ◌∷◌, ◌++◌, length, take, drop, sym, ap, subst, ◌∙◌, arith, length-append, append_assoc, take-append-le, drop-append-le, All-nil, All-cons, All-head, All-tail, Token, tokens, separator, token_text, ends, quoted, IsNumber, IsPrintable, tokens-print, print_from_push, ends_push, ArePrintable-push, IsNumber-decimal, IsSmallToken, AreSmall, written, IsWriting, CanBePut, is_plain, Inside}
 use Rattle.json_tokens.proofs.PlainTextLemmas.{escape_plain}
-use Rattle.json_tokens.specs.declared.writer.Writer.TheInside.{Inside}
 
 small_more : (ts : List Token) (t : Token) → AreSmall ts → IsSmallToken t → AreSmall (ts ++ t ∷ [])
 small_more [] t h small = All-cons IsSmallToken t [] small (All-nil IsSmallToken)

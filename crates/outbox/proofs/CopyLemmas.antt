@@ -1,6 +1,5 @@
 -- What is cloned is equal to its source.
-use Rattle.std.proofs.Common.{rules, ◌≡◌, ap}
-use Rattle.taf_messages.specs.declared.item.ItemBody.{ItemBody}
+use Rattle.outbox.proofs.Common.{rules, ◌≡◌, ap, ItemBody}
 use Rattle.taf_messages.specs.declared.item.ItemBody.TheVariants as body
 use Rattle.taf_messages.specs.contracts.item.ItemBodyClone.TheImpl as ItemBodyClone
 

@@ -1,9 +1,5 @@
 -- Railways that are equal, and a railway whose box is put in.
-use Rattle.std.proofs.Common.{◌≡◌, ◌≤◌, Bool, true, false, cond, List, Option, Some, Result, Ok, Err, OnErr, is_some, bytes_eq, refl, ap, sym, ◌∙◌, subst, arith}
-use Rattle.std.specs.Map.{lookup}
-use Rattle.taf_codes.specs.Equality.{texts}
-use Rattle.taf_codes.specs.declared.code.Railway.{Railway}
-use Rattle.outbox.specs.OutboxStates.{BoxState, outbox_state_of, outbox_state_in, room_for, room_in, has_box}
+use Rattle.outbox.proofs.Common.{◌≡◌, ◌≤◌, Bool, true, false, cond, List, Option, Some, Result, Ok, Err, OnErr, is_some, bytes_eq, refl, ap, sym, ◌∙◌, subst, arith, lookup, texts, Railway, BoxState, outbox_state_of, outbox_state_in, room_for, room_in, has_box}
 
 -- equal railways have the same box
 pub same_box : (boxes : List (Railway × BoxState)) (railway also : Railway) → bytes_eq railway also ≡ true → lookup (bytes_eq also) boxes ≡ lookup (bytes_eq railway) boxes

@@ -1,3 +1,4 @@
+pub mod Common
 pub mod CopyLemmas
 pub mod KeyLemmas
 pub mod NumberLemmas

@@ -1,11 +1,5 @@
 -- Numbered items.
-use Rattle.std.proofs.Common.{◌≡◌, ℕ, ◌+◌, ◌≤◌, List, [], ◌∷◌, ◌++◌, length, take, drop, zero, suc, refl, sym, ap, ◌∙◌, arith}
-use Rattle.std.proofs.lemmas.List.{append-nil, append_assoc, take_all, take-append-le}
-use Rattle.taf_messages.specs.declared.item.Item.{Item}
-use Rattle.taf_messages.specs.declared.item.ItemBody.{ItemBody}
-use Rattle.outbox.specs.OutboxStates.{OutboxState, items_from_number, first_items}
-use Rattle.outbox.specs.Keeping.{Keeps}
-use Rattle.outbox.specs.Numbering.{items_to_fetch}
+use Rattle.outbox.proofs.Common.{◌≡◌, ℕ, ◌+◌, ◌≤◌, List, [], ◌∷◌, ◌++◌, length, take, drop, zero, suc, refl, sym, ap, ◌∙◌, arith, append-nil, append_assoc, take_all, take-append-le, Item, ItemBody, OutboxState, items_from_number, first_items, Keeps, items_to_fetch}
 
 -- the first items are those of the first bodies
 take-numbered_items : (n k : ℕ) (bodies : List ItemBody) → take k (items_from_number n bodies) ≡ items_from_number n (take k bodies)

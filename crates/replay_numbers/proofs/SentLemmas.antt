@@ -1,11 +1,5 @@
 -- A railway among all, whose numbers are put in.
-use Rattle.std.proofs.Common.{◌≡◌, ℕ, Bool, true, false, cond, List, Option, Some, bytes_eq, refl, ap, sym, ◌∙◌}
-use Rattle.std.specs.Prelude.{◌==◌, ◌&&◌, option_and_then}
-use Rattle.std.specs.Option.{option_map_or}
-use Rattle.std.specs.Map.{lookup}
-use Rattle.taf_codes.specs.Equality.{texts}
-use Rattle.taf_codes.specs.declared.code.Railway.{Railway}
-use Rattle.replay_numbers.specs.SentPositions.{SentState, position_in, has_room_in, position_of, has_room}
+use Rattle.replay_numbers.proofs.Common.{◌≡◌, ℕ, Bool, true, false, cond, List, Option, Some, bytes_eq, refl, ap, sym, ◌∙◌, ◌==◌, ◌&&◌, option_and_then, option_map_or, lookup, texts, Railway, SentState, position_in, has_room_in, position_of, has_room}
 
 -- what is found of a railway
 abbrev position_at : Option SentState → ℕ → Option ℕ

@@ -1,9 +1,5 @@
 -- Positions in a row.
-use Rattle.std.proofs.Common.{◌≡◌, ℕ, ◌<◌, ◌≤◌, cond, zero, suc, List, [], ◌∷◌, ◌++◌, length, Option, Some, None, refl, ap, ◌∙◌, sym, arith, set}
-use Rattle.std.specs.Prelude.{◌==◌}
-use Rattle.std.proofs.Math.Dec.{eqb-suc-suc, eqb-zero-suc, eqb-suc-zero}
-use Rattle.std.specs.List.{slice_get}
-use Rattle.std.specs.Option.{option_flatten}
+use Rattle.replay_numbers.proofs.Common.{◌≡◌, ℕ, ◌<◌, ◌≤◌, cond, zero, suc, List, [], ◌∷◌, ◌++◌, length, Option, Some, None, refl, ap, ◌∙◌, sym, arith, set, ◌==◌, eqb-suc-suc, eqb-zero-suc, eqb-suc-zero, slice_get, option_flatten}
 
 -- a place without a position adds none
 pub none_added : (row : List (Option ℕ)) (n : ℕ) → option_flatten (slice_get (row ++ None ∷ []) n) ≡ option_flatten (slice_get row n)

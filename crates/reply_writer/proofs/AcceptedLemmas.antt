@@ -1,11 +1,5 @@
 -- The text of the reply to a message that is accepted.
-use Rattle.std.proofs.Common.{◌≡◌, ℕ, ◌<◌, ◌^◌, ◌++◌, List, Some, codes, decimal, refl, ap, ◌∙◌, append_assoc}
-use Rattle.json.specs.Print.{escape_byte}
-use Rattle.serde_json.specs.Read.{read}
-use Rattle.serde_json.specs.Written.{compact_text}
-use Rattle.taf_messages.specs.declared.reply.Reply.TheVariants.{Accepted}
-use Rattle.json_tokens.proofs.ReadLemmas.{read-compact_text}
-use Rattle.reply_writer.specs.ReplyShapes.{reply_fields, reply_data}
+use Rattle.reply_writer.proofs.Common.{◌≡◌, ℕ, ◌<◌, ◌^◌, ◌++◌, List, Some, codes, decimal, refl, ap, ◌∙◌, append_assoc, escape_byte, read, compact_text, Accepted, read-compact_text, reply_fields, reply_data}
 use Rattle.reply_writer.proofs.ShapeLemmas.{reply_ordered}
 
 -- its parts: the digits of the message's number stand between two texts

@@ -1,31 +1,9 @@
 -- What the fields of a message's tree are read as.
-use Rattle.std.proofs.Common.{◌≡◌, ℕ, ◌≤◌, List, [], ◌∷◌, length, true, All, Option, Some, Ok, ok_or, refl, ap, ◌∙◌, arith, le-leb}
-use Rattle.std.specs.Prelude.{map}
-use Rattle.std.specs.Result.{result_ok}
-use Rattle.std.proofs.lemmas.List.Elements.{All-head, All-tail}
-use Rattle.serde_json.specs.Data.{Data}
-use Rattle.serde_json.specs.Find.{get}
-use Rattle.serde_json.specs.View.{items_of}
-use Rattle.wagon_number.specs.Digits.{IsVehicleNumber}
+use Rattle.reply_writer.proofs.Common.{◌≡◌, ℕ, ◌≤◌, List, [], ◌∷◌, length, true, All, Option, Some, Ok, ok_or, refl, ap, ◌∙◌, arith, le-leb, map, result_ok, All-head, All-tail, Data, get, items_of, IsVehicleNumber, last_minute, is_railway, is_place, is_name, is_unit_code, Load, Loaded, Empty, Leg, UnitLoad, ◌>>=◌, leg, unit_load, each, member, IsBetween, IsLeg, IsUnitLoad, may_be_offered, field_name, field_of, value_or_fault, at_text, wagon_text, load_text, leg_fields, leg_data, unit_fields, unit_data, text, whole, list_of, Field, BadField}
 use Rattle.wagon_number.proofs.TextLemmas as numbers
-use Rattle.taf_moment.specs.Calendar.{last_minute}
 use Rattle.taf_moment.proofs.TextLemmas as moments
-use Rattle.taf_codes.specs.Codes.{is_railway, is_place, is_name, is_unit_code}
-use Rattle.trip_plan.specs.declared.parts.Load.{Load}
-use Rattle.trip_plan.specs.declared.parts.Load.TheVariants.{Loaded, Empty}
-use Rattle.trip_plan.specs.declared.parts.Leg.{Leg}
-use Rattle.trip_plan.specs.declared.parts.UnitLoad.{UnitLoad}
 use Rattle.call_reader.specs.Values as value_of
-use Rattle.call_reader.specs.Values.{◌>>=◌, leg, unit_load, each, member}
-use Rattle.taf_messages.specs.Kept.{IsBetween, IsLeg, IsUnitLoad}
-use Rattle.taf_messages.specs.Limits.{may_be_offered}
-use Rattle.taf_messages.specs.Names.{field_name}
-use Rattle.call_reader.specs.Reading.{field_of, value_or_fault}
-use Rattle.reply_writer.specs.Shapes.{at_text, wagon_text, load_text, leg_fields, leg_data, unit_fields, unit_data}
-use Rattle.json_tokens.specs.Texts.{text, whole, list_of}
-use Rattle.taf_messages.specs.declared.field.Field.{Field}
 use Rattle.taf_messages.specs.declared.field.Field.TheVariants as fields
-use Rattle.taf_messages.specs.declared.fault.RecordFault.TheVariants.{BadField}
 
 -- ---- texts and numbers
 

@@ -1,3 +1,4 @@
+pub mod Common
 pub mod AcceptedLemmas
 pub mod PlainTextLemmas
 pub mod ShapeLemmas

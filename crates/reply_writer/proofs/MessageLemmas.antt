@@ -1,36 +1,13 @@
 -- The tree of a message is read as the call that sends it.
-use Rattle.std.proofs.Common.{◌≡◌, ℕ, ◌≤◌, List, [], ◌∷◌, true, Option, Some, None, Result, Ok, Err, is_some, refl, sym, ap, ◌∙◌, if◌then◌else◌}
-use Rattle.std.specs.Prelude.{codes}
-use Rattle.serde_json.specs.Data.{Data}
-use Rattle.serde_json.specs.Find.{get, as_object}
-use Rattle.wagon_number.specs.Digits.{IsVehicleNumber}
-use Rattle.taf_moment.specs.Calendar.{last_minute}
-use Rattle.taf_codes.specs.Codes.{is_railway}
-use Rattle.trip_plan.specs.declared.parts.Leg.{Leg}
-use Rattle.trip_plan.specs.declared.parts.UnitLoad.{UnitLoad}
-use Rattle.trip_plan.specs.Trip.{Trip}
+use Rattle.reply_writer.proofs.Common.{◌≡◌, ℕ, ◌≤◌, List, [], ◌∷◌, true, Option, Some, None, Result, Ok, Err, is_some, refl, sym, ap, ◌∙◌, if◌then◌else◌, codes, Data, get, as_object, IsVehicleNumber, last_minute, is_railway, Leg, UnitLoad, Trip, IsMessageNumber, IsTrip, IsMovementKind, IsAnswer, IsBody, IsMessage, kind_named, at_text, wagon_text, load_text, leg_data, unit_data, first_plan_fields, last_plan_fields, movement_fields, offer_fields, answer_fields, leg_time_fields, body_fields, message_data, text, whole, list_of, fields, BodyName, MovementName, MovementKind, Release, Departure, YardArrival, YardDeparture, Exception, Estimate, Arrival, Delivery, Message, Body, TrainOffer, TrainAnswer, RecordFault, BadJson}
 use Rattle.call_reader.specs.Values as value_of
-use Rattle.taf_messages.specs.Kept.{IsMessageNumber, IsTrip, IsMovementKind, IsAnswer, IsBody, IsMessage}
-use Rattle.taf_messages.specs.Names.{kind_named}
 use Rattle.call_reader.specs.Reading.{◌>>=◌, field_of, optional_field_of, plan_or_fault, route_or_fault, units_of, plan_of, movement_kind_of, movement_of, offer_of, answer_of, body_of, message_of, call_of_kind, kind_of, call_of}
-use Rattle.reply_writer.specs.Shapes.{at_text, wagon_text, load_text, leg_data, unit_data, first_plan_fields, last_plan_fields, movement_fields, offer_fields, answer_fields, leg_time_fields, body_fields, message_data}
-use Rattle.json_tokens.specs.Texts.{text, whole, list_of, fields}
 use Rattle.taf_messages.specs.declared.field.Field.TheVariants as field
 use Rattle.taf_messages.specs.declared.kind.Kind.TheVariants as kinds
-use Rattle.taf_messages.specs.declared.kind.BodyName.{BodyName}
 use Rattle.taf_messages.specs.declared.kind.BodyName.TheVariants as names
-use Rattle.taf_messages.specs.declared.kind.MovementName.{MovementName}
 use Rattle.taf_messages.specs.declared.kind.MovementName.TheVariants as movements
-use Rattle.taf_messages.specs.declared.movement.MovementKind.{MovementKind}
-use Rattle.taf_messages.specs.declared.movement.MovementKind.TheVariants.{Release, Departure, YardArrival, YardDeparture, Exception, Estimate, Arrival, Delivery}
-use Rattle.taf_messages.specs.declared.message.Message.{Message}
-use Rattle.taf_messages.specs.declared.message.Body.{Body}
 use Rattle.taf_messages.specs.declared.message.Body.TheVariants as body
-use Rattle.taf_messages.specs.declared.message.TrainOffer.{TrainOffer}
-use Rattle.taf_messages.specs.declared.message.TrainAnswer.{TrainAnswer}
 use Rattle.taf_messages.specs.declared.call.Call.TheVariants as calls
-use Rattle.taf_messages.specs.declared.fault.RecordFault.{RecordFault}
-use Rattle.taf_messages.specs.declared.fault.RecordFault.TheVariants.{BadJson}
 use Rattle.reply_writer.proofs.FieldLemmas.{railway_read, place_read, consignment_read, train_read, wagon_read, moment_read, number_read, load_read, wagon_list_read, leg_list_read, unit_list_read, wagons_read, offered_wagons_read, good_field}
 
 -- what is read after a value that was read

@@ -1,31 +1,10 @@
 -- The texts that are written are plain.
-use Rattle.std.proofs.Common.{◌≡◌, ℕ, List, [], ◌∷◌, Bool, true, false, Result, Ok, Err, refl, ap, ◌∙◌, subst, arith, take, drop, map, length, take-append-drop, if◌then◌else◌}
-use Rattle.std.specs.Prelude.{◌||◌, ◌==◌, codes}
-use Rattle.std.specs.Char.{is_ascii_digit, is_ascii_uppercase}
-use Rattle.std.specs.List.{list_all}
-use Rattle.std.proofs.lemmas.Bool.{and_parts, and_from}
-use Rattle.std.proofs.lemmas.Bool.Decides.{nat_tests}
-use Rattle.std.proofs.lemmas.List.Folds.{list_all-append}
-use Rattle.std.proofs.lemmas.Slice.Eq.{bytes_eq-Decides}
-use Rattle.wagon_number.specs.Digits.{number_of, has_twelve_digits}
-use Rattle.taf_moment.specs.Calendar.{moment_of, has_form, is_moment, digit_as_zero}
-use Rattle.taf_codes.specs.Codes.{is_railway, is_place, is_name, is_unit_code, has_unit_form, are_letters_then_digits, are_code_letters, are_name_letters}
-use Rattle.taf_codes.specs.UnitDigits.{ends_in_check_digit}
-use Rattle.taf_messages.specs.Names.{movement_name, body_name, field_name}
-use Rattle.taf_messages.specs.Details.{stage_name, status_name}
-use Rattle.taf_messages.specs.Details.{why_name}
-use Rattle.json_tokens.specs.Writing.{is_plain_letter, is_plain}
-use Rattle.taf_messages.specs.declared.field.Field.{Field}
+use Rattle.reply_writer.proofs.Common.{◌≡◌, ℕ, List, [], ◌∷◌, Bool, true, false, Result, Ok, Err, refl, ap, ◌∙◌, subst, arith, take, drop, map, length, take-append-drop, if◌then◌else◌, ◌||◌, ◌==◌, codes, is_ascii_digit, is_ascii_uppercase, list_all, and_parts, and_from, nat_tests, list_all-append, bytes_eq-Decides, number_of, has_twelve_digits, moment_of, has_form, is_moment, digit_as_zero, is_railway, is_place, is_name, is_unit_code, has_unit_form, are_letters_then_digits, are_code_letters, are_name_letters, ends_in_check_digit, movement_name, body_name, field_name, stage_name, status_name, why_name, is_plain_letter, is_plain, Field, BodyName, MovementName, Stage, Status, Why}
 use Rattle.taf_messages.specs.declared.field.Field.TheVariants as fields
-use Rattle.taf_messages.specs.declared.kind.BodyName.{BodyName}
 use Rattle.taf_messages.specs.declared.kind.BodyName.TheVariants as bodies
-use Rattle.taf_messages.specs.declared.kind.MovementName.{MovementName}
 use Rattle.taf_messages.specs.declared.kind.MovementName.TheVariants as movements
-use Rattle.taf_messages.specs.declared.record.Stage.{Stage}
 use Rattle.taf_messages.specs.declared.record.Stage.TheVariants as stages
-use Rattle.taf_messages.specs.declared.record.Status.{Status}
 use Rattle.taf_messages.specs.declared.record.Status.TheVariants as statuses
-use Rattle.taf_messages.specs.declared.reply.Why.{Why}
 use Rattle.taf_messages.specs.declared.reply.Why.TheVariants as whys
 
 -- ---- letters

@@ -1,32 +1,7 @@
 -- The trees that are written have rising keys, and nest seven deep at most.
-use Rattle.std.proofs.Common.{◌≡◌, ℕ, suc, List, [], ◌∷◌, true, Option, Some, None, refl}
-use Rattle.serde_json.specs.Data.{Data}
-use Rattle.trip_plan.specs.declared.parts.Leg.{Leg}
-use Rattle.trip_plan.specs.declared.parts.UnitLoad.{UnitLoad}
-use Rattle.json_tokens.specs.Texts.{fields, or_null, text}
-use Rattle.reply_writer.specs.Shapes.{at_text, wagon_text, leg_fields, leg_data, unit_fields, unit_data, body_fields, message_data, first_plan_fields, last_plan_fields, movement_fields, offer_fields, answer_fields, leg_time_fields}
-use Rattle.reply_writer.specs.RecordShapes.{event_fields, event_data, estimate_fields, estimate_data, first_record_fields, middle_record_fields, last_record_fields, record_data}
-use Rattle.reply_writer.specs.ReplyShapes.{sub_fields, eti_fields, item_fields, item_data, reply_fields, reply_data, fault_fields, fault_data}
-use Rattle.trip_plan.specs.Trip.{Trip}
-use Rattle.taf_messages.specs.declared.movement.MovementKind.{MovementKind}
-use Rattle.taf_messages.specs.declared.movement.MovementKind.TheVariants.{Release, Departure, YardArrival, YardDeparture, Exception, Estimate, Arrival, Delivery}
-use Rattle.taf_messages.specs.declared.message.Message.{Message}
-use Rattle.taf_messages.specs.declared.message.TrainAnswer.{TrainAnswer}
-use Rattle.taf_messages.specs.declared.message.Body.{Body}
+use Rattle.reply_writer.proofs.Common.{◌≡◌, ℕ, suc, List, [], ◌∷◌, true, Option, Some, None, refl, Data, Leg, UnitLoad, fields, or_null, text, at_text, wagon_text, leg_fields, leg_data, unit_fields, unit_data, body_fields, message_data, first_plan_fields, last_plan_fields, movement_fields, offer_fields, answer_fields, leg_time_fields, event_fields, event_data, estimate_fields, estimate_data, first_record_fields, middle_record_fields, last_record_fields, record_data, sub_fields, eti_fields, item_fields, item_data, reply_fields, reply_data, fault_fields, fault_data, Trip, MovementKind, Release, Departure, YardArrival, YardDeparture, Exception, Estimate, Arrival, Delivery, Message, TrainAnswer, Body, RecordEventKind, RecordEvent, Record, EstimateAt, Item, ItemBody, Notice, Sub, Eti, Eta, AlertBegins, AlertEnds, Reply, Accepted, Refused, One, Many, Items, Acknowledged, RecordFault, BadJson, BadKind, MissingField, BadField, BadPlan, Memory, is_ordered, items_are_ordered-map}
 use Rattle.taf_messages.specs.declared.message.Body.TheVariants as body
-use Rattle.taf_messages.specs.declared.event.RecordEventKind.{RecordEventKind}
 use Rattle.taf_messages.specs.declared.event.RecordEventKind.TheVariants as event_kind
-use Rattle.taf_messages.specs.declared.event.RecordEvent.{RecordEvent}
-use Rattle.taf_messages.specs.declared.record.Record.{Record}
-use Rattle.taf_messages.specs.declared.record.EstimateAt.{EstimateAt}
-use Rattle.taf_messages.specs.declared.item.Item.{Item}
-use Rattle.taf_messages.specs.declared.item.ItemBody.{ItemBody}
-use Rattle.taf_messages.specs.declared.item.ItemBody.TheVariants.{Notice, Sub, Eti, Eta, AlertBegins, AlertEnds}
-use Rattle.taf_messages.specs.declared.reply.Reply.{Reply}
-use Rattle.taf_messages.specs.declared.reply.Reply.TheVariants.{Accepted, Refused, One, Many, Items, Acknowledged}
-use Rattle.taf_messages.specs.declared.fault.RecordFault.{RecordFault}
-use Rattle.taf_messages.specs.declared.fault.RecordFault.TheVariants.{BadJson, BadKind, MissingField, BadField, BadPlan, Memory}
-use Rattle.json_tokens.proofs.ReadLemmas.{is_ordered, items_are_ordered-map}
 
 leg_ordered : (n : ℕ) (l : Leg) → is_ordered (leg_data l) (suc n) ≡ true
 unfolding leg_fields

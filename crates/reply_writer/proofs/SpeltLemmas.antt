@@ -1,27 +1,6 @@
 -- The tree of a message has texts in UTF-8 and numbers below 2^64.
-use Rattle.std.proofs.Common.{◌≡◌, ℕ, ◌<◌, ◌≤◌, ◌^◌, List, [], ◌∷◌, true, Option, Some, None, All, refl, arith}
-use Rattle.std.specs.Prelude.{map}
-use Rattle.std.proofs.lemmas.List.Elements.{All-head, All-tail}
-use Rattle.json.proofs.Printed.Utf8.{IsUtf8-are_ascii}
-use Rattle.serde_json.specs.Data.{Data}
-use Rattle.serde_json.specs.View.{items_of}
-use Rattle.wagon_number.specs.Digits.{IsVehicleNumber}
-use Rattle.taf_moment.specs.Calendar.{last_minute}
-use Rattle.taf_codes.specs.Codes.{is_railway}
-use Rattle.trip_plan.specs.declared.parts.Load.{Load}
-use Rattle.trip_plan.specs.declared.parts.Load.TheVariants.{Loaded, Empty}
-use Rattle.trip_plan.specs.declared.parts.Leg.{Leg}
-use Rattle.trip_plan.specs.declared.parts.UnitLoad.{UnitLoad}
-use Rattle.trip_plan.specs.Trip.{Trip}
-use Rattle.taf_messages.specs.Kept.{IsMessageNumber, IsLeg, IsUnitLoad, IsMovementKind, IsTrip, IsBody, IsAnswer, IsMessage}
-use Rattle.reply_writer.specs.Shapes.{wagon_text, load_text, leg_fields, leg_data, unit_fields, unit_data, first_plan_fields, last_plan_fields, movement_fields, offer_fields, answer_fields, leg_time_fields, body_fields, message_data}
-use Rattle.json_tokens.specs.Texts.{fields}
-use Rattle.taf_messages.specs.declared.movement.MovementKind.{MovementKind}
-use Rattle.taf_messages.specs.declared.movement.MovementKind.TheVariants.{Release, Departure, YardArrival, YardDeparture, Exception, Estimate, Arrival, Delivery}
-use Rattle.taf_messages.specs.declared.message.Message.{Message}
-use Rattle.taf_messages.specs.declared.message.Body.{Body}
+use Rattle.reply_writer.proofs.Common.{◌≡◌, ℕ, ◌<◌, ◌≤◌, ◌^◌, List, [], ◌∷◌, true, Option, Some, None, All, refl, arith, map, All-head, All-tail, IsUtf8-are_ascii, Data, items_of, IsVehicleNumber, last_minute, is_railway, Load, Loaded, Empty, Leg, UnitLoad, Trip, IsMessageNumber, IsLeg, IsUnitLoad, IsMovementKind, IsTrip, IsBody, IsAnswer, IsMessage, wagon_text, load_text, leg_fields, leg_data, unit_fields, unit_data, first_plan_fields, last_plan_fields, movement_fields, offer_fields, answer_fields, leg_time_fields, body_fields, message_data, fields, MovementKind, Release, Departure, YardArrival, YardDeparture, Exception, Estimate, Arrival, Delivery, Message, Body, TrainAnswer}
 use Rattle.taf_messages.specs.declared.message.Body.TheVariants as body
-use Rattle.taf_messages.specs.declared.message.TrainAnswer.{TrainAnswer}
 use Rattle.reply_writer.proofs.Utf8Lemmas.{HasTexts, ItemsHaveTexts, utf8-railway, utf8-place, utf8-name, utf8-unit, utf8-wagon, utf8-moment}
 
 numbered : (n : ℕ) → IsMessageNumber n → n < 2 ^ 64

@@ -1,28 +1,8 @@
 -- The text of a message's tree is UTF-8, and its numbers are below 2^64.
-use Rattle.std.proofs.Common.{◌≡◌, ℕ, ◌<◌, ◌≤◌, ◌||◌, List, [], ◌∷◌, ◌++◌, Bool, true, false, Ok, IsUtf8, refl, ap, subst, arith, take, drop, nat_lt, lt-ltb, Result, Err, if◌then◌else◌}
-use Rattle.std.specs.Prelude.{⊤, map, codes}
-use Rattle.std.specs.Char.{is_ascii_digit, is_ascii_uppercase}
-use Rattle.std.specs.List.{list_all}
-use Rattle.std.proofs.lemmas.Bool.{and_parts, ltb-true}
-use Rattle.std.proofs.lemmas.Fmt.{IsAscii-decimal}
-use Rattle.std.proofs.lemmas.Grind.{common_steps}
-use Rattle.std.proofs.lemmas.List.{take-append-drop}
-use Rattle.std.proofs.lemmas.Slice.Eq.{bytes_eq-Decides}
-use Rattle.std.proofs.lemmas.List.Sums.{AllPass-from_list_all}
-use Rattle.std.proofs.lemmas.Str.{IsUtf8-append, IsUtf8-nil, IsUtf8-from_ascii}
-use Rattle.std.proofs.lemmas.Str.Ascii.{IsAscii-from_all}
-use Rattle.json.specs.Print.{quoted}
-use Rattle.json.proofs.Printed.Utf8.{are_ascii, IsUtf8-are_ascii, IsUtf8-quoted, IsUtf8-boolean}
+use Rattle.reply_writer.proofs.Common.{◌≡◌, ℕ, ◌<◌, ◌≤◌, ◌||◌, List, [], ◌∷◌, ◌++◌, Bool, true, false, Ok, IsUtf8, refl, ap, subst, arith, take, drop, nat_lt, lt-ltb, Result, Err, if◌then◌else◌, ⊤, map, codes, is_ascii_digit, is_ascii_uppercase, list_all, and_parts, ltb-true, IsAscii-decimal, common_steps, take-append-drop, bytes_eq-Decides, AllPass-from_list_all, IsUtf8-append, IsUtf8-nil, IsUtf8-from_ascii, IsAscii-from_all, quoted, are_ascii, IsUtf8-are_ascii, IsUtf8-quoted, IsUtf8-boolean, comma_if, compact_text, items_text, members_text, IsVehicleNumber, digits_of, text_of, BadMoment, last_minute, moment_text, digit_as_zero, is_moment, has_form, minutes_shown, is_railway, is_place, is_name, is_unit_code, are_code_letters, are_letters_then_digits, IsAscii-unit, IsAscii-name, letter_below, digit_below, IsSmall, HasSmallNumbers, ItemsHaveSmallNumbers, MembersHaveSmallNumbers}
 use Rattle.serde_json.specs.Data.{unsigned, negative, float, Data, null, boolean, number, string, array, object, Items, no_items, item, Members, no_members, member}
-use Rattle.serde_json.specs.Written.{comma_if, compact_text, items_text, members_text}
-use Rattle.wagon_number.specs.Digits.{IsVehicleNumber, digits_of, text_of}
 use Rattle.wagon_number.proofs.TextLemmas as letters
-use Rattle.taf_moment.specs.declared.fault.BadMoment.{BadMoment}
 use Rattle.taf_moment.proofs.TextLemmas as moments
-use Rattle.taf_moment.specs.Calendar.{last_minute, moment_text, digit_as_zero, is_moment, has_form, minutes_shown}
-use Rattle.taf_codes.specs.Codes.{is_railway, is_place, is_name, is_unit_code, are_code_letters, are_letters_then_digits}
-use Rattle.taf_codes.proofs.CodeLemmas.{IsAscii-unit, IsAscii-name, letter_below, digit_below}
-use Rattle.json_tokens.specs.SmallNumbers.{IsSmall, HasSmallNumbers, ItemsHaveSmallNumbers, MembersHaveSmallNumbers}
 
 -- ---- trees whose keys and texts are UTF-8
 

@@ -1,10 +1,7 @@
 -- Which items fall to a lane, and what a lane keeps count of.
-use Rattle.std.proofs.Common.{◌≡◌, ℕ, ◌+◌, ◌%◌, ◌<◌, ◌≤◌, eqb, eq-eqb, ne_eqb, cond, Bool, true, false, List, [], ◌∷◌, ◌++◌, length, map, get_or, set, refl, sym, ap, ◌∙◌, subst, arith, append_assoc, append-nil}
-use Rattle.std.proofs.lemmas.List.{get_or_append_left, get_or_push, get_or-set_same, get_or-set_other, length_push}
+use Rattle.session_lanes.proofs.Common.{◌≡◌, ℕ, ◌+◌, ◌%◌, ◌<◌, ◌≤◌, eqb, eq-eqb, ne_eqb, cond, Bool, true, false, List, [], ◌∷◌, ◌++◌, length, map, get_or, set, refl, sym, ap, ◌∙◌, subst, arith, append_assoc, append-nil, get_or_append_left, get_or_push, get_or-set_same, get_or-set_other, length_push, PassState, LaneState, EachAt, EachPair, of_lane, HandsOut, TakesBack, EachLane}
 use mathlib.Core.Logic.{dite}
 use native.Mathlib.Decide.{ℕ_discrete}
-use Rattle.inbox.specs.States.{PassState}
-use Rattle.session_lanes.specs.Lanes.{LaneState, EachAt, EachPair, of_lane, HandsOut, TakesBack, EachLane}
 
 pub EachAt-push : {X : Type 0} (P : ℕ → X → Type 0) (xs : List X) (x : X) → EachAt P xs → P (length xs) x → EachAt P (xs ++ x ∷ [])
 EachAt-push P xs x each last k d low = dite (ℕ_discrete k (length xs))

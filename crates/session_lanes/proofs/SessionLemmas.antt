@@ -1,14 +1,5 @@
 -- What a session left that was served.
-use Rattle.std.proofs.Common.{◌≡◌, ℕ, true, List, [], Result, Ok, Err, is_ok, refl, subst, rules, tests, arith}
-use Rattle.std.proofs.KnownBytes.{Consumes-nil, Appends-nil}
-use Rattle.session_lines.specs.declared.session.Slot.{Slot}
-use Rattle.session_lines.specs.States.{State, new_state}
-use Rattle.session_serving.specs.declared.fault.SessionFault.{SessionFault}
-use Rattle.session_serving.specs.declared.fault.SessionFault.TheVariants.{Port}
-use Rattle.session_serving.specs.Serving.{Traffic, traffic_of, IsServed}
-use Rattle.session_serving.specs.Faults.{Failures, Explains}
-use Rattle.session_lanes.specs.declared.ends.SessionEnd.TheVariants.{Fault}
-use Rattle.session_lanes.specs.Ends.{Streams, streams_of, end_of, HasEnded}
+use Rattle.session_lanes.proofs.Common.{◌≡◌, ℕ, true, List, [], Result, Ok, Err, is_ok, refl, subst, rules, tests, arith, Consumes-nil, Appends-nil, Slot, State, new_state, SessionFault, Port, Traffic, traffic_of, IsServed, Failures, Explains, Fault, Streams, streams_of, end_of, HasEnded}
 
 none_taken : (served : Result (Unit {0}) SessionFault) (before after : Failures) (slots : List Slot) → Explains served before after slots → is_ok served ≡ true → slots ≡ []
 none_taken (Ok done) before after slots e ok = e.3

@@ -1,18 +1,5 @@
 -- What the calls of a session leave as it was.
-use Rattle.std.proofs.Common.{◌≡◌, inl, inr, ℕ, ◌+◌, ◌<◌, ◌≤◌, Bool, true, false, cond, List, [], ◌∷◌, ◌++◌, None, length, refl, ap, sym, ◌∙◌, subst, arith}
-use Rattle.std.proofs.lemmas.Bool.{false≢true}
-use Rattle.inbox.specs.declared.rule.Job.{Job}
-use Rattle.session_lines.specs.declared.meaning.Meaning.{Meaning}
-use Rattle.session_lines.specs.declared.meaning.Meaning.TheVariants.{Blank, Hello, Wrong, Calls}
-use Rattle.session_lines.specs.declared.session.Step.{Step}
-use Rattle.session_lines.specs.declared.session.Step.TheVariants.{Nothing, Say, Held, Ask, Ended}
-use Rattle.session_lines.specs.declared.session.Done.{Done}
-use Rattle.session_lines.specs.declared.session.Slot.{Slot}
-use Rattle.session_lines.specs.declared.session.Slot.TheVariants.{JobOut, HeldLine}
-use Rattle.session_lines.specs.States.{State}
-use Rattle.session_lines.specs.Texts.{hello_text}
-use Rattle.session_lines.specs.Meanings.{meaning, meaning_without_memory}
-use Rattle.session_lines.specs.Steps.{step_at, sound_step, after_sound, TakesAs, TakesLine, is_own, is_job_in_front, with_answer, after_done, after_stranger, front_line, slots_with, step_with}
+use Rattle.session_lines.proofs.Common.{◌≡◌, inl, inr, ℕ, ◌+◌, ◌<◌, ◌≤◌, Bool, true, false, cond, List, [], ◌∷◌, ◌++◌, None, length, refl, ap, sym, ◌∙◌, subst, arith, false≢true, Job, Meaning, Blank, Hello, Wrong, Calls, Step, Nothing, Say, Held, Ask, Ended, Done, Slot, JobOut, HeldLine, State, hello_text, meaning, meaning_without_memory, step_at, sound_step, after_sound, TakesAs, TakesLine, is_own, is_job_in_front, with_answer, after_done, after_stranger, front_line, slots_with, step_with}
 
 -- ---- what a line leaves as it was
 

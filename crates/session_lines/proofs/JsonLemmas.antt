@@ -1,10 +1,6 @@
 -- The JSON of a line, if it is any.
-use Rattle.std.proofs.Common.{◌≡◌, ℕ, ◌∙◌, sym, refl, true, false, cond, List, Some, None}
-use Rattle.std.specs.Str.{is_utf8, IsUtf8}
-use Rattle.std.proofs.lemmas.Str.{IsUtf8-from_is_utf8, is_utf8-from_IsUtf8}
-use Rattle.serde_json.specs.Data.{Data}
+use Rattle.session_lines.proofs.Common.{◌≡◌, ℕ, ◌∙◌, sym, refl, true, false, cond, List, Some, None, is_utf8, IsUtf8, IsUtf8-from_is_utf8, is_utf8-from_IsUtf8, Data, json_of_line}
 use Rattle.serde_json.specs.Read.{read as read_json}
-use Rattle.session_lines.specs.Meanings.{json_of_line}
 
 pub no_text : (line : List ℕ) → (IsUtf8 line → ⊥) → None ≡ json_of_line line
 unfolding json_of_line

@@ -1,3 +1,4 @@
+pub mod Common
 pub mod EventLemmas
 pub mod JsonLemmas
 pub mod LockStepLemmas

@@ -1,24 +1,5 @@
 -- A session over lines and its own Dones means what its lines mean in lock step.
-use Rattle.std.proofs.Common.{◌≡◌, ℕ, ◌+◌, ◌-◌, ◌≤◌, ◌==◌, ◌&&◌, Bool, true, false, cond, List, [], ◌∷◌, ◌++◌, Option, Some, length, refl, ap, sym, ◌∙◌, append_assoc, subst, length-append, arith, rules, tests}
-use Rattle.std.proofs.lemmas.List.Sums.{fold-append}
-use Rattle.taf_codes.specs.declared.code.Railway.{Railway}
-use Rattle.taf_messages.specs.declared.call.Call.{Call}
-use Rattle.tallies.specs.declared.tally.Told.{Told}
-use Rattle.inbox.specs.declared.rule.Job.{Job}
-use Rattle.session_lines.specs.declared.fault.LineFault.TheVariants.{Stranger}
-use Rattle.session_lines.specs.declared.meaning.Meaning.{Meaning}
-use Rattle.session_lines.specs.declared.meaning.Meaning.TheVariants.{Blank, Hello, Wrong, Calls}
-use Rattle.session_lines.specs.declared.session.Step.{Step}
-use Rattle.session_lines.specs.declared.session.Step.TheVariants.{Nothing, Ask, Ended}
-use Rattle.session_lines.specs.declared.session.Done.{Done}
-use Rattle.session_lines.specs.declared.session.Slot.{Slot}
-use Rattle.session_lines.specs.declared.session.Slot.TheVariants.{JobOut, HeldLine}
-use Rattle.session_lines.specs.States.{State, new_state, jobs_out}
-use Rattle.session_lines.specs.Texts.{answer_text, line_fault_text, hello_text}
-use Rattle.session_lines.specs.Meanings.{meaning}
-use Rattle.session_lines.specs.Steps.{saying_step, after_saying, with_job, sound_step, after_sound, done_line, is_own, is_job_in_front, with_answer, after_done, after_stranger, front_line, slots_after_front, with_entry, slots_with, step_with, job}
-use Rattle.session_lines.specs.LockStep.{Transcript, Answers, lock_step, transcript_after, new_transcript}
-use Rattle.session_lines.specs.Runs.{Event, LineRead, LineReadWithoutMemory, DoneTaken, DoneTakenWithoutMemory, HeldLineTaken, Run, run_with_line, after_event, new_run, run, oldest_index, HasOwnDones, slot_lines, tally_with_slots, completed_transcript, step_lines, step_jobs, optional_line}
+use Rattle.session_lines.proofs.Common.{◌≡◌, ℕ, ◌+◌, ◌-◌, ◌≤◌, ◌==◌, ◌&&◌, Bool, true, false, cond, List, [], ◌∷◌, ◌++◌, Option, Some, length, refl, ap, sym, ◌∙◌, append_assoc, subst, length-append, arith, rules, tests, fold-append, Railway, Call, Told, Job, Stranger, Meaning, Blank, Hello, Wrong, Calls, Step, Nothing, Ask, Ended, Done, Slot, JobOut, HeldLine, State, new_state, jobs_out, answer_text, line_fault_text, hello_text, meaning, saying_step, after_saying, with_job, sound_step, after_sound, done_line, is_own, is_job_in_front, with_answer, after_done, after_stranger, front_line, slots_after_front, with_entry, slots_with, step_with, job, Transcript, Answers, lock_step, transcript_after, new_transcript, Event, LineRead, LineReadWithoutMemory, DoneTaken, DoneTakenWithoutMemory, HeldLineTaken, Run, run_with_line, after_event, new_run, run, oldest_index, HasOwnDones, slot_lines, tally_with_slots, completed_transcript, step_lines, step_jobs, optional_line}
 use Rattle.session_lines.proofs.SlotLemmas.{jobs_out-held, jobs_out-job, jobs_out-front}
 use Rattle.session_lines.proofs.EventLemmas.{sound-named}
 

@@ -1,10 +1,5 @@
 -- How many jobs are out in a list of slots.
-use Rattle.std.proofs.Common.{◌≡◌, ℕ, ◌+◌, ◌≤◌, List, [], ◌∷◌, ◌++◌, length, refl, ap, arith}
-use Rattle.taf_messages.specs.declared.call.Call.{Call}
-use Rattle.session_lines.specs.declared.session.Slot.{Slot}
-use Rattle.session_lines.specs.declared.session.Slot.TheVariants.{JobOut, HeldLine}
-use Rattle.session_lines.specs.States.{jobs_out}
-use Rattle.session_lines.specs.Steps.{slots_after_front}
+use Rattle.session_lines.proofs.Common.{◌≡◌, ℕ, ◌+◌, ◌≤◌, List, [], ◌∷◌, ◌++◌, length, refl, ap, arith, Call, Slot, JobOut, HeldLine, jobs_out, slots_after_front}
 
 -- a line that is held is no job
 pub jobs_out-held : (slots : List Slot) (line : List ℕ) → jobs_out (slots ++ HeldLine line ∷ []) ≡ jobs_out slots

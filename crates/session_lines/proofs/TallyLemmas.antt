@@ -1,21 +1,5 @@
 -- The tally of a session is its own.
-use Rattle.std.proofs.Common.{◌≡◌, ℕ, ◌+◌, ◌==◌, Bool, true, false, cond, List, [], ◌∷◌, ◌++◌, length, refl, ap, sym, ◌∙◌, append_assoc, subst, length-append, arith, rules, tests}
-use Rattle.std.proofs.lemmas.Bool.{false≢true}
-use Rattle.taf_messages.specs.declared.call.Call.{Call}
-use Rattle.tallies.specs.declared.tally.Told.{Told}
-use Rattle.inbox.specs.declared.rule.Job.{Job}
-use Rattle.session_lines.specs.declared.meaning.Meaning.{Meaning}
-use Rattle.session_lines.specs.declared.meaning.Meaning.TheVariants.{Blank, Hello, Wrong, Calls}
-use Rattle.session_lines.specs.declared.session.Step.TheVariants.{Ended}
-use Rattle.session_lines.specs.declared.session.Done.{Done}
-use Rattle.session_lines.specs.declared.session.Slot.{Slot}
-use Rattle.session_lines.specs.declared.session.Slot.TheVariants.{JobOut, HeldLine}
-use Rattle.session_lines.specs.States.{State, new_state, jobs_out}
-use Rattle.session_lines.specs.Texts.{hello_text}
-use Rattle.session_lines.specs.Meanings.{meaning, meaning_without_memory}
-use Rattle.session_lines.specs.Steps.{sound_step, after_sound, done_line, done_line_without_memory, is_own, is_job_in_front, with_answer, after_done, after_stranger, slots_after_front, with_entry, slots_with, step_with, job}
-use Rattle.session_lines.specs.Runs.{Event, LineRead, LineReadWithoutMemory, DoneTaken, DoneTakenWithoutMemory, HeldLineTaken, Run, run_with_line, run_with_done, after_event, new_run, run}
-use Rattle.session_lines.specs.Tallies.{own_done, own_done_in, own_dones, tally_with, AreJobsFrom, AreDonesFrom, IsOwnTally}
+use Rattle.session_lines.proofs.Common.{◌≡◌, ℕ, ◌+◌, ◌==◌, Bool, true, false, cond, List, [], ◌∷◌, ◌++◌, length, refl, ap, sym, ◌∙◌, append_assoc, subst, length-append, arith, rules, tests, false≢true, Call, Told, Job, Meaning, Blank, Hello, Wrong, Calls, Ended, Done, Slot, JobOut, HeldLine, State, new_state, jobs_out, hello_text, meaning, meaning_without_memory, sound_step, after_sound, done_line, done_line_without_memory, is_own, is_job_in_front, with_answer, after_done, after_stranger, slots_after_front, with_entry, slots_with, step_with, job, Event, LineRead, LineReadWithoutMemory, DoneTaken, DoneTakenWithoutMemory, HeldLineTaken, Run, run_with_line, run_with_done, after_event, new_run, run, own_done, own_done_in, own_dones, tally_with, AreJobsFrom, AreDonesFrom, IsOwnTally}
 use Rattle.session_lines.proofs.LockStepLemmas.{append_nil, stepped, step_jobs-saying, and-left, and-right}
 
 -- ---- the calls of the jobs that are out

@@ -1,13 +1,5 @@
 -- Lines cut from bytes, a part at a time.
-use Rattle.std.proofs.Common.{◌≡◌, ℕ, ◌+◌, ◌-◌, ◌<◌, ◌≤◌, Bool, true, false, cond, eqb, List, [], ◌∷◌, ◌++◌, length, take, drop, get_or, fold, refl, ap, sym, ◌∙◌, append_assoc, take_all, length-append, length-drop, take-append-drop, suc, zero, Some, None, arith}
-use Rattle.std.proofs.lemmas.List.Sums.{fold-append}
-use Rattle.std.specs.List.{slice_range}
-use Rattle.std.proofs.Math.Seq.{take-add, take-append-add}
-use Rattle.std.proofs.lemmas.List.{take_more, get_or-drop}
-use Rattle.call_lines.specs.Lines.{has_no_newline}
-use Rattle.call_lines.proofs.LineLemmas.{not_newline, rest_unbroken}
-use Rattle.session_serving.specs.Bytes.{Cut, max_kept, max_kept_is, add_byte, cut_after, CutsNext}
-use Rattle.session_lines.proofs.LockStepLemmas.{append_nil}
+use Rattle.session_serving.proofs.Common.{◌≡◌, ℕ, ◌+◌, ◌-◌, ◌<◌, ◌≤◌, Bool, true, false, cond, eqb, List, [], ◌∷◌, ◌++◌, length, take, drop, get_or, fold, refl, ap, sym, ◌∙◌, append_assoc, take_all, length-append, length-drop, take-append-drop, suc, zero, Some, None, arith, fold-append, slice_range, take-add, take-append-add, take_more, get_or-drop, has_no_newline, not_newline, rest_unbroken, Cut, max_kept, max_kept_is, add_byte, cut_after, CutsNext, append_nil}
 
 -- a cut behind lines that came before
 abbrev pub behind : List (List ℕ) → Cut → Cut

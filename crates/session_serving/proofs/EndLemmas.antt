@@ -1,16 +1,5 @@
 -- How serving goes on from read to read, and how it ends.
-use Rattle.std.proofs.Common.{◌≡◌, ◌≤◌, ◌+◌, ℕ, Bool, true, false, List, [], ◌++◌, length, Option, Result, Ok, Err, is_ok, refl, ap, sym, ◌∙◌, append-nil, length-append, subst, arith}
-use Rattle.std.proofs.KnownBytes.{Consumes-nil, Consumes-trans, Consumes-kept, Appends-nil}
-use Rattle.std.specs.Io.KnownBytes.{Consumes, Keeps, IsAtEnd}
-use Rattle.std.proofs.lemmas.Bool.{false≢true}
-use Rattle.inbox.specs.declared.rule.Job.{Job}
-use Rattle.session_lines.specs.States.{State}
-use Rattle.session_serving.specs.declared.fault.SessionFault.{SessionFault}
-use Rattle.session_serving.specs.declared.fault.SessionFault.TheVariants.{Read, Write, NoEnd, Port, Memory}
-use Rattle.session_serving.specs.Bytes.{Cut, text, cut_after, whole_lines}
-use Rattle.session_serving.specs.Output.{output_of, Writes}
-use Rattle.session_serving.specs.Faults.{Blames, FirstFails, writes_all, sends_all}
-use Rattle.session_serving.specs.Serving.{Exchange, exchange_of, Serves, ServesFirst, StillServes, ReadsLines, Traffic, traffic_of, IsServed}
+use Rattle.session_serving.proofs.Common.{◌≡◌, ◌≤◌, ◌+◌, ℕ, Bool, true, false, List, [], ◌++◌, length, Option, Result, Ok, Err, is_ok, refl, ap, sym, ◌∙◌, append-nil, length-append, subst, arith, Consumes-nil, Consumes-trans, Consumes-kept, Appends-nil, Consumes, Keeps, IsAtEnd, false≢true, Job, State, SessionFault, Read, Write, NoEnd, Port, Memory, Cut, text, cut_after, whole_lines, output_of, Writes, Blames, FirstFails, writes_all, sends_all, Exchange, exchange_of, Serves, ServesFirst, StillServes, ReadsLines, Traffic, traffic_of, IsServed}
 use Rattle.session_serving.proofs.CutLemmas.{cut-append}
 use Rattle.session_serving.proofs.EventLemmas.{advances-none}
 use Rattle.session_serving.proofs.WriteLemmas.{writes-then}

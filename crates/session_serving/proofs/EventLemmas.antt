@@ -1,17 +1,5 @@
 -- How a session goes on, event by event.
-use Rattle.std.proofs.Common.{◌≡◌, ◌⊎◌, inl, inr, ◌≤◌, ℕ, Bool, true, false, cond, List, [], ◌∷◌, ◌++◌, Some, None, length, refl, ap, sym, ◌∙◌, append_assoc, append-nil, subst, arith, rules, tests}
-use Rattle.std.proofs.lemmas.List.Sums.{fold-append}
-use Rattle.inbox.specs.declared.rule.Job.{Job}
-use Rattle.session_lines.specs.declared.meaning.Meaning.{Meaning}
-use Rattle.session_lines.specs.declared.session.Step.{Step}
-use Rattle.session_lines.specs.declared.session.Done.{Done}
-use Rattle.session_lines.specs.declared.session.Slot.{Slot}
-use Rattle.session_lines.specs.declared.session.Slot.TheVariants.{JobOut, HeldLine}
-use Rattle.session_lines.specs.States.{State}
-use Rattle.session_lines.specs.Meanings.{meaning, meaning_without_memory}
-use Rattle.session_lines.specs.Steps.{step_at, TakesLine, is_job_in_front, done_line, done_line_without_memory, after_done, front_line, slots_after_front, after_front}
-use Rattle.session_lines.specs.Runs.{Event, LineRead, LineReadWithoutMemory, DoneTaken, DoneTakenWithoutMemory, HeldLineTaken, Run, run_with_line, run_with_done, after_event, new_run, run, step_jobs, step_lines, optional_line}
-use Rattle.session_serving.specs.Advances.{ReadsWhileSound, Advances, Discards}
+use Rattle.session_serving.proofs.Common.{◌≡◌, ◌⊎◌, inl, inr, ◌≤◌, ℕ, Bool, true, false, cond, List, [], ◌∷◌, ◌++◌, Some, None, length, refl, ap, sym, ◌∙◌, append_assoc, append-nil, subst, arith, rules, tests, fold-append, Job, Meaning, Step, Done, Slot, JobOut, HeldLine, State, meaning, meaning_without_memory, step_at, TakesLine, is_job_in_front, done_line, done_line_without_memory, after_done, front_line, slots_after_front, after_front, Event, LineRead, LineReadWithoutMemory, DoneTaken, DoneTakenWithoutMemory, HeldLineTaken, Run, run_with_line, run_with_done, after_event, new_run, run, step_jobs, step_lines, optional_line, ReadsWhileSound, Advances, Discards}
 
 runs : (a b : Run) → a.state ≡ b.state → a.input ≡ b.input → a.jobs ≡ b.jobs → a.output ≡ b.output → a ≡ b
 runs a b s r j t = λ i. record { state = s i; input = r i; jobs = j i; output = t i }

@@ -1,3 +1,4 @@
+pub mod Common
 pub mod CutLemmas
 pub mod EventLemmas
 pub mod WriteLemmas

@@ -1,12 +1,5 @@
 -- How what a session does between a writer and a port is put together.
-use Rattle.std.proofs.Common.{◌≡◌, ℕ, Bool, true, false, List, [], ◌∷◌, ◌++◌, take, drop, Some, None, refl, ap, sym, ◌∙◌, append_assoc, append-nil, subst, arith}
-use Rattle.std.proofs.lemmas.Bool.{false≢true}
-use Rattle.inbox.specs.declared.rule.Job.{Job}
-use Rattle.session_lines.specs.States.{State}
-use Rattle.session_serving.specs.Bytes.{text, cut_after, CutsNext}
-use Rattle.session_serving.specs.Advances.{Advances, Discards}
-use Rattle.session_serving.specs.Output.{Output, output_of, Writes, Says}
-use Rattle.session_serving.specs.Serving.{Sends, Exchange, exchange_of, Serves, ServesFirst}
+use Rattle.session_serving.proofs.Common.{◌≡◌, ℕ, Bool, true, false, List, [], ◌∷◌, ◌++◌, take, drop, Some, None, refl, ap, sym, ◌∙◌, append_assoc, append-nil, subst, arith, false≢true, Job, State, text, cut_after, CutsNext, Advances, Discards, Output, output_of, Writes, Says, Sends, Exchange, exchange_of, Serves, ServesFirst}
 use Rattle.session_serving.proofs.CutLemmas.{cut-left, chunk-cut, chunk-last}
 use Rattle.session_serving.proofs.EventLemmas.{advances-none, advances-then}
 use Rattle.session_serving.proofs.WriteLemmas.{writes_none, writes-then, writes-part}

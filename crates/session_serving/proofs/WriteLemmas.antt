@@ -1,9 +1,5 @@
 -- How what is written is put together.
-use Rattle.std.proofs.Common.{◌≡◌, ℕ, ◌-◌, ◌≤◌, Bool, true, false, List, [], ◌++◌, take, drop, length, refl, ap, ◌∙◌, sym, arith, subst, append_assoc, append-nil, length-drop, take-append-drop}
-use Rattle.std.proofs.lemmas.List.{take_all}
-use Rattle.std.proofs.KnownBytes.{Appends-nil, Appends-trans}
-use Rattle.std.proofs.lemmas.Bool.{false≢true}
-use Rattle.session_serving.specs.Output.{Output, Writes}
+use Rattle.session_serving.proofs.Common.{◌≡◌, ℕ, ◌-◌, ◌≤◌, Bool, true, false, List, [], ◌++◌, take, drop, length, refl, ap, ◌∙◌, sym, arith, subst, append_assoc, append-nil, length-drop, take-append-drop, take_all, Appends-nil, Appends-trans, false≢true, Output, Writes}
 
 -- what is left once some of it was taken
 pub pushed : (bytes front rest : List ℕ) (n : ℕ) → n ≤ length rest → bytes ≡ front ++ rest → bytes ≡ (front ++ take n rest) ++ take (length rest - n) (drop n rest)

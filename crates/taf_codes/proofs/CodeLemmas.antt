@@ -1,15 +1,5 @@
 -- Codes are ASCII.
-use Rattle.std.proofs.Common.{◌≡◌, ℕ, ◌<◌, ◌==◌, Bool, true, ◌||◌, List, length, take, drop, arith, subst}
-use Rattle.std.specs.Char.{is_ascii_digit, is_ascii_uppercase}
-use Rattle.std.specs.List.{list_all}
-use Rattle.std.specs.Str.{IsAscii}
-use Rattle.std.proofs.lemmas.Bool.{and_parts}
-use Rattle.std.proofs.lemmas.Grind.{common_steps}
-use Rattle.std.proofs.lemmas.List.{take-append-drop}
-use Rattle.std.proofs.lemmas.List.Sums.{AllPass-from_list_all}
-use Rattle.std.proofs.lemmas.Str.{IsAscii-append}
-use Rattle.std.proofs.lemmas.Str.Ascii.{IsAscii-from_all}
-use Rattle.taf_codes.specs.Codes.{are_letters_then_digits, has_unit_form, is_name, is_unit_code}
+use Rattle.taf_codes.proofs.Common.{◌≡◌, ℕ, ◌<◌, ◌==◌, Bool, true, ◌||◌, List, length, take, drop, arith, subst, is_ascii_digit, is_ascii_uppercase, list_all, IsAscii, and_parts, common_steps, take-append-drop, AllPass-from_list_all, IsAscii-append, IsAscii-from_all, are_letters_then_digits, has_unit_form, is_name, is_unit_code}
 
 -- a text is ASCII where each byte passes a test that only ASCII passes
 IsAscii-from_test : (test : ℕ → Bool) → ((byte : ℕ) → test byte ≡ true → byte < 128) → (text : List ℕ) → list_all test text ≡ true → IsAscii text

@@ -1,12 +1,5 @@
 -- The weighed sum of a unit's code, letter by letter.
-use Rattle.std.proofs.Common.{◌≡◌, ℕ, ◌+◌, ◌*◌, ◌%◌, ◌^◌, ◌<◌, ◌≤◌, List, [], ◌∷◌, ◌++◌, length, take, get_or, arith, ap, ◌∙◌}
-use Rattle.std.proofs.Math.Nat.{mod-eq_of_lt, mul-le-mul_left}
-use Rattle.std.proofs.Math.Pow.{pow_mono}
-use Rattle.std.proofs.lemmas.List.{length-take-le, take_more}
-use Rattle.std.proofs.lemmas.List.Sums.{sum_by_push}
-use Rattle.std.specs.Prelude.{sum_by}
-use Rattle.std.specs.List.{enumerate_from}
-use Rattle.taf_codes.specs.UnitDigits.{value_of, weighed_sum}
+use Rattle.taf_codes.proofs.Common.{◌≡◌, ℕ, ◌+◌, ◌*◌, ◌%◌, ◌^◌, ◌<◌, ◌≤◌, List, [], ◌∷◌, ◌++◌, length, take, get_or, arith, ap, ◌∙◌, mod-eq_of_lt, mul-le-mul_left, pow_mono, length-take-le, take_more, sum_by_push, sum_by, enumerate_from, value_of, weighed_sum}
 
 -- one letter more behind the others
 enumerate_from-push : (k : ℕ) (xs : List ℕ) (x : ℕ) → enumerate_from k (xs ++ x ∷ []) ≡ enumerate_from k xs ++ (k + length xs, x) ∷ []

@@ -1,3 +1,4 @@
+pub mod Common
 pub mod CodeLemmas
 pub mod DigitLemmas
 pub mod NameLemmas

@@ -1,10 +1,5 @@
 -- A name that is kept with zeros behind it.
-use Rattle.std.proofs.Common.{◌≡◌, ℕ, ◌-◌, ◌≤◌, true, List, ◌++◌, length, take, drop, arith, ap, ◌∙◌, sym, length-append}
-use Rattle.std.specs.Prelude.{replicate}
-use Rattle.std.proofs.lemmas.List.{drop-replicate}
-use Rattle.std.proofs.Math.Seq.{take-append_seam}
-use Rattle.taf_codes.specs.Codes.{is_name}
-use Rattle.taf_codes.specs.Padded.{IsPadded, with_zeros}
+use Rattle.taf_codes.proofs.Common.{◌≡◌, ℕ, ◌-◌, ◌≤◌, true, List, ◌++◌, length, take, drop, arith, ap, ◌∙◌, sym, length-append, replicate, drop-replicate, take-append_seam, is_name, IsPadded, with_zeros}
 
 -- a name that was copied to the front of twenty zeros
 pub keeps_name : (name bytes : List ℕ) → is_name name ≡ true → bytes ≡ name ++ drop (length name) (replicate {A = ℕ} 20 0) → IsPadded bytes (length name) × (is_name (take (length name) bytes) ≡ true)

@@ -1,9 +1,5 @@
 -- Four bytes as one number.
-use Rattle.std.proofs.Common.{◌≡◌, ℕ, true, List, ap, sym, ◌∙◌, inl, inr}
-use Rattle.std.specs.Prelude.{nat_eq, bytes_eq}
-use Rattle.std.specs.Int.{w32, to_le_bytes, from_le_bytes}
-use Rattle.std.proofs.lemmas.Bool.{cases_Bool, false≢true}
-use Rattle.taf_codes.specs.Equality.{numbers, texts}
+use Rattle.taf_codes.proofs.Common.{◌≡◌, ℕ, true, List, ap, sym, ◌∙◌, inl, inr, nat_eq, bytes_eq, w32, to_le_bytes, from_le_bytes, cases_Bool, false≢true, numbers, texts}
 
 -- the bytes of equal numbers are equal
 same_bytes : (a b : List ℕ) (m n : ℕ) → to_le_bytes w32 m ≡ a → to_le_bytes w32 n ≡ b → nat_eq m n ≡ true → bytes_eq a b ≡ true

@@ -1,15 +1,5 @@
 -- Dates and their day numbers go together, and are those of `jiff_core`.
-use Rattle.std.proofs.Common.{◌≡◌, ℕ, zero, suc, ◌+◌, ◌-◌, ◌<◌, ◌≤◌, true, ℤ, pos, negsuc, unsigned_abs, refl, sym, ap, ◌∙◌, arith}
-use Rattle.std.specs.Prelude.{sum_by, nat_le}
-use Rattle.std.specs.List.{range_with_len}
-use Rattle.std.proofs.lemmas.Bool.{and_parts, and_from, leb-true, le-leb}
-use Rattle.jiff_core.specs.Calendar.{days_from_civil, day_count, day_of_year, days_of_months, IsCivilDate}
-use Rattle.jiff_core.specs.Date.{epoch_day}
-use Rattle.jiff_core.specs.declared.civil.date.Date.{Date}
-use Rattle.jiff_core.proofs.SignedLemmas.{signed_arith}
-use Rattle.jiff_core.proofs.CalendarLemmas.{day_count-epoch, days_from_civil-day_count, days_of_months_all, day_count-day_of_year, day_count-next_year, day_count-later_year, day_count-lt_year, day_of_year_bound}
-use Rattle.taf_moment.specs.declared.date.CalendarDate.{CalendarDate}
-use Rattle.taf_moment.specs.Calendar.{year_length, month_length, is_date, days_before, day_number, last_day, part_after, date_after}
+use Rattle.taf_moment.proofs.Common.{◌≡◌, ℕ, zero, suc, ◌+◌, ◌-◌, ◌<◌, ◌≤◌, true, ℤ, pos, negsuc, unsigned_abs, refl, sym, ap, ◌∙◌, arith, sum_by, nat_le, range_with_len, and_parts, and_from, leb-true, le-leb, days_from_civil, day_count, day_of_year, days_of_months, IsCivilDate, epoch_day, Date, signed_arith, day_count-epoch, days_from_civil-day_count, days_of_months_all, day_count-day_of_year, day_count-next_year, day_count-later_year, day_count-lt_year, day_of_year_bound, CalendarDate, year_length, month_length, is_date, days_before, day_number, last_day, part_after, date_after}
 use Rattle.taf_moment.proofs.PartLemmas.{pair, sum_by-range_more, days_before-place, part_after-is, leads_to}
 use borrow.Author.Differences.{up, down}
 

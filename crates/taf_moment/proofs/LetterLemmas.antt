@@ -1,9 +1,5 @@
 -- Letters of a moment's text, and the digits that they show.
-use Rattle.std.proofs.Common.{◌≡◌, ◌≢◌, ℕ, ◌+◌, ◌*◌, ◌/◌, ◌%◌, ◌<◌, true, [], ◌∷◌, ◌++◌, map, refl, ap, ◌∙◌, arith}
-use Rattle.std.specs.Char.{is_ascii_digit, digit_char, digit_value}
-use Rattle.std.specs.Str.Parse.{digits_value}
-use Rattle.std.proofs.lemmas.Bool.Decides.{nat_tests}
-use Rattle.taf_moment.specs.Calendar.{digit_as_zero, two_digits, four_digits}
+use Rattle.taf_moment.proofs.Common.{◌≡◌, ◌≢◌, ℕ, ◌+◌, ◌*◌, ◌/◌, ◌%◌, ◌<◌, true, [], ◌∷◌, ◌++◌, map, refl, ap, ◌∙◌, arith, is_ascii_digit, digit_char, digit_value, digits_value, nat_tests, digit_as_zero, two_digits, four_digits}
 
 -- the letter of a digit shows that digit, and stands for a digit in the form
 pub digit_value-digit_char : (d : ℕ) → d < 10 → digit_value (digit_char d) ≡ d

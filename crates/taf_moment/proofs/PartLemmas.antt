@@ -1,10 +1,5 @@
 -- Parts of time of known lengths, one after another, and the days that they take.
-use Rattle.std.proofs.Common.{◌≡◌, ℕ, zero, suc, ◌+◌, ◌-◌, ◌<◌, ◌≤◌, [], inl, inr, refl, ap, arith}
-use Rattle.std.specs.Prelude.{sum_by}
-use Rattle.std.specs.List.{range_with_len}
-use Rattle.std.proofs.lemmas.Bool.{cases_lt, lt-ltb, le-ltb}
-use Rattle.std.proofs.lemmas.List.Sums.{sum_by-cons}
-use Rattle.taf_moment.specs.Calendar.{days_before, part_after}
+use Rattle.taf_moment.proofs.Common.{◌≡◌, ℕ, zero, suc, ◌+◌, ◌-◌, ◌<◌, ◌≤◌, [], inl, inr, refl, ap, arith, sum_by, range_with_len, cases_lt, lt-ltb, le-ltb, sum_by-cons, days_before, part_after}
 
 -- one part more
 pub sum_by-range_more : (length_of : ℕ → ℕ) (first count next : ℕ) → first + count ≡ next

@@ -1,13 +1,5 @@
 -- The table of the digits of numbers below a hundred.
-use Rattle.std.proofs.Common.{◌≡◌, ℕ, ◌+◌, ◌*◌, ◌/◌, ◌%◌, ◌<◌, Bool, true, [], ◌∷◌, get_or, refl, arith}
-use Rattle.std.specs.Prelude.{◌==◌, ◌&&◌}
-use Rattle.std.specs.Char.{digit_char}
-use Rattle.std.specs.Str.{IsAscii}
-use Rattle.std.proofs.lemmas.Bool.{and_parts, eqb-true, agree_below_at}
-use Rattle.std.proofs.lemmas.Bool.Decides.{nat_tests}
-use Rattle.std.proofs.lemmas.Str.Ascii.{IsAscii-nil, IsAscii-cons}
-use Rattle.taf_moment.specs.declared.moment.TheConstants.{PAIRS}
-use Rattle.taf_moment.specs.Calendar.{two_digits}
+use Rattle.taf_moment.proofs.Common.{◌≡◌, ℕ, ◌+◌, ◌*◌, ◌/◌, ◌%◌, ◌<◌, Bool, true, [], ◌∷◌, get_or, refl, arith, ◌==◌, ◌&&◌, digit_char, IsAscii, and_parts, eqb-true, agree_below_at, nat_tests, IsAscii-nil, IsAscii-cons, PAIRS, two_digits}
 
 -- the table has the digits of a number at twice its place
 abbrev has_digits_at : ℕ → Bool

@@ -1,18 +1,5 @@
 -- Texts are read as the moments whose texts they are.
-use Rattle.std.proofs.Common.{◌≡◌, ℕ, ◌+◌, ◌*◌, ◌/◌, ◌%◌, ◌<◌, ◌≤◌, Bool, true, false, List, [], ◌∷◌, ◌++◌, length, get_or, drop, map, pos, Ok, Err, refl, sym, ap, ◌∙◌, arith}
-use Rattle.std.specs.Prelude.{codes, nat_le, ◌==◌, ◌&&◌, if◌then◌else◌}
-use Rattle.std.specs.Char.{is_ascii_digit}
-use Rattle.std.specs.Str.{bytes_eq}
-use Rattle.std.specs.Str.Parse.{digits_value}
-use Rattle.std.proofs.lemmas.Bool.{cond-true, and_parts, and_from, leb-true, le-leb}
-use Rattle.std.proofs.lemmas.List.{length-map, get_or-map, drop_more}
-use Rattle.std.proofs.lemmas.List.FromFn.{fill_by_all}
-use Rattle.std.proofs.lemmas.Slice.Eq.{bytes_eq-Decides}
-use Rattle.jiff_core.proofs.CalendarLemmas.{days_in_month_bounds}
-use Rattle.taf_moment.specs.declared.date.CalendarDate.{CalendarDate}
-use Rattle.taf_moment.specs.declared.fault.BadMoment.{BadMoment}
-use Rattle.taf_moment.specs.Calendar.{is_date, day_number, date_after, digit_as_zero, has_form, number_in_letters, date_shown, is_moment, minutes_shown, text_at, moment_text}
-use Rattle.taf_moment.specs.Laws.{TextIsRead, ReadingIsExact}
+use Rattle.taf_moment.proofs.Common.{◌≡◌, ℕ, ◌+◌, ◌*◌, ◌/◌, ◌%◌, ◌<◌, ◌≤◌, Bool, true, false, List, [], ◌∷◌, ◌++◌, length, get_or, drop, map, pos, Ok, Err, refl, sym, ap, ◌∙◌, arith, codes, nat_le, ◌==◌, ◌&&◌, if◌then◌else◌, is_ascii_digit, bytes_eq, digits_value, cond-true, and_parts, and_from, leb-true, le-leb, length-map, get_or-map, drop_more, fill_by_all, bytes_eq-Decides, days_in_month_bounds, CalendarDate, BadMoment, is_date, day_number, date_after, digit_as_zero, has_form, number_in_letters, date_shown, is_moment, minutes_shown, text_at, moment_text, TextIsRead, ReadingIsExact}
 use Rattle.taf_moment.proofs.DateLemmas.{IsCalendarDate, calendar_date_from_test, test_from_calendar_date, day_number-bound, date_after-day_number, date_after-is}
 use Rattle.taf_moment.proofs.LetterLemmas.{digit_from_form, mark_from_form, digits_value-two_digits, digits_value-four_digits, form-two_digits, form-four_digits, two_digits-digits_value, four_digits-digits_value}
 

@@ -1,11 +1,5 @@
 -- The sum behind the check digit.
-use Rattle.std.proofs.Common.{◌≡◌, ℕ, ◌+◌, ◌*◌, ◌<◌, ◌≤◌, Bool, true, List, [], ◌∷◌, length, get_or, All, refl, ◌∙◌, ap, arith}
-use Rattle.std.specs.Prelude.{sum_by, ◌==◌}
-use Rattle.std.proofs.lemmas.Bool.{eqb-true, agree_below_at}
-use Rattle.std.proofs.lemmas.List.Elements.{All-get_or}
-use Rattle.std.proofs.lemmas.List.FromFn.{fill_by_all}
-use Rattle.wagon_number.specs.declared.digits.TheConstants.{DOUBLED}
-use Rattle.wagon_number.specs.Digits.{products, digit_sum}
+use Rattle.wagon_number.proofs.Common.{◌≡◌, ℕ, ◌+◌, ◌*◌, ◌<◌, ◌≤◌, Bool, true, List, [], ◌∷◌, length, get_or, All, refl, ◌∙◌, ap, arith, sum_by, ◌==◌, eqb-true, agree_below_at, All-get_or, fill_by_all, DOUBLED, products, digit_sum}
 
 -- the table has the sum of the digits of a digit's double
 abbrev has_sum : ℕ → Bool

@@ -1,11 +1,5 @@
 -- Digits, and the number that they show.
-use Rattle.std.proofs.Common.{◌≡◌, ℕ, zero, suc, ◌+◌, ◌*◌, ◌/◌, ◌%◌, ◌^◌, ◌<◌, ◌≤◌, List, [], ◌∷◌, ◌++◌, length, take, get_or, All, refl, sym, ◌∙◌, ap, arith, length-append}
-use Rattle.std.proofs.Math.Nat.{pow-suc, pow-le-pow_right}
-use Rattle.std.proofs.lemmas.List.{take_all, take_more, length-take, length-take-le}
-use Rattle.std.proofs.lemmas.List.Elements.{All-nil, All-push, All-take, All-get_or, All-weaker, recursion_from_All}
-use Rattle.std.proofs.lemmas.Int.Digits.{number_push, number_lt}
-use Rattle.wagon_number.specs.Digits.{last_digits, number_in, digits_of}
-use Rattle.wagon_number.specs.Laws.{DigitsGiveTheNumber, NumberGivesTheDigits}
+use Rattle.wagon_number.proofs.Common.{◌≡◌, ℕ, zero, suc, ◌+◌, ◌*◌, ◌/◌, ◌%◌, ◌^◌, ◌<◌, ◌≤◌, List, [], ◌∷◌, ◌++◌, length, take, get_or, All, refl, sym, ◌∙◌, ap, arith, length-append, pow-suc, pow-le-pow_right, take_all, take_more, length-take, length-take-le, All-nil, All-push, All-take, All-get_or, All-weaker, recursion_from_All, number_push, number_lt, last_digits, number_in, digits_of, DigitsGiveTheNumber, NumberGivesTheDigits}
 
 -- there are as many last digits as were asked for
 pub length-last_digits : (count n : ℕ) → length (last_digits count n) ≡ count

@@ -1,3 +1,4 @@
+pub mod Common
 pub mod DigitLemmas
 pub mod PairLemmas
 pub mod TextLemmas

@@ -1,14 +1,5 @@
 -- The marked form, letter by letter.
-use Rattle.std.proofs.Common.{◌≡◌, ℕ, ◌<◌, true, List, [], ◌∷◌, length, get_or, refl, sym, ◌∙◌, ap, lit<}
-use Rattle.std.specs.Prelude.{◌==◌, slice_index}
-use Rattle.std.proofs.lemmas.Bool.{cond-true, and_parts, eqb-true}
-use Rattle.std.specs.Str.{IsAscii}
-use Rattle.std.specs.List.{AllByRecursion}
-use Rattle.std.proofs.lemmas.Str.Ascii.{IsAscii-from_all}
-use Rattle.std.proofs.lemmas.List.Elements.{All-from_recursion}
-use Rattle.std.proofs.lemmas.List.FromFn.{fill_by_all}
-use Rattle.wagon_number.specs.Digits.{with_marks, without_marks, has_marks, text_of, number_of, marked_number_of}
-use Rattle.wagon_number.specs.Laws.{MarkedTextIsRead, MarkedReadingIsExact}
+use Rattle.wagon_number.proofs.Common.{◌≡◌, ℕ, ◌<◌, true, List, [], ◌∷◌, length, get_or, refl, sym, ◌∙◌, ap, lit<, ◌==◌, slice_index, cond-true, and_parts, eqb-true, IsAscii, AllByRecursion, IsAscii-from_all, All-from_recursion, fill_by_all, with_marks, without_marks, has_marks, text_of, number_of, marked_number_of, MarkedTextIsRead, MarkedReadingIsExact}
 use Rattle.wagon_number.proofs.TextLemmas.{ok_from_if, text_is_read, reading_is_exact, length-text_of}
 
 -- a list of twelve numbers, one by one

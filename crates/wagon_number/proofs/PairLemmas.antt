@@ -1,10 +1,5 @@
 -- Digits two at a time, and the table of their letters.
-use Rattle.std.proofs.Common.{◌≡◌, ℕ, ◌+◌, ◌*◌, ◌/◌, ◌%◌, ◌<◌, Bool, true, suc, ◌++◌, get_or, refl, ap, ◌∙◌, arith, append_assoc}
-use Rattle.std.specs.Prelude.{◌==◌, ◌&&◌}
-use Rattle.std.specs.Char.{digit_char}
-use Rattle.std.proofs.lemmas.Bool.{and_parts, eqb-true, agree_below_at}
-use Rattle.wagon_number.specs.declared.pairs.TheConstants.{PAIRS}
-use Rattle.wagon_number.specs.Digits.{last_digits}
+use Rattle.wagon_number.proofs.Common.{◌≡◌, ℕ, ◌+◌, ◌*◌, ◌/◌, ◌%◌, ◌<◌, Bool, true, suc, ◌++◌, get_or, refl, ap, ◌∙◌, arith, append_assoc, ◌==◌, ◌&&◌, digit_char, and_parts, eqb-true, agree_below_at, PAIRS, last_digits}
 
 -- the table has the letters of a number at twice its place
 abbrev has_letters : ℕ → Bool

@@ -1,18 +1,5 @@
 -- Letters, and the digits that they show.
-use Rattle.std.proofs.Common.{◌≡◌, ℕ, ◌<◌, Bool, true, false, List, [], ◌∷◌, length, map, All, Result, Ok, Err, refl, sym, ◌∙◌, ap, arith, eq-eqb}
-use Rattle.std.specs.Prelude.{if◌then◌else◌, ◌==◌}
-use Rattle.std.specs.Char.{digit_value, digit_char, is_ascii_digit}
-use Rattle.std.specs.List.{list_all}
-use Rattle.std.proofs.lemmas.Bool.{cond-true, and_parts, and_from, eqb-true}
-use Rattle.std.proofs.lemmas.Bool.Decides.{nat_tests}
-use Rattle.std.proofs.lemmas.List.{length-map}
-use Rattle.std.specs.Str.{IsAscii}
-use Rattle.std.proofs.lemmas.Str.Ascii.{IsAscii-nil, IsAscii-cons}
-use Rattle.std.proofs.lemmas.List.Elements.{All-nil, All-cons, All-head, All-tail}
-use Rattle.wagon_number.specs.declared.fault.NumberFault.{NumberFault}
-use Rattle.wagon_number.specs.declared.fault.NumberFault.TheVariants.{NotTwelveDigits, BadCheckDigit}
-use Rattle.wagon_number.specs.Digits.{IsValid, digits_of, number_in, has_check_digit, has_twelve_digits, shown_digits, text_of}
-use Rattle.wagon_number.specs.Laws.{TextIsRead, ReadingIsExact}
+use Rattle.wagon_number.proofs.Common.{◌≡◌, ℕ, ◌<◌, Bool, true, false, List, [], ◌∷◌, length, map, All, Result, Ok, Err, refl, sym, ◌∙◌, ap, arith, eq-eqb, if◌then◌else◌, ◌==◌, digit_value, digit_char, is_ascii_digit, list_all, cond-true, and_parts, and_from, eqb-true, nat_tests, length-map, IsAscii, IsAscii-nil, IsAscii-cons, All-nil, All-cons, All-head, All-tail, NumberFault, NotTwelveDigits, BadCheckDigit, IsValid, digits_of, number_in, has_check_digit, has_twelve_digits, shown_digits, text_of, TextIsRead, ReadingIsExact}
 use Rattle.wagon_number.proofs.DigitLemmas.{length-last_digits, digits_give_the_number, number_gives_the_digits}
 
 -- the letter of a digit is a digit of ASCII, and shows it

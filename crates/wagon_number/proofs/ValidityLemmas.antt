@@ -1,12 +1,5 @@
 -- The test of digits.
-use Rattle.std.proofs.Common.{◌≡◌, ℕ, ◌<◌, List, length, true, eq-eqb}
-use Rattle.std.specs.Prelude.{◌==◌, nat_lt}
-use Rattle.std.specs.List.{list_all}
-use Rattle.std.proofs.lemmas.Bool.{and_parts, and_from, eqb-true, ltb-true, lt-ltb}
-use Rattle.std.proofs.lemmas.List.Elements.{All-weaker}
-use Rattle.std.proofs.lemmas.List.Sums.{AllPass-from_list_all, list_all-from_AllPass}
-use Rattle.wagon_number.specs.Digits.{IsValid, is_valid, has_check_digit}
-use Rattle.wagon_number.specs.Laws.{ValidityIsTested}
+use Rattle.wagon_number.proofs.Common.{◌≡◌, ℕ, ◌<◌, List, length, true, eq-eqb, ◌==◌, nat_lt, list_all, and_parts, and_from, eqb-true, ltb-true, lt-ltb, All-weaker, AllPass-from_list_all, list_all-from_AllPass, IsValid, is_valid, has_check_digit, ValidityIsTested}
 
 -- digits that pass the test are valid
 valid_from_test : (ds : List ℕ) → is_valid ds ≡ true → IsValid ds

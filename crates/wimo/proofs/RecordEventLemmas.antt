@@ -1,17 +1,5 @@
 -- Lists of what is shown.
-use Rattle.std.proofs.Common.{◌≡◌, ℕ, ◌+◌, ◌<◌, ◌==◌, zero, suc, Bool, true, false, cond, List, [], ◌∷◌, ◌++◌, length, get_or, take, map, filter, Option, Some, None, refl, ap, sym, ◌∙◌, append_assoc, arith, add-one}
-use Rattle.std.specs.Prelude.{filter_map}
-use Rattle.std.specs.Option.{option_to_list}
-use Rattle.std.specs.List.{range_with_len, cons_option}
-use Rattle.std.proofs.lemmas.List.{map-append}
-use Rattle.std.proofs.lemmas.List.Elements.{filter_map-append, filter_more}
-use Rattle.taf_codes.specs.declared.code.UnitCode.{UnitCode}
-use Rattle.trip_plan.specs.declared.parts.UnitLoad.{UnitLoad}
-use Rattle.taf_messages.specs.declared.event.RecordEvent.{RecordEvent}
-use Rattle.taf_messages.specs.declared.record.EstimateAt.{EstimateAt}
-use Rattle.journey.specs.declared.event.Event.{Event}
-use Rattle.journey.specs.Legs.{HaveRoom, index_after}
-use Rattle.wimo.specs.Records.{record_event, record_events, leg_behind, units_among}
+use Rattle.wimo.proofs.Common.{◌≡◌, ℕ, ◌+◌, ◌<◌, ◌==◌, zero, suc, Bool, true, false, cond, List, [], ◌∷◌, ◌++◌, length, get_or, take, map, filter, Option, Some, None, refl, ap, sym, ◌∙◌, append_assoc, arith, add-one, filter_map, option_to_list, range_with_len, cons_option, map-append, filter_map-append, filter_more, UnitCode, UnitLoad, RecordEvent, EstimateAt, Event, HaveRoom, index_after, record_event, record_events, leg_behind, units_among}
 
 -- an estimate of leg j
 abbrev pub at_leg : ℕ → ℕ → EstimateAt

@@ -1,5 +1,4 @@
-use Rattle.serde_json.specs.Events.{items_len}
-use Rattle.json_tokens.specs.JsonValues.{json_items_data}
+use Rattle.call_reader.proofs.Common.{items_len, json_items_data}
 use Rattle.call_reader.proofs.value.count_of.Given as goal
 
 abbrev pub decreases-items : goal.decreases-items

@@ -1,4 +1,4 @@
-use Rattle.std.proofs.lemmas.Result.{err_from_is_err_and}
+use Rattle.call_reader.proofs.Common.{err_from_is_err_and}
 use Rattle.call_reader.proofs.EachLemmas.{starts, goes_on, ends, is_done, fewer}
 use Rattle.call_reader.proofs.value.each_of.Goals as goal
 

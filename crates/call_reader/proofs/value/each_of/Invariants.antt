@@ -1,7 +1,4 @@
-use Rattle.std.proofs.Common.{◌≡◌}
-use Rattle.serde_json.specs.Events.{items_len}
-use Rattle.json_tokens.specs.JsonValues.{json_items_data}
-use Rattle.call_reader.specs.Values.{each}
+use Rattle.call_reader.proofs.Common.{◌≡◌, items_len, json_items_data, each}
 use Rattle.call_reader.proofs.EachLemmas.{with_front}
 use Rattle.call_reader.proofs.value.each_of.Given as goal
 

@@ -1,5 +1,4 @@
-use Rattle.std.proofs.Common.{◌≡◌, ◌+◌, ◌*◌, ◌≤◌, length}
-use Rattle.std.specs.Prelude.{fold}
+use Rattle.eti_chain.proofs.Common.{◌≡◌, ◌+◌, ◌*◌, ◌≤◌, length, fold}
 use Rattle.eti_chain.specs.Estimates as of
 use Rattle.eti_chain.specs.EstimateStates as states
 use Rattle.eti_chain.proofs.basis.anchor_behind.Given as goal

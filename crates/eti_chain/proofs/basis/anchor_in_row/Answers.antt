@@ -1,8 +1,4 @@
-use Rattle.std.proofs.Common.{◌≡◌, ◌+◌, ◌<◌, ◌++◌, ◌∷◌, [], length, ap, sym, ◌∙◌, take, arith}
-use Rattle.std.proofs.lemmas.List.{take_more}
-use Rattle.journey.specs.declared.event.Event.{Event}
-use Rattle.eti_chain.specs.Estimates.{anchor}
-use Rattle.eti_chain.specs.EstimateStates.{anchor_after}
+use Rattle.eti_chain.proofs.Common.{◌≡◌, ◌+◌, ◌<◌, ◌++◌, ◌∷◌, [], length, ap, sym, ◌∙◌, take, arith, take_more, Event, anchor, anchor_after}
 use Rattle.eti_chain.proofs.EstimateLemmas.{anchor_push}
 use Rattle.eti_chain.proofs.basis.anchor_in_row.Goals as goal
 

@@ -1,4 +1,4 @@
-use Rattle.std.proofs.Common.{◌≡◌, ◌*◌, ◌≤◌, take}
+use Rattle.eti_chain.proofs.Common.{◌≡◌, ◌*◌, ◌≤◌, take}
 use Rattle.eti_chain.specs.Estimates as of
 use Rattle.eti_chain.proofs.basis.anchor_in_row.Given as goal
 

@@ -1,5 +1,4 @@
-use Rattle.std.proofs.Common.{◌≡◌, ◌*◌, ◌≤◌, ◌^◌, ◌-◌, take}
-use Rattle.std.specs.List.{sum_by}
+use Rattle.eti_chain.proofs.Common.{◌≡◌, ◌*◌, ◌≤◌, ◌^◌, ◌-◌, take, sum_by}
 use Rattle.eti_chain.proofs.basis.minutes_of.Given as goal
 
 abbrev pub invariant-loop-leg : goal.invariant-loop-leg

@@ -1,11 +1,4 @@
-use Rattle.std.proofs.Common.{Some, sym, ap, subst, ◌∙◌}
-use Rattle.std.specs.Prelude.{option_map}
-use Rattle.journey.specs.declared.event.Event.{Event}
-use Rattle.journey.specs.Journey.{Journey}
-use Rattle.hub_tables.specs.TableStates.{table_state}
-use Rattle.hub_tables.proofs.AloneLemmas.{event_of_alone}
-use Rattle.hub_checks.specs.declared.judging.Checked.{Checked}
-use Rattle.hub_checks.specs.Judging.{IsChecked}
+use Rattle.hub_checks.proofs.Common.{Some, sym, ap, subst, ◌∙◌, option_map, Event, Journey, table_state, event_of_alone, Checked, IsChecked}
 use Rattle.hub_checks.proofs.AloneFaultLemmas.{at_wagon, unknown_alone, known_alone}
 use Rattle.hub_checks.proofs.judging.check_alone.Goals as goal
 

@@ -1,13 +1,5 @@
-use Rattle.std.proofs.Common.{ℕ, ◌+◌, List, ◌∷◌, drop, Option, Some, ap, sym, ◌∙◌}
-use Rattle.std.specs.Prelude.{option_map}
-use Rattle.std.specs.Option.{option_or}
-use Rattle.std.proofs.lemmas.List.{at_drop_all, at_drop_more}
-use Rattle.trip_plan.specs.Rules.{has}
-use Rattle.taf_messages.specs.declared.reply.Why.{Why}
-use Rattle.hub_model.specs.declared.fault.Fault.{Fault}
+use Rattle.hub_checks.proofs.Common.{ℕ, ◌+◌, List, ◌∷◌, drop, Option, Some, ap, sym, ◌∙◌, option_map, option_or, at_drop_all, at_drop_more, has, Why, Fault, table_state, has_at}
 use Rattle.hub_model.specs.Faults as of
-use Rattle.hub_tables.specs.TableStates.{table_state}
-use Rattle.hub_tables.proofs.NextEventLemmas.{has_at}
 use Rattle.hub_checks.proofs.judging.first_fault.Goals as goal
 
 pub wagon_fault-requires-clause-named : goal.wagon_fault-requires-clause-named

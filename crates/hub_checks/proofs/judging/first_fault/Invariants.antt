@@ -1,6 +1,5 @@
-use Rattle.std.proofs.Common.{◌≡◌, drop}
+use Rattle.hub_checks.proofs.Common.{◌≡◌, drop, table_state}
 use Rattle.hub_model.specs.Faults as of
-use Rattle.hub_tables.specs.TableStates.{table_state}
 use Rattle.hub_checks.proofs.judging.first_fault.Given as goal
 
 -- the first fault of the wagons that are left is that of all

@@ -1,5 +1,4 @@
-use Rattle.std.proofs.Common.{◌∙◌, sym}
-use Rattle.hub_tables.specs.TableStates.{table_state}
+use Rattle.hub_checks.proofs.Common.{◌∙◌, sym, table_state}
 use Rattle.hub_checks.proofs.UnitLoadLemmas.{past_one}
 use Rattle.hub_checks.proofs.units.unit_fault.Goals as goal
 

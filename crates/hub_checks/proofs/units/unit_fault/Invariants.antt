@@ -1,6 +1,4 @@
-use Rattle.std.proofs.Common.{◌≡◌, drop}
-use Rattle.hub_model.specs.Faults.{unit_fault}
-use Rattle.hub_tables.specs.TableStates.{table_state}
+use Rattle.hub_checks.proofs.Common.{◌≡◌, drop, unit_fault, table_state}
 use Rattle.hub_checks.proofs.units.unit_fault.Given as goal
 
 -- the first busy unit of those that are left is that of all

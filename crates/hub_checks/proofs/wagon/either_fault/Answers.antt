@@ -1,6 +1,4 @@
-use Rattle.std.proofs.Common.{◌∙◌, ap, sym}
-use Rattle.journey.specs.Journey.{Journey}
-use Rattle.hub_tables.specs.TableStates.{table_state}
+use Rattle.hub_checks.proofs.Common.{◌∙◌, ap, sym, Journey, table_state}
 use Rattle.hub_checks.proofs.ContinuationLemmas.{either_by}
 use Rattle.hub_checks.proofs.wagon.either_fault.Goals as goal
 

@@ -1,5 +1,4 @@
-use Rattle.std.proofs.Common.{◌∙◌, sym}
-use Rattle.hub_tables.specs.TableStates.{table_state}
+use Rattle.hub_checks.proofs.Common.{◌∙◌, sym, table_state}
 use Rattle.hub_checks.proofs.ContinuationLemmas.{answer_admitted}
 use Rattle.hub_checks.proofs.wagon.wagon_fault.Goals as goal
 

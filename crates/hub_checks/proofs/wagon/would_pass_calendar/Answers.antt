@@ -1,6 +1,4 @@
-use Rattle.std.proofs.Common.{◌∙◌, ◌++◌, ◌∷◌, [], ap, not}
-use Rattle.journey.specs.Journey.{Journey}
-use Rattle.eti_chain.specs.Estimates.{fits}
+use Rattle.hub_checks.proofs.Common.{◌∙◌, ◌++◌, ◌∷◌, [], ap, not, Journey, fits}
 use Rattle.hub_checks.proofs.wagon.would_pass_calendar.Goals as goal
 
 pub returns : goal.returns

@@ -1,6 +1,4 @@
-use Rattle.std.proofs.Common.{◌∙◌, ap, sym}
-use Rattle.hub_model.specs.Faults.{whole_fault}
-use Rattle.hub_tables.specs.TableStates.{table_state}
+use Rattle.hub_checks.proofs.Common.{◌∙◌, ap, sym, whole_fault, table_state}
 use Rattle.hub_checks.proofs.whole.whole_fault.Goals as goal
 
 pub returns-in-Plan : goal.returns-in-Plan

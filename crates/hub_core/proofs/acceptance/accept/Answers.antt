@@ -1,19 +1,4 @@
-use Rattle.std.proofs.Common.{rules, ◌≡◌, ℕ, List, [], ◌∷◌, ◌++◌, Option, Some, None, cond, length, ap, ◌∙◌, ◌<◌, ◌^◌, sym, subst}
-use Rattle.taf_messages.specs.declared.call.Call.TheVariants.{Send}
-use Rattle.taf_messages.specs.declared.message.Message.{Message}
-use Rattle.taf_messages.specs.declared.reply.Reply.{Reply}
-use Rattle.taf_messages.specs.declared.reply.Reply.TheVariants.{Accepted}
-use Rattle.history_pages.specs.Paged.{Paged}
-use Rattle.replay_numbers.specs.Names.{same_name}
-use Rattle.replay_numbers.specs.SentPositions.{position_of}
-use Rattle.taf_codes.specs.declared.code.Railway.{Railway}
-use Rattle.outbox.specs.OutboxStates.{OutboxState, outbox_state_of, with_items}
-use Rattle.hub_model.specs.declared.entry.Entry.{Entry}
-use Rattle.hub_model.specs.declared.addressed_item.AddressedItem.{AddressedItem}
-use Rattle.hub_model.specs.Items.{items_to}
-use Rattle.hub_model.specs.Updates.{after_acceptance}
-use Rattle.hub_tables.specs.TableStates.{TableEntries, table_state, table_part, event_alone}
-use Rattle.hub_core.specs.States.{Represents}
+use Rattle.hub_core.proofs.Common.{rules, ◌≡◌, ℕ, List, [], ◌∷◌, ◌++◌, Option, Some, None, cond, length, ap, ◌∙◌, ◌<◌, ◌^◌, sym, subst, Send, Message, Reply, Accepted, Paged, same_name, position_of, Railway, OutboxState, outbox_state_of, with_items, Entry, AddressedItem, items_to, after_acceptance, TableEntries, table_state, table_part, event_alone, Represents}
 use Rattle.hub_core.proofs.HistoryLemmas.{kept_same}
 use Rattle.hub_core.proofs.SendLemmas.{few_items, new_answer, kept_accepted}
 use Rattle.hub_core.proofs.acceptance.accept.Goals as goal

@@ -1,13 +1,4 @@
-use Rattle.std.proofs.Common.{rules, ◌≡◌, ℕ, List, [], ◌∷◌, ◌++◌, ap, ◌∙◌, sym, subst}
-use Rattle.taf_messages.specs.declared.call.Call.TheVariants.{Ack}
-use Rattle.taf_messages.specs.declared.reply.Reply.{Reply}
-use Rattle.history_pages.specs.Paged.{Paged}
-use Rattle.replay_numbers.specs.SentPositions.{position_of}
-use Rattle.outbox.specs.OutboxStates.{outbox_state_of}
-use Rattle.hub_model.specs.declared.entry.Entry.{Entry}
-use Rattle.hub_model.specs.Histories.{answer}
-use Rattle.hub_tables.specs.TableStates.{table_state}
-use Rattle.hub_core.specs.States.{Represents, ack_outcome_reply}
+use Rattle.hub_core.proofs.Common.{rules, ◌≡◌, ℕ, List, [], ◌∷◌, ◌++◌, ap, ◌∙◌, sym, subst, Ack, Reply, Paged, position_of, outbox_state_of, Entry, answer, table_state, Represents, ack_outcome_reply}
 use Rattle.hub_core.proofs.AcknowledgementLemmas.{ack_answer, kept_ack}
 use Rattle.hub_core.proofs.ack.apply_ack.Goals as goal
 

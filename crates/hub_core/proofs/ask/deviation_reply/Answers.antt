@@ -1,7 +1,4 @@
-use Rattle.std.proofs.Common.{◌≡◌, subst}
-use Rattle.std.specs.Prelude.{IfOk}
-use Rattle.hub_model.specs.HubState.{HubState}
-use Rattle.hub_model.specs.Replies.{deviation_reply}
+use Rattle.hub_core.proofs.Common.{◌≡◌, subst, IfOk, HubState, deviation_reply}
 use Rattle.hub_core.proofs.ask.deviation_reply.Goals as goal
 
 pub returns : goal.returns

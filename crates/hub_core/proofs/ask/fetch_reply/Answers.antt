@@ -1,8 +1,4 @@
-use Rattle.std.proofs.Common.{ap, ◌∙◌}
-use Rattle.taf_messages.specs.declared.reply.Reply.TheVariants.{Items}
-use Rattle.outbox.specs.OutboxStates.{outbox_state_of}
-use Rattle.replay_numbers.specs.SentPositions.{position_of}
-use Rattle.hub_tables.specs.TableStates.{table_state}
+use Rattle.hub_core.proofs.Common.{ap, ◌∙◌, Items, outbox_state_of, position_of, table_state}
 use Rattle.hub_core.proofs.HistoryLemmas.{fetch_answer}
 use Rattle.hub_core.proofs.ask.fetch_reply.Goals as goal
 

@@ -1,8 +1,4 @@
-use Rattle.std.proofs.Common.{◌≡◌, subst}
-use Rattle.std.specs.Prelude.{IfOk}
-use Rattle.hub_model.specs.HubState.{HubState}
-use Rattle.hub_model.specs.Units.{unit_wagon}
-use Rattle.hub_model.specs.Replies.{unit_reply}
+use Rattle.hub_core.proofs.Common.{◌≡◌, subst, IfOk, HubState, unit_wagon, unit_reply}
 use Rattle.hub_core.proofs.ask.unit_reply.Goals as goal
 
 pub returns : goal.returns

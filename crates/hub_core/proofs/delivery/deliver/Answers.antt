@@ -1,11 +1,4 @@
-use Rattle.std.proofs.Common.{◌≡◌, ℕ, ◌+◌, ◌^◌, length, List, [], ◌∷◌, ◌++◌, ap, ◌∙◌, sym, subst, arith, append_assoc, append-nil}
-use Rattle.std.specs.Prelude.{bytes_eq, if◌then◌else◌}
-use Rattle.std.specs.Vec.Iter.{drain_items}
-use Rattle.std.proofs.lemmas.List.{length-append}
-use Rattle.outbox.specs.OutboxStates.{outbox_state_of, with_items}
-use Rattle.hub_model.specs.declared.addressed_item.AddressedItem.{AddressedItem}
-use Rattle.hub_model.specs.Items.{items_to}
-use Rattle.hub_core.specs.Delivery.{AreReady}
+use Rattle.hub_core.proofs.Common.{◌≡◌, ℕ, ◌+◌, ◌^◌, length, List, [], ◌∷◌, ◌++◌, ap, ◌∙◌, sym, subst, arith, append_assoc, append-nil, bytes_eq, if◌then◌else◌, drain_items, length-append, outbox_state_of, with_items, AddressedItem, items_to, AreReady}
 use Rattle.hub_core.proofs.DeliveryLemmas.{ready_after, items_more, kept_with_one}
 use Rattle.hub_core.proofs.delivery.deliver.Goals as goal
 

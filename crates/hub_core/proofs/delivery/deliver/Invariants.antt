@@ -1,9 +1,4 @@
-use Rattle.std.proofs.Common.{◌≡◌, ◌+◌, ◌^◌, ◌++◌, length}
-use Rattle.std.specs.Vec.Iter.{drain_items}
-use Rattle.taf_codes.specs.declared.code.Railway.{Railway}
-use Rattle.outbox.specs.OutboxStates.{outbox_state_of, with_items}
-use Rattle.hub_model.specs.Items.{items_to}
-use Rattle.hub_core.specs.Delivery.{AreReady}
+use Rattle.hub_core.proofs.Common.{◌≡◌, ◌+◌, ◌^◌, ◌++◌, length, drain_items, Railway, outbox_state_of, with_items, items_to, AreReady}
 use Rattle.hub_core.proofs.delivery.deliver.Given as goal
 
 -- the items so far are in the boxes, the others are ready, and both are all

@@ -1,7 +1,4 @@
-use Rattle.std.proofs.Common.{◌≡◌, ℕ, ◌+◌, ◌<◌, ◌^◌, suc, length, List, [], ◌∷◌, ◌++◌, take, ap, ◌∙◌, sym, subst, arith}
-use Rattle.std.proofs.Math.Seq.{take-suc}
-use Rattle.hub_model.specs.declared.addressed_item.AddressedItem.{AddressedItem}
-use Rattle.hub_core.specs.Delivery.{AreReady}
+use Rattle.hub_core.proofs.Common.{◌≡◌, ℕ, ◌+◌, ◌<◌, ◌^◌, suc, length, List, [], ◌∷◌, ◌++◌, take, ap, ◌∙◌, sym, subst, arith, take-suc, AddressedItem, AreReady}
 use Rattle.hub_core.proofs.DeliveryLemmas.{ready_more, ready_stays}
 use Rattle.hub_core.proofs.delivery.make_room_for.Goals as goal
 

@@ -1,7 +1,4 @@
-use Rattle.std.proofs.Common.{◌≡◌, ◌^◌, length, take}
-use Rattle.taf_codes.specs.declared.code.Railway.{Railway}
-use Rattle.outbox.specs.OutboxStates.{outbox_state_of}
-use Rattle.hub_core.specs.Delivery.{AreReady}
+use Rattle.hub_core.proofs.Common.{◌≡◌, ◌^◌, length, take, Railway, outbox_state_of, AreReady}
 use Rattle.hub_core.proofs.delivery.make_room_for.Given as goal
 
 abbrev pub invariant-loop-item : goal.invariant-loop-item

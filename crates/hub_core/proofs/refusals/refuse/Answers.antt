@@ -1,16 +1,4 @@
-use Rattle.std.proofs.Common.{rules, ◌≡◌, ℕ, List, [], ◌∷◌, ◌++◌, Option, Some, cond, length, ap, ◌∙◌, sym, subst}
-use Rattle.taf_codes.specs.declared.code.Railway.{Railway}
-use Rattle.taf_messages.specs.declared.call.Call.TheVariants.{Send}
-use Rattle.taf_messages.specs.declared.message.Message.{Message}
-use Rattle.taf_messages.specs.declared.reply.Reply.{Reply}
-use Rattle.history_pages.specs.Paged.{Paged}
-use Rattle.replay_numbers.specs.Names.{same_name}
-use Rattle.replay_numbers.specs.SentPositions.{position_of}
-use Rattle.outbox.specs.OutboxStates.{outbox_state_of}
-use Rattle.hub_model.specs.declared.entry.Entry.{Entry}
-use Rattle.hub_model.specs.Replies.{verdict}
-use Rattle.hub_tables.specs.TableStates.{table_state}
-use Rattle.hub_core.specs.States.{Represents}
+use Rattle.hub_core.proofs.Common.{rules, ◌≡◌, ℕ, List, [], ◌∷◌, ◌++◌, Option, Some, cond, length, ap, ◌∙◌, sym, subst, Railway, Send, Message, Reply, Paged, same_name, position_of, outbox_state_of, Entry, verdict, table_state, Represents}
 use Rattle.hub_core.proofs.SendLemmas.{new_answer, kept_refused}
 use Rattle.hub_core.proofs.refusals.refuse.Goals as goal
 

@@ -1,6 +1,4 @@
-use Rattle.replay_numbers.specs.SentPositions.{position_of}
-use Rattle.outbox.specs.OutboxStates.{outbox_state_of}
-use Rattle.hub_tables.specs.TableStates.{table_state}
+use Rattle.hub_core.proofs.Common.{position_of, outbox_state_of, table_state}
 use Rattle.hub_core.proofs.SendLemmas.{quiet_again}
 use Rattle.hub_core.proofs.repeats.apply_repeat.Goals as goal
 

@@ -1,10 +1,4 @@
-use Rattle.std.proofs.Common.{◌∙◌, ap, sym, subst}
-use Rattle.replay_numbers.specs.SentPositions.{position_of}
-use Rattle.outbox.specs.OutboxStates.{outbox_state_of}
-use Rattle.hub_model.specs.Faults.{fault}
-use Rattle.hub_tables.specs.TableStates.{table_state, event_alone}
-use Rattle.hub_checks.specs.declared.judging.Checked.{Checked}
-use Rattle.hub_checks.specs.Judging.{IsChecked}
+use Rattle.hub_core.proofs.Common.{◌∙◌, ap, sym, subst, position_of, outbox_state_of, fault, table_state, event_alone, Checked, IsChecked}
 use Rattle.hub_core.proofs.AcceptableLemmas.{acceptable, offered_stay}
 use Rattle.hub_core.proofs.send.apply_new.Goals as goal
 

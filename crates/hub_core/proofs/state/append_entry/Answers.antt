@@ -1,10 +1,4 @@
-use Rattle.std.proofs.Common.{rules, ◌≡◌, List, [], ◌∷◌, ◌++◌, ap, ◌∙◌, sym, subst}
-use Rattle.history_pages.specs.Paged.{Paged}
-use Rattle.replay_numbers.specs.SentPositions.{position_of}
-use Rattle.outbox.specs.OutboxStates.{outbox_state_of}
-use Rattle.hub_model.specs.declared.entry.Entry.{Entry}
-use Rattle.hub_tables.specs.TableStates.{table_state}
-use Rattle.hub_core.specs.States.{Represents}
+use Rattle.hub_core.proofs.Common.{rules, ◌≡◌, List, [], ◌∷◌, ◌++◌, ap, ◌∙◌, sym, subst, Paged, position_of, outbox_state_of, Entry, table_state, Represents}
 use Rattle.hub_core.proofs.HistoryLemmas.{kept_entered}
 use Rattle.hub_core.proofs.state.append_entry.Goals as goal
 

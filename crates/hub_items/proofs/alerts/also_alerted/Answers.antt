@@ -1,7 +1,4 @@
-use Rattle.std.proofs.Common.{[], ap, ◌∙◌, ◌++◌, Option, sym}
-use Rattle.std.specs.Prelude.{option_to_list}
-use Rattle.taf_codes.specs.declared.code.Railway.{Railway}
-use Rattle.hub_model.specs.Items.{each_once}
+use Rattle.hub_items.proofs.Common.{[], ap, ◌∙◌, ◌++◌, Option, sym, option_to_list, Railway, each_once}
 use Rattle.hub_items.proofs.AlertLemmas.{lead_alone, lead_and_other}
 use Rattle.hub_items.proofs.alerts.also_alerted.Goals as goal
 

@@ -1,4 +1,4 @@
-use Rattle.journey.specs.Journey.{after}
+use Rattle.hub_items.proofs.Common.{after}
 use Rattle.hub_items.proofs.AlertLemmas.{alert_put}
 use Rattle.hub_items.proofs.alerts.put_alert.Goals as goal
 

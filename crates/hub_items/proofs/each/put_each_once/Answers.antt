@@ -1,6 +1,5 @@
-use Rattle.taf_codes.specs.declared.code.Railway.{Railway}
+use Rattle.hub_items.proofs.Common.{Railway, AddressedItem}
 use Rattle.taf_messages.specs.declared.item.ItemBody.TheVariants as item
-use Rattle.hub_model.specs.declared.addressed_item.AddressedItem.{AddressedItem}
 use Rattle.hub_items.proofs.PrefixLemmas.{once_so_far}
 use Rattle.hub_items.proofs.each.put_each_once.Goals as goal
 

@@ -1,5 +1,4 @@
-use Rattle.std.proofs.Common.{◌≡◌, ◌++◌, take}
-use Rattle.std.specs.Prelude.{map}
+use Rattle.hub_items.proofs.Common.{◌≡◌, ◌++◌, take, map}
 use Rattle.taf_messages.specs.declared.item.ItemBody.TheVariants as item
 use Rattle.hub_model.specs.Items as of
 use Rattle.hub_items.proofs.each.put_each_once.Given as goal

@@ -1,9 +1,5 @@
-use Rattle.std.proofs.Common.{◌≡◌, ◌++◌}
-use Rattle.std.specs.Prelude.{filter, filter_map, flat_map}
-use Rattle.std.specs.List.{range_with_len}
+use Rattle.hub_items.proofs.Common.{◌≡◌, ◌++◌, filter, filter_map, flat_map, range_with_len, after, estimate_of}
 use Rattle.hub_model.specs.Items as of
-use Rattle.journey.specs.Journey.{after}
-use Rattle.hub_items.specs.Transitions.{estimate_of}
 use Rattle.hub_items.proofs.estimates.put_estimates.Given as goal
 
 -- the news of the legs so far

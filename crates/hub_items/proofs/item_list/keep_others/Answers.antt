@@ -1,5 +1,4 @@
-use Rattle.std.proofs.Common.{rules}
-use Rattle.std.proofs.lemmas.Fn.{filter_same}
+use Rattle.hub_items.proofs.Common.{rules, filter_same}
 use Rattle.hub_items.proofs.item_list.keep_others.Goals as goal
 
 pub returns : goal.returns

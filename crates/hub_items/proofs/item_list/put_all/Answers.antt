@@ -1,12 +1,4 @@
-use Rattle.std.proofs.Common.{◌≡◌, ◌∙◌, List, ◌++◌, ap, sym, subst}
-use Rattle.std.specs.Prelude.{OnOk, option_to_list}
-use Rattle.journey.specs.declared.event.Event.{Event}
-use Rattle.journey.specs.Journey.{NextEvent, after}
-use Rattle.journey.specs.Stages.{responsible}
-use Rattle.hub_model.specs.declared.addressed_item.AddressedItem.{AddressedItem}
-use Rattle.hub_model.specs.HubState.{wagons_in, journey_after}
-use Rattle.hub_model.specs.Items.{notice_receivers, sub_items}
-use Rattle.hub_tables.specs.TableStates.{table_state}
+use Rattle.hub_items.proofs.Common.{◌≡◌, ◌∙◌, List, ◌++◌, ap, sym, subst, OnOk, option_to_list, Event, NextEvent, after, responsible, AddressedItem, wagons_in, journey_after, notice_receivers, sub_items, table_state}
 use Rattle.hub_items.proofs.MessageItemLemmas.{items_of_one_wagon}
 use Rattle.hub_items.proofs.item_list.put_all.Goals as goal
 

@@ -1,10 +1,4 @@
-use Rattle.std.proofs.Common.{List, ap, ◌∙◌, ◌++◌, sym}
-use Rattle.std.specs.Prelude.{filter, not, bytes_eq}
-use Rattle.taf_codes.specs.declared.code.Railway.{Railway}
-use Rattle.taf_messages.specs.declared.message.Message.{Message}
-use Rattle.hub_model.specs.declared.addressed_item.AddressedItem.{AddressedItem}
-use Rattle.hub_tables.specs.TableStates.{table_state, event_alone}
-use Rattle.hub_items.specs.MessageItems.{all_items}
+use Rattle.hub_items.proofs.Common.{List, ap, ◌∙◌, ◌++◌, sym, filter, not, bytes_eq, Railway, Message, AddressedItem, table_state, event_alone, all_items}
 use Rattle.hub_items.proofs.item_list.put_items.Goals as goal
 
 pub put_all-requires-clause-event : goal.put_all-requires-clause-event

@@ -1,8 +1,4 @@
-use Rattle.std.proofs.Common.{◌≡◌, List, [], ◌∙◌, ap, sym, ◌++◌, append-nil, subst}
-use Rattle.std.specs.Prelude.{OnOk}
-use Rattle.journey.specs.Journey.{NextEvent, after}
-use Rattle.hub_model.specs.declared.addressed_item.AddressedItem.{AddressedItem}
-use Rattle.hub_model.specs.Items.{alert_items, estimate_items}
+use Rattle.hub_items.proofs.Common.{◌≡◌, List, [], ◌∙◌, ap, sym, ◌++◌, append-nil, subst, OnOk, NextEvent, after, AddressedItem, alert_items, estimate_items}
 use Rattle.hub_items.proofs.item_list.put_of_event.Goals as goal
 
 pub returns : goal.returns

@@ -1,5 +1,4 @@
-use Rattle.std.proofs.Common.{◌∙◌}
-use Rattle.hub_tables.specs.TableStates.{table_state}
+use Rattle.hub_items.proofs.Common.{◌∙◌, table_state}
 use Rattle.hub_items.proofs.MessageItemLemmas.{items_of_many_wagons}
 use Rattle.hub_items.proofs.item_list.put_of_many.Goals as goal
 

@@ -1,12 +1,4 @@
-use Rattle.std.proofs.Common.{◌≡◌, ◌∙◌, List, ◌++◌, ap, sym, subst}
-use Rattle.std.specs.Prelude.{OnOk, option_to_list}
-use Rattle.journey.specs.declared.event.Event.{Event}
-use Rattle.journey.specs.Journey.{NextEvent, after}
-use Rattle.hub_model.specs.declared.addressed_item.AddressedItem.{AddressedItem}
-use Rattle.hub_model.specs.HubState.{wagons_in, journey_after, event_body_for}
-use Rattle.hub_model.specs.Items.{notice_receivers, sub_items, movement_receivers}
-use Rattle.hub_tables.specs.TableStates.{table_state}
-use Rattle.hub_items.specs.Transitions.{keeps_estimates}
+use Rattle.hub_items.proofs.Common.{◌≡◌, ◌∙◌, List, ◌++◌, ap, sym, subst, OnOk, option_to_list, Event, NextEvent, after, AddressedItem, wagons_in, journey_after, event_body_for, notice_receivers, sub_items, movement_receivers, table_state, keeps_estimates}
 use Rattle.hub_items.proofs.UnchangedEstimateLemmas.{lead_told}
 use Rattle.hub_items.proofs.MessageItemLemmas.{items_of_notice_alone, items_of_one_wagon}
 use Rattle.hub_items.proofs.item_list.put_of_movement.Goals as goal

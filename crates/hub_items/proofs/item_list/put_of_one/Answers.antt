@@ -1,4 +1,4 @@
-use Rattle.std.proofs.lemmas.Result.{IfOk-equal}
+use Rattle.hub_items.proofs.Common.{IfOk-equal}
 use Rattle.hub_items.proofs.MessageItemLemmas.{three_put}
 use Rattle.hub_items.proofs.item_list.put_of_one.Goals as goal
 

@@ -1,8 +1,4 @@
-use Rattle.std.proofs.Common.{◌∙◌, ap, sym, ◌++◌, append-nil}
-use Rattle.std.specs.Option.{option_copied}
-use Rattle.std.proofs.lemmas.Result.{on_ok_weaker}
-use Rattle.hub_tables.specs.TableStates.{table_state}
-use Rattle.hub_tables.proofs.AloneLemmas.{event_given}
+use Rattle.hub_items.proofs.Common.{◌∙◌, ap, sym, ◌++◌, append-nil, option_copied, on_ok_weaker, table_state, event_given}
 use Rattle.hub_items.proofs.PlanLemmas.{planned_estimates}
 use Rattle.hub_items.proofs.item_list.put_of_wagon.Goals as goal
 

@@ -1,8 +1,4 @@
-use Rattle.std.proofs.Common.{◌≡◌, ◌++◌, take}
-use Rattle.std.specs.Prelude.{flat_map}
-use Rattle.hub_model.specs.HubState.{journey_after}
-use Rattle.hub_model.specs.Items.{estimate_items, alert_items}
-use Rattle.hub_tables.specs.TableStates.{table_state}
+use Rattle.hub_items.proofs.Common.{◌≡◌, ◌++◌, take, flat_map, journey_after, estimate_items, alert_items, table_state}
 use Rattle.hub_items.proofs.item_list.put_of_wagons.Given as goal
 
 -- those of the wagons so far

@@ -1,8 +1,4 @@
-use Rattle.std.proofs.Common.{◌∙◌, ◌++◌, ap}
-use Rattle.taf_codes.specs.declared.code.Railway.{Railway}
-use Rattle.taf_messages.specs.declared.message.Body.{Body}
-use Rattle.hub_model.specs.Items.{sub_items}
-use Rattle.hub_tables.specs.TableStates.{table_state}
+use Rattle.hub_items.proofs.Common.{◌∙◌, ◌++◌, ap, Railway, Body, sub_items, table_state}
 use Rattle.hub_items.proofs.NoticeLemmas.{noticed}
 use Rattle.hub_items.proofs.notices.put_many.Goals as goal
 

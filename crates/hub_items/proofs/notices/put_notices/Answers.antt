@@ -1,12 +1,5 @@
-use Rattle.std.proofs.Common.{◌≡◌, List, [], ◌∷◌, ◌++◌, Some, None, ap, ◌∙◌, sym, subst, append-nil}
-use Rattle.std.specs.Prelude.{OnOk}
-use Rattle.taf_codes.specs.declared.code.Railway.{Railway}
-use Rattle.taf_messages.specs.declared.message.TrainOffer.{TrainOffer}
+use Rattle.hub_items.proofs.Common.{◌≡◌, List, [], ◌∷◌, ◌++◌, Some, None, ap, ◌∙◌, sym, subst, append-nil, OnOk, Railway, TrainOffer, AddressedItem, journey_after, notice_receivers, sub_items, table_state}
 use Rattle.taf_messages.specs.declared.message.Body.TheVariants as body
-use Rattle.hub_model.specs.declared.addressed_item.AddressedItem.{AddressedItem}
-use Rattle.hub_model.specs.HubState.{journey_after}
-use Rattle.hub_model.specs.Items.{notice_receivers, sub_items}
-use Rattle.hub_tables.specs.TableStates.{table_state}
 use Rattle.hub_items.proofs.MessageItemLemmas.{notice_of_one}
 use Rattle.hub_items.proofs.notices.put_notices.Goals as goal
 

@@ -1,9 +1,4 @@
-use Rattle.std.proofs.Common.{ℕ, List, ◌∷◌, ◌++◌, Option, ap, ◌∙◌, sym}
-use Rattle.std.specs.Prelude.{filter_map}
-use Rattle.std.proofs.lemmas.List.Elements.{filter_map-append}
-use Rattle.taf_codes.specs.declared.code.Railway.{Railway}
-use Rattle.journey.specs.Legs.{lead_of}
-use Rattle.hub_tables.specs.TableStates.{table_state}
+use Rattle.hub_items.proofs.Common.{ℕ, List, ◌∷◌, ◌++◌, Option, ap, ◌∙◌, sym, filter_map, filter_map-append, Railway, lead_of, table_state}
 use Rattle.hub_items.proofs.receivers.answer_receivers.Goals as goal
 
 pub returns : goal.returns

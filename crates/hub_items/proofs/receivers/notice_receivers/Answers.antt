@@ -1,11 +1,5 @@
-use Rattle.std.proofs.Common.{◌≡◌, ℕ, List, ◌∷◌, ◌++◌, Option, ap, ◌∙◌, sym, subst}
-use Rattle.std.specs.Prelude.{filter_map}
-use Rattle.taf_codes.specs.declared.code.Railway.{Railway}
-use Rattle.taf_messages.specs.declared.message.TrainAnswer.{TrainAnswer}
-use Rattle.journey.specs.Legs.{lead_of}
-use Rattle.hub_model.specs.HubState.{wagons_in, journey_after}
+use Rattle.hub_items.proofs.Common.{◌≡◌, ℕ, List, ◌∷◌, ◌++◌, Option, ap, ◌∙◌, sym, subst, filter_map, Railway, TrainAnswer, lead_of, wagons_in, journey_after, table_state, continues_journeys}
 use Rattle.hub_model.specs.Items as of
-use Rattle.hub_tables.specs.TableStates.{table_state, continues_journeys}
 use Rattle.hub_items.proofs.AcceptanceLemmas.{same_leads}
 use Rattle.hub_items.proofs.receivers.notice_receivers.Goals as goal
 

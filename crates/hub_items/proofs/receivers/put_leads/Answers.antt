@@ -1,6 +1,4 @@
-use Rattle.std.proofs.Common.{Option, ◌∙◌, ap, ◌++◌}
-use Rattle.std.specs.Prelude.{option_to_list}
-use Rattle.taf_codes.specs.declared.code.Railway.{Railway}
+use Rattle.hub_items.proofs.Common.{Option, ◌∙◌, ap, ◌++◌, option_to_list, Railway}
 use Rattle.hub_items.proofs.PrefixLemmas.{so_far, filter_map_grows}
 use Rattle.hub_items.proofs.receivers.put_leads.Goals as goal
 

@@ -1,7 +1,4 @@
-use Rattle.std.proofs.Common.{◌≡◌, ◌++◌, take}
-use Rattle.std.specs.Prelude.{filter_map}
-use Rattle.journey.specs.Legs.{lead_of}
-use Rattle.hub_tables.specs.TableStates.{table_state}
+use Rattle.hub_items.proofs.Common.{◌≡◌, ◌++◌, take, filter_map, lead_of, table_state}
 use Rattle.hub_items.proofs.receivers.put_leads.Given as goal
 
 -- the leads of the wagons so far

@@ -1,6 +1,4 @@
-use Rattle.std.proofs.Common.{◌≡◌, ◌++◌, ◌∷◌, [], ap, sym, ◌∙◌, refl, List, ℕ}
-use Rattle.taf_messages.specs.declared.reply.Reply.{Reply}
-use Rattle.call_lines.specs.Lines.{reply_text}
+use Rattle.hub_replay.proofs.Common.{◌≡◌, ◌++◌, ◌∷◌, [], ap, sym, ◌∙◌, refl, List, ℕ, Reply, reply_text}
 use Rattle.hub_replay.proofs.StreamLemmas.{Appends-none}
 use Rattle.hub_replay.proofs.RunLemmas.{Advances-said, full_fault, StopsWithin-here, Advances-with_reply_line, StopsWithin-with_reply_line, answers-lines, stops-lines, on_ok, on_err}
 use Rattle.hub_replay.proofs.answer_line.answer_call.Goals as goal

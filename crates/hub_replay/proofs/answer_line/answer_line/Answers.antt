@@ -1,4 +1,4 @@
-use Rattle.std.proofs.Common.{refl}
+use Rattle.hub_replay.proofs.Common.{refl}
 use Rattle.hub_replay.proofs.RunLemmas.{Advances-said, Advances-blank, StopsWithin-here, answers-lines, blames_memory, on_ok, on_err}
 use Rattle.hub_replay.proofs.answer_line.answer_line.Goals as goal
 

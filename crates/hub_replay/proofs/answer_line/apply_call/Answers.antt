@@ -1,7 +1,4 @@
-use Rattle.std.proofs.Common.{ℕ, ◌<◌, [], ◌∷◌, ◌++◌, ap, ◌∙◌, subst}
-use Rattle.taf_messages.specs.declared.reply.Reply.{Reply}
-use Rattle.hub_model.specs.declared.entry.Entry.{Entry}
-use Rattle.hub_replay.specs.Outcomes.{entry_of}
+use Rattle.hub_replay.proofs.Common.{ℕ, ◌<◌, [], ◌∷◌, ◌++◌, ap, ◌∙◌, subst, Reply, Entry, entry_of}
 use Rattle.hub_replay.proofs.answer_line.apply_call.Goals as goal
 
 pub returns-in-Ok-clause-ok : goal.returns-in-Ok-clause-ok

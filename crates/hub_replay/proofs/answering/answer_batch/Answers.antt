@@ -1,9 +1,4 @@
-use Rattle.std.proofs.Common.{◌≡◌, ◌++◌, ◌∷◌, [], List, Option, ◌∙◌, arith, ap, sym, refl, length, append_assoc, append-nil}
-use Rattle.std.specs.Prelude.{option_to_list}
-use Rattle.std.proofs.lemmas.List.Elements.{All-same, All-tail}
-use Rattle.call_lines.specs.declared.parsed.ParsedLine.{ParsedLine}
-use Rattle.call_lines.specs.Lines.{IsNotMemory}
-use Rattle.hub_replay.specs.Running.{line_total}
+use Rattle.hub_replay.proofs.Common.{◌≡◌, ◌++◌, ◌∷◌, [], List, Option, ◌∙◌, arith, ap, sym, refl, length, append_assoc, append-nil, option_to_list, All-same, All-tail, ParsedLine, IsNotMemory, line_total}
 use Rattle.hub_replay.proofs.RunLemmas.{Advances-none, Advances-append, StopsWithin-after, StopsWithin-more, StopsWithin-as, stops-lines}
 use Rattle.hub_replay.proofs.answering.answer_batch.Goals as goal
 

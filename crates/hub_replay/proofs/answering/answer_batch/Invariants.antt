@@ -1,8 +1,4 @@
-use Rattle.std.proofs.Common.{◌≡◌, ◌≤◌, ◌+◌, ◌*◌, ◌++◌, List, length}
-use Rattle.std.specs.List.{All}
-use Rattle.call_lines.specs.declared.parsed.ParsedLine.{ParsedLine}
-use Rattle.call_lines.specs.Lines.{IsNotMemory}
-use Rattle.hub_replay.specs.Running.{Advances, line_total}
+use Rattle.hub_replay.proofs.Common.{◌≡◌, ◌≤◌, ◌+◌, ◌*◌, ◌++◌, List, length, All, ParsedLine, IsNotMemory, Advances, line_total}
 use Rattle.hub_replay.proofs.answering.answer_batch.Given as goal
 
 -- some are answered, and the others come next

@@ -1,7 +1,4 @@
-use Rattle.std.proofs.Common.{◌≡◌, ◌+◌, ◌∙◌, ◌∷◌, [], true, arith, ap, sym, drop, length, length-append}
-use Rattle.std.specs.List.{slice_range}
-use Rattle.std.proofs.lemmas.List.Elements.{All-same, All-push}
-use Rattle.call_lines.specs.Lines.{IsNotMemory, has_no_newline}
+use Rattle.hub_replay.proofs.Common.{◌≡◌, ◌+◌, ◌∙◌, ◌∷◌, [], true, arith, ap, sym, drop, length, length-append, slice_range, All-same, All-push, IsNotMemory, has_no_newline}
 use Rattle.hub_replay.proofs.LineLemmas.{IsTaken-line, unbroken_slices, unbroken_rest, unbroken_nothing}
 use Rattle.hub_replay.proofs.batch.parse_batch.Goals as goal
 

@@ -1,7 +1,4 @@
-use Rattle.std.proofs.Common.{◌≡◌, ◌≤◌, ◌-◌, length, drop, true}
-use Rattle.std.specs.List.{All, slice_range}
-use Rattle.call_lines.specs.Lines.{IsNotMemory, has_no_newline}
-use Rattle.hub_replay.specs.Lines.{IsTaken}
+use Rattle.hub_replay.proofs.Common.{◌≡◌, ◌≤◌, ◌-◌, length, drop, true, All, slice_range, IsNotMemory, has_no_newline, IsTaken}
 use Rattle.hub_replay.proofs.batch.parse_batch.Given as goal
 
 -- the lines before `from` are parsed, and no newline comes from there to `place`

@@ -1,6 +1,4 @@
-use Rattle.std.proofs.Common.{◌≡◌, ◌<◌, ◌++◌, ◌∷◌, [], arith, ◌∙◌, drop, length, length-drop, ap}
-use Rattle.call_lines.specs.declared.parsed.ParsedLine.TheVariants.{TooLong}
-use Rattle.hub_replay.specs.Lines.{parsed_lines, after_skipping}
+use Rattle.hub_replay.proofs.Common.{◌≡◌, ◌<◌, ◌++◌, ◌∷◌, [], arith, ◌∙◌, drop, length, length-drop, ap, TooLong, parsed_lines, after_skipping}
 use Rattle.hub_replay.proofs.LineLemmas.{IsCut-skipped, IsCut-long, parsed_from, parsed_rest, parsed_taken}
 use Rattle.hub_replay.proofs.RunLemmas.{Advances-none, Advances-append, StopsWithin-after, StopsWithin-err}
 use Rattle.hub_replay.proofs.chunks.answer_chunk.Goals as goal

@@ -1,9 +1,4 @@
-use Rattle.std.proofs.Common.{◌+◌, ◌-◌, ◌≤◌, ◌++◌, [], ℕ, List, arith, refl, sym, ◌∙◌, drop, take, length, subst, length-drop}
-use Rattle.std.proofs.lemmas.Grind.{common_steps}
-use Rattle.std.proofs.lemmas.List.{drop-drop, take_all}
-use Rattle.hub_replay.specs.declared.batch.Batch.{Batch}
-use Rattle.hub_replay.specs.Lines.{IsTaken}
-use Rattle.hub_replay.specs.Batches.{IsBatch}
+use Rattle.hub_replay.proofs.Common.{◌+◌, ◌-◌, ◌≤◌, ◌++◌, [], ℕ, List, arith, refl, sym, ◌∙◌, drop, take, length, subst, length-drop, common_steps, drop-drop, take_all, Batch, IsTaken, IsBatch}
 use Rattle.hub_replay.proofs.LineLemmas.{IsTaken-none, IsTaken-append, parsed_taken}
 use Rattle.hub_replay.proofs.RunLemmas.{Advances-none, Advances-append, StopsWithin-here, StopsWithin-after, StopsWithin-more, StopsWithin-err, on_err}
 use Rattle.hub_replay.proofs.chunks.answer_lines.Goals as goal

@@ -1,8 +1,4 @@
-use Rattle.std.proofs.Common.{◌≡◌, ◌<◌, ◌≤◌, ◌+◌, ◌-◌, ◌*◌, List, length, drop}
-use Rattle.call_lines.specs.declared.parsed.ParsedLine.{ParsedLine}
-use Rattle.hub_replay.specs.Lines.{IsTaken}
-use Rattle.hub_replay.specs.Running.{Advances, line_total}
-use Rattle.hub_replay.specs.Batches.{IsBatch}
+use Rattle.hub_replay.proofs.Common.{◌≡◌, ◌<◌, ◌≤◌, ◌+◌, ◌-◌, ◌*◌, List, length, drop, ParsedLine, IsTaken, Advances, line_total, IsBatch}
 use Rattle.hub_replay.proofs.chunks.answer_lines.Given as goal
 
 -- the lines before `from` are answered, and those of the span come next

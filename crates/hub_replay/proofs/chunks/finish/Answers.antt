@@ -1,5 +1,4 @@
-use Rattle.std.proofs.Common.{append-nil}
-use Rattle.hub_replay.specs.Lines.{parsed_lines}
+use Rattle.hub_replay.proofs.Common.{append-nil, parsed_lines}
 use Rattle.hub_replay.proofs.RunLemmas.{Advances-append, StopsWithin-after, stops-lines}
 use Rattle.hub_replay.proofs.chunks.finish.Goals as goal
 

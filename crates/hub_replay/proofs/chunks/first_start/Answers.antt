@@ -1,5 +1,4 @@
-use Rattle.std.proofs.Common.{arith, ◌∙◌, sym}
-use Rattle.std.proofs.lemmas.Bool.{false≢true}
+use Rattle.hub_replay.proofs.Common.{arith, ◌∙◌, sym, false≢true}
 use Rattle.hub_replay.proofs.LineLemmas.{begins_after_newline}
 use Rattle.hub_replay.proofs.chunks.first_start.Goals as goal
 

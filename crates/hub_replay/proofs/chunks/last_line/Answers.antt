@@ -1,5 +1,4 @@
-use Rattle.std.proofs.Common.{◌≡◌, ◌<◌, length, [], ◌∷◌, sym, ◌∙◌}
-use Rattle.hub_replay.specs.Lines.{parsed_lines}
+use Rattle.hub_replay.proofs.Common.{◌≡◌, ◌<◌, length, [], ◌∷◌, sym, ◌∙◌, parsed_lines}
 use Rattle.hub_replay.proofs.LineLemmas.{one_line, parsed_none, nonempty}
 use Rattle.hub_replay.proofs.RunLemmas.{Advances-none, StopsWithin-here, stops-lines}
 use Rattle.hub_replay.proofs.chunks.last_line.Goals as goal

@@ -1,4 +1,4 @@
-use Rattle.std.proofs.Common.{◌++◌, take, ◌∙◌}
+use Rattle.hub_replay.proofs.Common.{◌++◌, take, ◌∙◌}
 use Rattle.hub_replay.proofs.StreamLemmas.{Appends-append, pushed}
 use Rattle.hub_replay.proofs.output.write_all.Goals as goal
 

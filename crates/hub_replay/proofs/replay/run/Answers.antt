@@ -1,11 +1,6 @@
-use Rattle.std.proofs.Common.{◌≡◌, ◌+◌, ◌≤◌, ◌++◌, [], ap, sym, ◌∙◌, refl, arith, append-nil, take, length, length-append, List, ℕ}
-use Rattle.std.proofs.lemmas.Grind.{common_steps}
-use Rattle.std.specs.List.{slice_range}
-use Rattle.hub_replay.specs.Lines.{parsed_lines}
-use Rattle.hub_replay.specs.Running.{line_total}
+use Rattle.hub_replay.proofs.Common.{◌≡◌, ◌+◌, ◌≤◌, ◌++◌, [], ap, sym, ◌∙◌, refl, arith, append-nil, take, length, length-append, List, ℕ, common_steps, slice_range, parsed_lines, line_total, length-take-le}
 use Rattle.hub_replay.proofs.StreamLemmas.{Consumes-none, Consumes-append}
 use Rattle.hub_replay.proofs.LineLemmas.{IsCut-none, IsCut-more, parsed_all, parsed_more, chunk_split, length-chunk, nothing_kept, nothing_more, rest_kept}
-use Rattle.std.proofs.lemmas.List.{length-take-le}
 use Rattle.hub_replay.proofs.RunLemmas.{Advances-none, Advances-append, StopsWithin-here, StopsWithin-after, StopsWithin-more, StopsWithin-as, stopped, ended, late}
 use Rattle.hub_replay.proofs.CountLemmas.{counts_lines, counts_calls, counts_sum}
 use Rattle.hub_replay.proofs.replay.run.Goals as goal

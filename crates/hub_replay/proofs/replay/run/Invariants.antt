@@ -1,8 +1,4 @@
-use Rattle.std.proofs.Common.{◌≡◌, ◌≤◌, ◌+◌, ◌-◌, ◌*◌, ◌^◌, ℕ, List, length, take, false}
-use Rattle.std.specs.Io.KnownBytes.{Consumes}
-use Rattle.call_lines.specs.declared.parsed.ParsedLine.{ParsedLine}
-use Rattle.hub_replay.specs.Lines.{IsCut}
-use Rattle.hub_replay.specs.Running.{Advances, line_total}
+use Rattle.hub_replay.proofs.Common.{◌≡◌, ◌≤◌, ◌+◌, ◌-◌, ◌*◌, ◌^◌, ℕ, List, length, take, false, Consumes, ParsedLine, IsCut, Advances, line_total}
 use Rattle.hub_replay.proofs.replay.run.Given as goal
 
 -- what was read is answered up to the beginning of a line that is kept

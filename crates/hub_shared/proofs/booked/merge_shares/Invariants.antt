@@ -1,5 +1,4 @@
-use Rattle.std.proofs.Common.{◌≡◌, ◌+◌, sum_by}
-use Rattle.hub_shared.specs.Seats.{SeatState}
+use Rattle.hub_shared.proofs.Common.{◌≡◌, ◌+◌, sum_by, SeatState}
 use Rattle.hub_shared.proofs.booked.merge_shares.Given as goal
 
 -- the share has what the last seat and those so far had

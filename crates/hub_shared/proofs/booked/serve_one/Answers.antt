@@ -1,10 +1,4 @@
-use Rattle.std.proofs.Common.{◌+◌, ◌∙◌, List, [], ◌∷◌, ◌++◌, length, length-append, ap, subst, arith}
-use Rattle.std.specs.Prelude.{ℕ, ◌^◌, min}
-use Rattle.taf_messages.specs.declared.reply.Reply.{Reply}
-use Rattle.hub_model.specs.declared.entry.Entry.{Entry}
-use Rattle.hub_model.specs.Histories.{answer}
-use Rattle.hub_core.specs.Faults.{IsFault}
-use Rattle.hub_shared.specs.Seats.{BookedState, SeatState}
+use Rattle.hub_shared.proofs.Common.{◌+◌, ◌∙◌, List, [], ◌∷◌, ◌++◌, length, length-append, ap, subst, arith, ℕ, ◌^◌, min, Reply, Entry, answer, IsFault, BookedState, SeatState}
 use Rattle.hub_shared.proofs.booked.serve_one.Goals as goal
 
 pub invariant_of-booked : goal.invariant_of-booked

@@ -1,4 +1,4 @@
-use Rattle.std.proofs.Common.{arith}
+use Rattle.hub_shared.proofs.Common.{arith}
 use Rattle.hub_shared.proofs.MarkLemmas.{step_at, twice_at, rises_at}
 use Rattle.hub_shared.proofs.settling.check_tally.Goals as goal
 use Rattle.hub_shared.proofs.settling.check_tally.Goals.{else-i-gt0-via-then-i-gt0+else-position-entries, else-i-gt0-via-else-i-gt0}

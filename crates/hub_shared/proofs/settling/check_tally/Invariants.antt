@@ -1,5 +1,4 @@
-use Rattle.std.proofs.Common.{take}
-use Rattle.hub_shared.specs.Marks.{MarksTally}
+use Rattle.hub_shared.proofs.Common.{take, MarksTally}
 use Rattle.hub_shared.proofs.settling.check_tally.Given as goal
 
 -- the entries so far were checked, and their positions marked

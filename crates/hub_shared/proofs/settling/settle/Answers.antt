@@ -1,12 +1,4 @@
-use Rattle.std.proofs.Common.{◌≡◌, List, length, arith, rules, get_or, ◌∙◌, sym, ap, refl, subst, sum_by}
-use Rattle.std.specs.Prelude.{slice_get, Some}
-use Rattle.std.proofs.lemmas.List.{take_all}
-use Rattle.std.proofs.lemmas.List.Sums.{sum_by_more}
-use Rattle.std.proofs.lemmas.Option.{slice_get_read}
-use Rattle.std.proofs.lemmas.Result.{err_from_is_err_and}
-use Rattle.tallies.specs.declared.tally.Told.{Told}
-use Rattle.tallies.specs.Tallies.{TallyState}
-use Rattle.hub_shared.specs.Marks.{MarksTally, IsTallyFault, MarksTallies}
+use Rattle.hub_shared.proofs.Common.{◌≡◌, List, length, arith, rules, get_or, ◌∙◌, sym, ap, refl, subst, sum_by, slice_get, Some, take_all, sum_by_more, slice_get_read, err_from_is_err_and, Told, TallyState, MarksTally, IsTallyFault, MarksTallies}
 use Rattle.hub_shared.proofs.MarkLemmas.{more_tallies, lift, done, refutes}
 use Rattle.hub_shared.proofs.settling.settle.Goals as goal
 

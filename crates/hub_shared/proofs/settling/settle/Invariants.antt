@@ -1,6 +1,4 @@
-use Rattle.std.proofs.Common.{◌≡◌, length, take, sum_by}
-use Rattle.tallies.specs.Tallies.{TallyState}
-use Rattle.hub_shared.specs.Marks.{MarksTallies}
+use Rattle.hub_shared.proofs.Common.{◌≡◌, length, take, sum_by, TallyState, MarksTallies}
 use Rattle.hub_shared.proofs.settling.settle.Given as goal
 
 -- the tallies so far were checked, and counted

@@ -1,5 +1,4 @@
-use Rattle.std.proofs.Common.{Some, sym, ap, ◌∙◌}
-use Rattle.std.proofs.lemmas.Option.{slice_get_within}
+use Rattle.hub_shared.proofs.Common.{Some, sym, ap, ◌∙◌, slice_get_within}
 use Rattle.hub_shared.proofs.settling.stands_in.Goals as goal
 
 pub returns-in-Some-clause-exactly : goal.returns-in-Some-clause-exactly

@@ -1,4 +1,4 @@
-use Rattle.hub_shared.proofs.OrderLemmas.{told_in_order}
+use Rattle.hub_shifts.proofs.Common.{told_in_order}
 use Rattle.hub_shifts.proofs.TellingLemmas.{tells_own}
 use Rattle.hub_shifts.proofs.law.shift_in_order.Goals as goal
 

@@ -1,24 +1,5 @@
-use Rattle.std.proofs.Common.{rules, arith, ap, sym, refl, subst, ◌∙◌, ◌≡◌, ℕ, ◌+◌, ◌%◌, ◌<◌, List, [], ◌∷◌, ◌++◌, length, take, drop, map, get_or, sum_by, Option}
-use Rattle.std.specs.Prelude.{zip}
-use Rattle.std.specs.List.{All}
-use Rattle.std.proofs.lemmas.List.{length-map}
-use Rattle.std.proofs.lemmas.Slice.Zip.{get_or-zip, firsts-zip, seconds-zip}
-use Rattle.std.proofs.lemmas.List.Elements.{All-map}
-use Rattle.std.proofs.lemmas.List.Sums.{sum_by-append, sum_by-cons}
+use Rattle.hub_shifts.proofs.Common.{rules, arith, ap, sym, refl, subst, ◌∙◌, ◌≡◌, ℕ, ◌+◌, ◌%◌, ◌<◌, List, [], ◌∷◌, ◌++◌, length, take, drop, map, get_or, sum_by, Option, zip, All, length-map, get_or-zip, firsts-zip, seconds-zip, All-map, sum_by-append, sum_by-cons, Job, ALL_PARTS, PassState, new_pass, IsKeptBy, SessionStart, Served, LaneState, new_lane, thread_pass, EachAt, EachLane, EachPair, of_lane, HandsOut, TakesBack, no_inbox, Streams, streams_of, IsServed, of_lane-alike, SeatState, Worker, IsWorked, SessionState, WorkerState, IsOfSession, MakesCalls, put_lists, LaneIsKept, whole_slice}
 use mathlib.Core.List.{map-map}
-use Rattle.inbox.specs.declared.rule.Job.{Job}
-use Rattle.inbox.specs.Rules.{ALL_PARTS}
-use Rattle.inbox.specs.States.{PassState, new_pass, IsKeptBy}
-use Rattle.session_lanes.specs.declared.ends.SessionStart.{SessionStart}
-use Rattle.session_lanes.specs.declared.ends.Served.{Served}
-use Rattle.session_lanes.specs.Lanes.{LaneState, new_lane, thread_pass, EachAt, EachLane, EachPair, of_lane, HandsOut, TakesBack, no_inbox}
-use Rattle.session_lanes.specs.Ends.{Streams, streams_of, IsServed}
-use Rattle.session_lanes.proofs.FallLemmas.{of_lane-alike}
-use Rattle.hub_shared.specs.Seats.{SeatState}
-use Rattle.hub_workers.specs.declared.worker.Worker.{Worker}
-use Rattle.hub_workers.specs.Work.{IsWorked}
-use Rattle.hub_shifts.specs.Shifts.{SessionState, WorkerState, IsOfSession, MakesCalls, put_lists, LaneIsKept}
-use Rattle.hub_workers.proofs.PlaceLemmas.{whole_slice}
 use Rattle.hub_shifts.proofs.KeptLemmas.{EachAt-map, read_map, ones, some_item, Came, all_came, came_own, came_parts, came_kept}
 use Rattle.hub_shifts.proofs.shift.end_shift.Goals as goal
 

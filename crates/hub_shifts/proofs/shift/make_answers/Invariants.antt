@@ -1,4 +1,4 @@
-use Rattle.std.proofs.Common.{◌≡◌, vec_len}
+use Rattle.hub_shifts.proofs.Common.{◌≡◌, vec_len}
 use Rattle.hub_shifts.proofs.shift.make_answers.Given as goal
 
 abbrev pub invariant-loop-made : goal.invariant-loop-made

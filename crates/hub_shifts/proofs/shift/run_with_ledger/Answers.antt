@@ -1,14 +1,5 @@
-use Rattle.std.proofs.Common.{rules, arith, ap, sym, subst, ◌∙◌, ◌≡◌, ◌+◌, ◌%◌, List, length, map, get_or}
+use Rattle.hub_shifts.proofs.Common.{rules, arith, ap, sym, subst, ◌∙◌, ◌≡◌, ◌+◌, ◌%◌, List, length, map, get_or, PassState, new_pass, SessionStart, LaneState, EachAt, EachPair, new_lane, of_lane, HandsOut, Streams, streams_of, IsServed, of_lane-alike, Worker, IsWorked, CanBegin, IsShift}
 use mathlib.Core.List.{map-map}
-use Rattle.inbox.specs.States.{PassState, new_pass}
-use Rattle.session_lanes.specs.declared.ends.SessionStart.{SessionStart}
-use Rattle.session_lanes.specs.Lanes.{LaneState, EachAt, EachPair, new_lane, of_lane, HandsOut}
-use Rattle.session_lanes.specs.Ends.{Streams, streams_of, IsServed}
-use Rattle.session_lanes.proofs.FallLemmas.{of_lane-alike}
-use Rattle.hub_workers.specs.declared.worker.Worker.{Worker}
-use Rattle.hub_workers.specs.Work.{IsWorked}
-use Rattle.hub_shifts.specs.Starts.{CanBegin}
-use Rattle.hub_shifts.specs.Shifts.{IsShift}
 use Rattle.hub_shifts.proofs.ThreadLemmas.{each_given}
 use Rattle.hub_shifts.proofs.shift.run_with_ledger.Goals as goal
 

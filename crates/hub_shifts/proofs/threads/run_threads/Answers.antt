@@ -1,4 +1,4 @@
-use Rattle.std.proofs.Common.{rules}
+use Rattle.hub_shifts.proofs.Common.{rules}
 use Rattle.hub_shifts.proofs.threads.run_threads.Goals as goal
 
 pub scoped-requires : goal.scoped-requires

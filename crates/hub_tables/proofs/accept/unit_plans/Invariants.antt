@@ -1,4 +1,4 @@
-use Rattle.std.proofs.Common.{◌≡◌, map, take}
+use Rattle.hub_tables.proofs.Common.{◌≡◌, map, take}
 use Rattle.hub_tables.proofs.accept.unit_plans.Given as goal
 
 abbrev pub invariant-loop-loaded : goal.invariant-loop-loaded

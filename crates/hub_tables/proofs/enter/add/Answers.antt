@@ -1,9 +1,4 @@
-use Rattle.std.proofs.Common.{◌≡◌, ◌∙◌, ℕ, Some, nat_eq, sym, ap, subst, rules}
-use Rattle.std.specs.Prelude.{if◌then◌else◌}
-use Rattle.std.specs.Map.{lookup}
-use Rattle.std.specs.Option.{option_copied_mut}
-use Rattle.journey.specs.Journey.{Journey}
-use Rattle.hub_tables.specs.TableStates.{AreJourneyEntries}
+use Rattle.hub_tables.proofs.Common.{◌≡◌, ◌∙◌, ℕ, Some, nat_eq, sym, ap, subst, rules, if◌then◌else◌, lookup, option_copied_mut, Journey, AreJourneyEntries}
 use Rattle.hub_tables.proofs.EntryLemmas.{next_there, entries_put, kept_entries}
 use Rattle.hub_tables.proofs.enter.add.Goals as goal
 

@@ -1,7 +1,4 @@
-use Rattle.std.proofs.Common.{◌≡◌, [], List, length, sym, ap, ◌∙◌, arith}
-use Rattle.std.specs.Map.{update_all}
-use Rattle.std.specs.Vec.Iter.{into_iter_items}
-use Rattle.indexmap.specs.IndexMap.{get, insert_all}
+use Rattle.hub_tables.proofs.Common.{◌≡◌, [], List, length, sym, ap, ◌∙◌, arith, update_all, into_iter_items, get, insert_all}
 use Rattle.hub_tables.proofs.EntryLemmas.{nothing_left, entered_more, values_more}
 use Rattle.hub_tables.proofs.enter.enter.Goals as goal
 

@@ -1,7 +1,4 @@
-use Rattle.std.proofs.Common.{◌≡◌, ◌≤◌, length}
-use Rattle.std.specs.Map.{update_all}
-use Rattle.std.specs.Vec.Iter.{into_iter_items, into_iter_len}
-use Rattle.indexmap.specs.IndexMap.{get, insert_all, spare}
+use Rattle.hub_tables.proofs.Common.{◌≡◌, ◌≤◌, length, update_all, into_iter_items, into_iter_len, get, insert_all, spare}
 use Rattle.hub_tables.proofs.enter.enter.Given as goal
 
 abbrev pub invariant-loop-key : goal.invariant-loop-key

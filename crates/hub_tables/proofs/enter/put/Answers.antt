@@ -1,5 +1,4 @@
-use Rattle.std.proofs.Common.{◌∙◌, sym, ap, rules}
-use Rattle.std.specs.Option.{option_copied_mut}
+use Rattle.hub_tables.proofs.Common.{◌∙◌, sym, ap, rules, option_copied_mut}
 use Rattle.hub_tables.proofs.EntryLemmas.{admitted_there, put_written, entries_put}
 use Rattle.hub_tables.proofs.enter.put.Goals as goal
 

@@ -1,9 +1,4 @@
-use Rattle.std.proofs.Common.{◌≡◌, ℕ, ◌∷◌, [], List, length, sym, ap, subst, ◌∙◌, arith}
-use Rattle.std.specs.Prelude.{fold}
-use Rattle.std.specs.Vec.Iter.{into_iter_items}
-use Rattle.journey.specs.declared.event.Event.{Event}
-use Rattle.hub_tables.specs.TableStates.{events_in}
-use Rattle.hub_tables.specs.Acceptance.{AreAdmitted, with_event_on}
+use Rattle.hub_tables.proofs.Common.{◌≡◌, ℕ, ◌∷◌, [], List, length, sym, ap, subst, ◌∙◌, arith, fold, into_iter_items, Event, events_in, AreAdmitted, with_event_on}
 use Rattle.hub_tables.proofs.EntryLemmas.{nothing_left}
 use Rattle.hub_tables.proofs.enter.put_all.Goals as goal
 

@@ -1,9 +1,4 @@
-use Rattle.std.proofs.Common.{◌≡◌, ℕ, length}
-use Rattle.std.specs.Prelude.{fold}
-use Rattle.std.specs.Map.{keys_of}
-use Rattle.std.specs.Vec.Iter.{into_iter_items, into_iter_len}
-use Rattle.hub_tables.specs.TableStates.{AreJourneyEntries, events_in}
-use Rattle.hub_tables.specs.Acceptance.{AreAdmitted, with_event_on}
+use Rattle.hub_tables.proofs.Common.{◌≡◌, ℕ, length, fold, keys_of, into_iter_items, into_iter_len, AreJourneyEntries, events_in, AreAdmitted, with_event_on}
 use Rattle.hub_tables.proofs.enter.put_all.Given as goal
 
 abbrev pub invariant-loop-wagon : goal.invariant-loop-wagon

@@ -1,5 +1,4 @@
-use Rattle.std.proofs.Common.{ℕ, List, ap, ◌∙◌}
-use Rattle.trip_plan.specs.Rules.{has}
+use Rattle.hub_tables.proofs.Common.{ℕ, List, ap, ◌∙◌, has}
 use Rattle.hub_tables.proofs.wagon_events.receives.Goals as goal
 
 pub returns : goal.returns

@@ -1,5 +1,4 @@
-use Rattle.std.proofs.Common.{◌≡◌, ◌≤◌, ◌*◌, ◌^◌, sum_by, take}
-use Rattle.hub_shared.specs.Seats.{SeatState}
+use Rattle.hub_workers.proofs.Common.{◌≡◌, ◌≤◌, ◌*◌, ◌^◌, sum_by, take, SeatState}
 use Rattle.hub_workers.proofs.closing.add_refused.Given as goal
 
 abbrev pub invariant-loop-seat : goal.invariant-loop-seat

@@ -1,13 +1,6 @@
-use Rattle.std.proofs.Common.{rules, arith, ap, sym, subst, ◌∙◌, ◌≡◌, ℕ, ◌<◌, ◌≤◌, List, [], ◌∷◌, ◌++◌, length, length-append, map, get_or, set}
-use Rattle.std.proofs.lemmas.List.{get_or_read, get_or_append_left, get_or_push, get_or-set_same, get_or-set_other, length_push, map-id, map-append}
-use Rattle.std.proofs.lemmas.Iterator.Consumers.{YieldsList-turn, YieldsList-end}
-use Rattle.std.proofs.lemmas.Iterator.Adapters.{YieldsList-from_vec}
+use Rattle.hub_workers.proofs.Common.{rules, arith, ap, sym, subst, ◌∙◌, ◌≡◌, ℕ, ◌<◌, ◌≤◌, List, [], ◌∷◌, ◌++◌, length, length-append, map, get_or, set, get_or_read, get_or_append_left, get_or_push, get_or-set_same, get_or-set_other, length_push, map-id, map-append, YieldsList-turn, YieldsList-end, YieldsList-from_vec, PassState, LaneState, TakesBack, SeatState, Worker}
 use mathlib.Core.Logic.{dite}
 use native.Mathlib.Decide.{ℕ_discrete}
-use Rattle.inbox.specs.States.{PassState}
-use Rattle.session_lanes.specs.Lanes.{LaneState, TakesBack}
-use Rattle.hub_shared.specs.Seats.{SeatState}
-use Rattle.hub_workers.specs.declared.worker.Worker.{Worker}
 use Rattle.hub_workers.proofs.closing.take_workers.Goals as goal
 
 -- one worker more gave its pass back

@@ -1,9 +1,4 @@
-use Rattle.std.proofs.Common.{arith, ap, sym, subst, ◌∙◌, ◌≡◌, ◌+◌, ◌%◌, ◌<◌, List, length, get_or}
-use Rattle.inbox.specs.States.{new_pass}
-use Rattle.session_lanes.specs.declared.ends.SessionStart.{SessionStart}
-use Rattle.session_lanes.specs.Lanes.{LaneState, new_lane, IsPassOf, EachAt, of_lane, HandsOut}
-use Rattle.hub_shared.specs.Seats.{new_seat}
-use Rattle.hub_workers.specs.declared.worker.Worker.{Worker}
+use Rattle.hub_workers.proofs.Common.{arith, ap, sym, subst, ◌∙◌, ◌≡◌, ◌+◌, ◌%◌, ◌<◌, List, length, get_or, new_pass, SessionStart, LaneState, new_lane, IsPassOf, EachAt, of_lane, HandsOut, new_seat, Worker}
 use Rattle.hub_workers.proofs.PlaceLemmas.{lent_twice, handed_out, first_id, last_id}
 use Rattle.hub_workers.proofs.places.make_places.Goals as goal
 

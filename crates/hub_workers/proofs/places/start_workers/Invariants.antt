@@ -1,6 +1,4 @@
-use Rattle.std.proofs.Common.{◌≡◌, ◌+◌, ◌<◌, ◌≤◌, vec_len, slice_index_or}
-use Rattle.session_lanes.specs.Lanes.{IsPassOf, EachAt, HandsOut}
-use Rattle.hub_shared.specs.Seats.{new_seat}
+use Rattle.hub_workers.proofs.Common.{◌≡◌, ◌+◌, ◌<◌, ◌≤◌, vec_len, slice_index_or, IsPassOf, EachAt, HandsOut, new_seat}
 use Rattle.hub_workers.proofs.places.start_workers.Given as goal
 
 -- the workers so far have their passes and seats

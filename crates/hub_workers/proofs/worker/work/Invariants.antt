@@ -1,4 +1,4 @@
-use Rattle.std.proofs.Common.{◌≡◌, ◌+◌, ◌^◌, ◌<◌, length}
+use Rattle.hub_workers.proofs.Common.{◌≡◌, ◌+◌, ◌^◌, ◌<◌, length}
 use Rattle.hub_workers.proofs.worker.work.Given as goal
 
 -- the pass put nothing, and took a job for each call or fault of the seat

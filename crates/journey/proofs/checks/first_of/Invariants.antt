@@ -1,4 +1,4 @@
-use Rattle.std.proofs.Common.{◌≡◌, drop}
+use Rattle.journey.proofs.Common.{◌≡◌, drop}
 use Rattle.taf_codes.specs.Words as words
 use Rattle.journey.proofs.checks.first_of.Given as goal
 

@@ -1,4 +1,4 @@
-use Rattle.std.proofs.Common.{[], ◌∷◌, ◌++◌, length, ap, sym, ◌∙◌, append_assoc, arith}
+use Rattle.journey.proofs.Common.{[], ◌∷◌, ◌++◌, length, ap, sym, ◌∙◌, append_assoc, arith}
 use Rattle.journey.proofs.events.gather.Goals as goal
 
 pub loop-event-preserved : goal.loop-event-preserved

@@ -1,4 +1,4 @@
-use Rattle.std.proofs.Common.{◌≡◌, ◌+◌, ◌++◌, take}
+use Rattle.journey.proofs.Common.{◌≡◌, ◌+◌, ◌++◌, take}
 use Rattle.journey.proofs.legs.put_behind.Given as goal
 
 abbrev pub invariant-loop-i : goal.invariant-loop-i

@@ -1,6 +1,4 @@
-use Rattle.std.proofs.Common.{◌-◌, rules, length}
-use Rattle.std.proofs.lemmas.List.{take_rest}
-use Rattle.json.proofs.Printed.Places.{Placed-ends}
+use Rattle.json_tokens.proofs.Common.{◌-◌, rules, length, take_rest, Placed-ends}
 use Rattle.json_tokens.proofs.buffer.place_words.Goals as goal
 
 pub returns : goal.returns

@@ -1,5 +1,4 @@
-use Rattle.std.proofs.Common.{◌≡◌, ap, sym, ◌∙◌, length, take, take_all, arith}
-use Rattle.json_tokens.specs.Flat.{last_under}
+use Rattle.json_tokens.proofs.Common.{◌≡◌, ap, sym, ◌∙◌, length, take, take_all, arith, last_under}
 use Rattle.json_tokens.proofs.FlatLemmas.{last_here, last_before}
 use Rattle.json_tokens.proofs.flat.last_of.Goals as goal
 

@@ -1,5 +1,4 @@
-use Rattle.std.proofs.Common.{◌≡◌, take}
-use Rattle.json_tokens.specs.Flat.{last_under}
+use Rattle.json_tokens.proofs.Common.{◌≡◌, take, last_under}
 use Rattle.json_tokens.proofs.flat.last_of.Given as goal
 
 -- the last one is among those that are left

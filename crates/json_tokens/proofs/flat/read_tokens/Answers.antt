@@ -1,6 +1,4 @@
-use Rattle.std.proofs.Common.{sym, ap, ◌∷◌, ◌∙◌}
-use Rattle.json.specs.Reads.{token_of}
-use Rattle.json.specs.Token.{begin_object}
+use Rattle.json_tokens.proofs.Common.{sym, ap, ◌∷◌, ◌∙◌, token_of, begin_object}
 use Rattle.json_tokens.proofs.FlatLemmas.{flat_read}
 use Rattle.json_tokens.proofs.flat.read_tokens.Goals as goal
 

@@ -1,4 +1,4 @@
-use Rattle.std.proofs.Common.{ℕ, List, Option, Some, option_map, Bor, ap, ◌∙◌}
+use Rattle.json_tokens.proofs.Common.{ℕ, List, Option, Some, option_map, Bor, ap, ◌∙◌}
 use Rattle.json_tokens.proofs.FlatLemmas.{member_taken}
 use Rattle.json_tokens.proofs.flat.take_members.Goals as goal
 

@@ -1,5 +1,4 @@
-use Rattle.std.proofs.Common.{◌≡◌, ◌++◌}
-use Rattle.json_tokens.specs.Flat.{AreSpelt, member_tokens}
+use Rattle.json_tokens.proofs.Common.{◌≡◌, ◌++◌, AreSpelt, member_tokens}
 use Rattle.json_tokens.proofs.flat.take_members.Given as goal
 
 -- the members so far come before what is to come

@@ -1,6 +1,4 @@
-use Rattle.std.proofs.Common.{◌∙◌, ap, sym, option_and_then}
-use Rattle.serde_json.specs.Find.{as_u64}
-use Rattle.serde_json.specs.Read.{number_of}
+use Rattle.json_tokens.proofs.Common.{◌∙◌, ap, sym, option_and_then, as_u64, number_of}
 use Rattle.json_tokens.proofs.WholeLemmas.{whole_found, whole_exact, not_negative}
 use Rattle.json_tokens.proofs.flat.whole.Goals as goal
 

@@ -1,5 +1,4 @@
-use Rattle.std.proofs.Common.{◌+◌, ◌<◌, length, decimal, ap, ◌∙◌, arith}
-use Rattle.std.proofs.lemmas.Grind.{common_steps}
+use Rattle.json_tokens.proofs.Common.{◌+◌, ◌<◌, length, decimal, ap, ◌∙◌, arith, common_steps}
 use Rattle.json_tokens.proofs.ScanLemmas.{digit_first, digit_next}
 use Rattle.json_tokens.proofs.scan.decimal_first.Goals as goal
 

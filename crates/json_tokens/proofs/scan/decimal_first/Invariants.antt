@@ -1,4 +1,4 @@
-use Rattle.std.proofs.Common.{◌≡◌, ◌<◌, take, decimal}
+use Rattle.json_tokens.proofs.Common.{◌≡◌, ◌<◌, take, decimal}
 use Rattle.json_tokens.proofs.scan.decimal_first.Given as goal
 
 -- the digits so far are the decimal of the number so far

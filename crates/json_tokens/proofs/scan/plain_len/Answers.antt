@@ -1,4 +1,4 @@
-use Rattle.std.proofs.Common.{arith}
+use Rattle.json_tokens.proofs.Common.{arith}
 use Rattle.json_tokens.proofs.ScanLemmas.{plain_through, plain_to_stop}
 use Rattle.json_tokens.proofs.scan.plain_len.Goals as goal
 

@@ -1,5 +1,4 @@
-use Rattle.std.proofs.Common.{◌-◌, ◌≤◌, length}
-use Rattle.json_tokens.specs.FlatText.{PlainUpTo}
+use Rattle.json_tokens.proofs.Common.{◌-◌, ◌≤◌, length, PlainUpTo}
 use Rattle.json_tokens.proofs.scan.plain_len.Given as goal
 
 abbrev pub invariant-loop-start : goal.invariant-loop-start

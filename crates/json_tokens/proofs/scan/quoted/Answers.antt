@@ -1,6 +1,4 @@
-use Rattle.std.proofs.Common.{◌≡◌, get_or, sym, ap, subst, take, ◌-◌, ◌∙◌, IsUtf8, arith}
-use Rattle.std.proofs.lemmas.Str.{IsCharBoundary-after_ascii}
-use Rattle.json_tokens.specs.FlatText.{PlainUpTo}
+use Rattle.json_tokens.proofs.Common.{◌≡◌, get_or, sym, ap, subst, take, ◌-◌, ◌∙◌, IsUtf8, arith, IsCharBoundary-after_ascii, PlainUpTo}
 use Rattle.json_tokens.proofs.ScanLemmas.{quoted_first}
 use Rattle.json_tokens.proofs.scan.quoted.Goals as goal
 

@@ -1,4 +1,4 @@
-use Rattle.std.proofs.Common.{rules}
+use Rattle.json_tokens.proofs.Common.{rules}
 use Rattle.json_tokens.proofs.ScanLemmas.{decimal_members, scanned_more, scanned_all}
 use Rattle.json_tokens.proofs.scan.scan_members.Goals as goal
 

@@ -1,7 +1,6 @@
-use Rattle.std.proofs.Common.{◌≡◌, ◌∷◌, ◌++◌}
+use Rattle.json_tokens.proofs.Common.{◌≡◌, ◌∷◌, ◌++◌, AreDecimal, members_text}
 use denote.Shadow.{shadow}
 use denote.Text.{Utf8}
-use Rattle.json_tokens.specs.FlatText.{AreDecimal, members_text}
 use Rattle.json_tokens.proofs.scan.scan_members.Given as goal
 
 -- the members so far, each with its comma, come before the rest

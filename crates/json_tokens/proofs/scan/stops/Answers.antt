@@ -1,5 +1,4 @@
-use Rattle.std.proofs.Common.{arith}
-use Rattle.std.proofs.lemmas.Simd.{zip2_of_maps, zip2_splat}
+use Rattle.json_tokens.proofs.Common.{arith, zip2_of_maps, zip2_splat}
 use lib.Bits.{bit_or}
 use Rattle.json_tokens.proofs.ScanLemmas.{hit, below, stop_bits}
 use Rattle.json_tokens.proofs.scan.stops.Goals as goal

@@ -1,6 +1,4 @@
-use Rattle.std.proofs.Common.{map, drop}
-use Rattle.json.specs.Tape.{node_token}
-use Rattle.json_tokens.specs.Tapes.{IsSimpleAt}
+use Rattle.json_tokens.proofs.Common.{map, drop, node_token, IsSimpleAt}
 use Rattle.json_tokens.proofs.tape.is_simple.Given as goal
 
 -- all are simple if those to come are, at this depth

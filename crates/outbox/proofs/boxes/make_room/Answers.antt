@@ -1,6 +1,4 @@
-use Rattle.std.proofs.Common.{rules, ◌≡◌, ◌≤◌, cond, true, bytes_eq, Some, ◌∙◌}
-use Rattle.std.specs.Map.{lookup}
-use Rattle.outbox.specs.OutboxStates.{outbox_state_of, has_box, room_for}
+use Rattle.outbox.proofs.Common.{rules, ◌≡◌, ◌≤◌, cond, true, bytes_eq, Some, ◌∙◌, lookup, outbox_state_of, has_box, room_for}
 use Rattle.outbox.proofs.KeyLemmas.{IsPutIn, kept_stays, boxes_stay, no_box_made, on_err, room_stays}
 use Rattle.outbox.proofs.boxes.make_room.Goals as goal
 

@@ -1,5 +1,4 @@
-use Rattle.std.proofs.Common.{ap, ◌∙◌, drop}
-use Rattle.std.proofs.lemmas.List.{drop-drop}
+use Rattle.outbox.proofs.Common.{ap, ◌∙◌, drop, drop-drop}
 use Rattle.outbox.proofs.outbox.drop_front.Goals as goal
 
 pub loop-i-preserved : goal.loop-i-preserved

@@ -1,4 +1,4 @@
-use Rattle.std.proofs.Common.{◌≡◌, drop}
+use Rattle.outbox.proofs.Common.{◌≡◌, drop}
 use Rattle.outbox.proofs.outbox.drop_front.Given as goal
 
 abbrev pub invariant-loop-i : goal.invariant-loop-i

@@ -1,8 +1,4 @@
-use Rattle.std.proofs.Common.{◌≡◌, ◌+◌, [], ◌∷◌, ◌++◌, length, ap, ◌∙◌, arith}
-use Rattle.std.proofs.lemmas.List.{length_push}
-use Rattle.std.specs.VecDeque.Iter.{deque_iter_rest}
-use Rattle.taf_messages.specs.declared.item.Item.{Item}
-use Rattle.taf_messages.specs.declared.item.ItemBody.{ItemBody}
+use Rattle.outbox.proofs.Common.{◌≡◌, ◌+◌, [], ◌∷◌, ◌++◌, length, ap, ◌∙◌, arith, length_push, deque_iter_rest, Item, ItemBody}
 use Rattle.outbox.proofs.NumberLemmas.{numbered_more, first_numbered}
 use Rattle.outbox.proofs.outbox.numbered_items.Goals as goal
 

@@ -1,6 +1,4 @@
-use Rattle.std.proofs.Common.{◌≡◌, ◌+◌, ◌++◌, length}
-use Rattle.std.specs.VecDeque.Iter.{deque_iter_rest}
-use Rattle.outbox.specs.OutboxStates.{items_from_number}
+use Rattle.outbox.proofs.Common.{◌≡◌, ◌+◌, ◌++◌, length, deque_iter_rest, items_from_number}
 use Rattle.outbox.proofs.outbox.numbered_items.Given as goal
 
 abbrev pub invariant-loop-i : goal.invariant-loop-i

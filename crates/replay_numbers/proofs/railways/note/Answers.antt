@@ -1,6 +1,4 @@
-use Rattle.std.proofs.Common.{rules, ◌≡◌, ℕ, cond, Some}
-use Rattle.std.specs.Prelude.{◌==◌}
-use Rattle.replay_numbers.specs.SentPositions.{position_in, position_of}
+use Rattle.replay_numbers.proofs.Common.{rules, ◌≡◌, ℕ, cond, Some, ◌==◌, position_in, position_of}
 use Rattle.replay_numbers.proofs.SentLemmas.{IsPutIn, position_put}
 use Rattle.replay_numbers.proofs.railways.note.Goals as goal
 

@@ -1,6 +1,4 @@
-use Rattle.std.proofs.Common.{rules, ◌≡◌, ℕ, cond, true, bytes_eq, Some, ◌∙◌}
-use Rattle.std.specs.Map.{lookup}
-use Rattle.replay_numbers.specs.SentPositions.{position_in, has_room_in, position_of, has_room}
+use Rattle.replay_numbers.proofs.Common.{rules, ◌≡◌, ℕ, cond, true, bytes_eq, Some, ◌∙◌, lookup, position_in, has_room_in, position_of, has_room}
 use Rattle.replay_numbers.proofs.SentLemmas.{IsPutIn, positions_stay, rooms_stay}
 use Rattle.replay_numbers.proofs.railways.reserve.Goals as goal
 

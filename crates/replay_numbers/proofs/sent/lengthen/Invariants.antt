@@ -1,6 +1,4 @@
-use Rattle.std.proofs.Common.{◌≡◌, ℕ, ◌+◌, ◌-◌, ◌≤◌, length}
-use Rattle.std.specs.List.{slice_get}
-use Rattle.std.specs.Option.{option_flatten}
+use Rattle.replay_numbers.proofs.Common.{◌≡◌, ℕ, ◌+◌, ◌-◌, ◌≤◌, length, slice_get, option_flatten}
 use Rattle.replay_numbers.proofs.sent.lengthen.Given as goal
 
 -- the row has the positions that it had

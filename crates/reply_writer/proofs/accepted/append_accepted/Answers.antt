@@ -1,4 +1,4 @@
-use Rattle.std.proofs.Common.{ap, sym, arith, ◌∙◌, ◌++◌, List, ℕ, codes, decimal}
+use Rattle.reply_writer.proofs.Common.{ap, sym, arith, ◌∙◌, ◌++◌, List, ℕ, codes, decimal}
 use Rattle.reply_writer.proofs.AcceptedLemmas.{accepted_text, accepted_read, three_parts}
 use Rattle.reply_writer.proofs.accepted.append_accepted.Goals as goal
 

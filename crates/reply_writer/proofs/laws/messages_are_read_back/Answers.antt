@@ -1,15 +1,6 @@
-use Rattle.std.proofs.Common.{ap, ◌∙◌}
-use Rattle.serde_json.specs.Read.{read}
-use Rattle.serde_json.specs.Written.{compact_text}
-use Rattle.taf_messages.specs.Kept.{IsMessage}
-use Rattle.reply_writer.specs.Laws.{IsReadAs}
-use Rattle.call_reader.specs.Reading.{call_read}
-use Rattle.reply_writer.specs.Shapes.{message_data}
+use Rattle.reply_writer.proofs.Common.{ap, ◌∙◌, read, compact_text, IsMessage, IsReadAs, call_read, message_data, Message, read-compact_text, read_kept}
 use Rattle.taf_messages.specs.declared.call.Call.TheVariants as calls
-use Rattle.taf_messages.specs.declared.message.Message.{Message}
 use Rattle.reply_writer.proofs.MessageLemmas.{message_read}
-use Rattle.json_tokens.proofs.ReadLemmas.{read-compact_text}
-use Rattle.call_reader.proofs.SentLemmas.{read_kept}
 use Rattle.reply_writer.proofs.ShapeLemmas.{message_ordered}
 use Rattle.reply_writer.proofs.SpeltLemmas.{message_spelt}
 use Rattle.reply_writer.proofs.Utf8Lemmas.{small-HasTexts, utf8-compact_text}

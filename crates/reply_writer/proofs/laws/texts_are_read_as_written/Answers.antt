@@ -1,7 +1,5 @@
 use Rattle.reply_writer.proofs.ShapeLemmas.{reply_ordered, item_ordered, record_ordered, fault_ordered}
-use Rattle.json_tokens.proofs.ReadLemmas.{read-compact_text}
-use Rattle.reply_writer.specs.ReplyShapes.{reply_data, item_data, fault_data}
-use Rattle.reply_writer.specs.RecordShapes.{record_data}
+use Rattle.reply_writer.proofs.Common.{read-compact_text, reply_data, item_data, fault_data, record_data}
 use Rattle.reply_writer.proofs.laws.texts_are_read_as_written.Goals as goal
 
 pub returns : goal.returns

@@ -1,4 +1,4 @@
-use Rattle.std.proofs.Common.{refl}
+use Rattle.reply_writer.proofs.Common.{refl}
 use Rattle.reply_writer.proofs.put.put_field_if.Goals as goal
 
 pub returns-in-Some-clause-ok : goal.returns-in-Some-clause-ok

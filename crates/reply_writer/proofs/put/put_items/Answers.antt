@@ -1,6 +1,4 @@
-use Rattle.std.proofs.Common.{take, ◌∙◌}
-use Rattle.std.specs.Prelude.{map}
-use Rattle.json_tokens.proofs.TextLemmas.{adds_item, taken}
+use Rattle.reply_writer.proofs.Common.{take, ◌∙◌, map, adds_item, taken}
 use Rattle.reply_writer.proofs.put.put_items.Goals as goal
 
 pub loop-item-preserved : goal.loop-item-preserved

@@ -1,6 +1,4 @@
-use Rattle.std.proofs.Common.{◌≡◌, take}
-use Rattle.std.specs.Prelude.{map}
-use Rattle.json_tokens.specs.Texts.{Adds, item_tokens}
+use Rattle.reply_writer.proofs.Common.{◌≡◌, take, map, Adds, item_tokens}
 use Rattle.reply_writer.proofs.put.put_items.Given as goal
 
 abbrev pub invariant-loop-item : goal.invariant-loop-item

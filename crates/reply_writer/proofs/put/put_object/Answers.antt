@@ -1,5 +1,4 @@
-use Rattle.std.proofs.lemmas.Result.{on_ok_weaker}
-use Rattle.json_tokens.proofs.TextLemmas.{adds_object}
+use Rattle.reply_writer.proofs.Common.{on_ok_weaker, adds_object}
 use Rattle.reply_writer.proofs.put.put_object.Goals as goal
 
 pub returns-clause-ok : goal.returns-clause-ok

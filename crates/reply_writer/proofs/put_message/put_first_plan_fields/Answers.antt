@@ -1,4 +1,4 @@
-use Rattle.reply_writer.specs.Shapes.{first_plan_fields}
+use Rattle.reply_writer.proofs.Common.{first_plan_fields}
 use Rattle.reply_writer.proofs.put_message.put_first_plan_fields.Goals as goal
 
 pub returns-clause-ok : goal.returns-clause-ok

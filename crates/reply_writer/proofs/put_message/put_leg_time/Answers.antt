@@ -1,4 +1,4 @@
-use Rattle.reply_writer.specs.Shapes.{leg_time_fields}
+use Rattle.reply_writer.proofs.Common.{leg_time_fields}
 use Rattle.reply_writer.proofs.put_message.put_leg_time.Goals as goal
 
 pub returns-clause-ok : goal.returns-clause-ok

@@ -1,5 +1,4 @@
-use Rattle.reply_writer.specs.Shapes.{first_plan_fields, last_plan_fields}
-use Rattle.json_tokens.proofs.TextLemmas.{adds_more}
+use Rattle.reply_writer.proofs.Common.{first_plan_fields, last_plan_fields, adds_more}
 use Rattle.reply_writer.proofs.put_message.put_plan.Goals as goal
 
 pub returns-clause-ok : goal.returns-clause-ok

@@ -1,4 +1,4 @@
-use Rattle.reply_writer.specs.RecordShapes.{first_record_fields}
+use Rattle.reply_writer.proofs.Common.{first_record_fields}
 use Rattle.reply_writer.proofs.put_record.put_first_fields.Goals as goal
 
 pub returns-clause-ok : goal.returns-clause-ok

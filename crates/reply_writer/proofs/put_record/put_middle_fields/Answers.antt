@@ -1,4 +1,4 @@
-use Rattle.reply_writer.specs.RecordShapes.{middle_record_fields}
+use Rattle.reply_writer.proofs.Common.{middle_record_fields}
 use Rattle.reply_writer.proofs.put_record.put_middle_fields.Goals as goal
 
 pub returns-clause-ok : goal.returns-clause-ok

@@ -1,4 +1,4 @@
-use Rattle.reply_writer.specs.ReplyShapes.{eti_fields}
+use Rattle.reply_writer.proofs.Common.{eti_fields}
 use Rattle.reply_writer.proofs.put_reply.put_eti.Goals as goal
 
 pub returns-clause-ok : goal.returns-clause-ok

@@ -1,6 +1,4 @@
-use Rattle.std.proofs.lemmas.Result.{on_ok_weaker}
-use Rattle.reply_writer.specs.ReplyShapes.{fault_data}
-use Rattle.json_tokens.proofs.NumberLemmas.{read_small}
+use Rattle.reply_writer.proofs.Common.{on_ok_weaker, fault_data, read_small}
 use Rattle.reply_writer.proofs.ShapeLemmas.{fault_ordered}
 use Rattle.reply_writer.proofs.write.append_fault.Goals as goal
 

@@ -1,6 +1,4 @@
-use Rattle.std.proofs.lemmas.Result.{on_ok_weaker}
-use Rattle.reply_writer.specs.ReplyShapes.{reply_data}
-use Rattle.json_tokens.proofs.NumberLemmas.{read_small}
+use Rattle.reply_writer.proofs.Common.{on_ok_weaker, reply_data, read_small}
 use Rattle.reply_writer.proofs.ShapeLemmas.{reply_ordered}
 use Rattle.reply_writer.proofs.write.append_reply.Goals as goal
 

@@ -1,6 +1,4 @@
-use Rattle.std.proofs.Common.{◌∙◌, refl, subst}
-use Rattle.json_tokens.specs.Texts.{AreSmall}
-use Rattle.json_tokens.proofs.TextLemmas.{text_after}
+use Rattle.reply_writer.proofs.Common.{◌∙◌, refl, subst, AreSmall, text_after}
 use Rattle.reply_writer.proofs.write.text_of.Goals as goal
 
 pub returns-clause-text : goal.returns-clause-text

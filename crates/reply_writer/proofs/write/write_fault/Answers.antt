@@ -1,5 +1,4 @@
-use Rattle.reply_writer.specs.ReplyShapes.{fault_data}
-use Rattle.json_tokens.proofs.NumberLemmas.{read_result}
+use Rattle.reply_writer.proofs.Common.{fault_data, read_result}
 use Rattle.reply_writer.proofs.ShapeLemmas.{fault_ordered}
 use Rattle.reply_writer.proofs.write.write_fault.Goals as goal
 

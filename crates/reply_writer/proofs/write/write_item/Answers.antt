@@ -1,5 +1,4 @@
-use Rattle.reply_writer.specs.ReplyShapes.{item_data}
-use Rattle.json_tokens.proofs.NumberLemmas.{read_result}
+use Rattle.reply_writer.proofs.Common.{item_data, read_result}
 use Rattle.reply_writer.proofs.ShapeLemmas.{item_ordered}
 use Rattle.reply_writer.proofs.write.write_item.Goals as goal
 

@@ -1,5 +1,4 @@
-use Rattle.reply_writer.specs.RecordShapes.{record_data}
-use Rattle.json_tokens.proofs.NumberLemmas.{read_result}
+use Rattle.reply_writer.proofs.Common.{record_data, read_result}
 use Rattle.reply_writer.proofs.ShapeLemmas.{record_ordered}
 use Rattle.reply_writer.proofs.write.write_record.Goals as goal
 

@@ -1,5 +1,4 @@
-use Rattle.reply_writer.specs.ReplyShapes.{reply_data}
-use Rattle.json_tokens.proofs.NumberLemmas.{read_result}
+use Rattle.reply_writer.proofs.Common.{reply_data, read_result}
 use Rattle.reply_writer.proofs.ShapeLemmas.{reply_ordered}
 use Rattle.reply_writer.proofs.write.write_reply.Goals as goal
 

@@ -1,12 +1,4 @@
-use Rattle.std.proofs.Common.{rules, sym, subst, ◌∙◌, ◌≡◌, ℕ, ◌+◌, List, [], ◌∷◌, ◌++◌, length, sum_by}
-use Rattle.std.specs.List.{All}
-use Rattle.std.proofs.lemmas.List.{map-id}
-use Rattle.std.proofs.lemmas.Iterator.Consumers.{YieldsList-turn, YieldsList-end}
-use Rattle.std.proofs.lemmas.Iterator.Adapters.{YieldsList-from_vec}
-use Rattle.inbox.specs.declared.rule.Job.{Job}
-use Rattle.inbox.specs.Rules.{ALL_PARTS}
-use Rattle.inbox.specs.States.{PassState, IsKeptBy}
-use Rattle.session_lanes.specs.Lanes.{LaneState, EachPair}
+use Rattle.session_lanes.proofs.Common.{rules, sym, subst, ◌∙◌, ◌≡◌, ℕ, ◌+◌, List, [], ◌∷◌, ◌++◌, length, sum_by, All, map-id, YieldsList-turn, YieldsList-end, YieldsList-from_vec, Job, ALL_PARTS, PassState, IsKeptBy, LaneState, EachPair}
 use Rattle.session_lanes.proofs.FallLemmas.{EachPair-push}
 use Rattle.session_lanes.proofs.closing.close_lanes.Goals as goal
 

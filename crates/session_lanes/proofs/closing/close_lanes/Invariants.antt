@@ -1,6 +1,4 @@
-use Rattle.std.proofs.Common.{[], ◌∷◌, ◌++◌}
-use Rattle.inbox.specs.States.{IsKeptBy}
-use Rattle.session_lanes.specs.Lanes.{EachPair}
+use Rattle.session_lanes.proofs.Common.{[], ◌∷◌, ◌++◌, IsKeptBy, EachPair}
 use Rattle.session_lanes.proofs.closing.close_lanes.Given as goal
 
 -- the lanes so far are closed

@@ -1,12 +1,4 @@
-use Rattle.std.proofs.Common.{rules, arith, ap, sym, refl, subst, ◌∙◌, ◌≡◌, ◌%◌, ◌<◌, List, [], ◌∷◌, ◌++◌, length, map, get_or, set}
-use Rattle.std.proofs.lemmas.List.{get_or_read, map-id, map-append, length-map}
-use Rattle.std.proofs.lemmas.Iterator.Consumers.{YieldsList-end}
-use Rattle.std.proofs.lemmas.Iterator.Adapters.{YieldsList-from_vec}
-use Rattle.inbox.specs.States.{PassState}
-use Rattle.tallies.specs.Tallies.{TallyState}
-use Rattle.session_lanes.specs.declared.ends.Served.{Served}
-use Rattle.session_lanes.specs.declared.ends.SessionEnd.{SessionEnd}
-use Rattle.session_lanes.specs.Lanes.{LaneState, of_lane, TakesBack, EachLane}
+use Rattle.session_lanes.proofs.Common.{rules, arith, ap, sym, refl, subst, ◌∙◌, ◌≡◌, ◌%◌, ◌<◌, List, [], ◌∷◌, ◌++◌, length, map, get_or, set, get_or_read, map-id, map-append, length-map, YieldsList-end, YieldsList-from_vec, PassState, TallyState, Served, SessionEnd, LaneState, of_lane, TakesBack, EachLane}
 use Rattle.session_lanes.proofs.FallLemmas.{one_more, back_more}
 use Rattle.session_lanes.proofs.closing.take_sessions.Goals as goal
 

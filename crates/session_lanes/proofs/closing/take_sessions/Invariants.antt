@@ -1,5 +1,4 @@
-use Rattle.std.proofs.Common.{◌≡◌, length, map}
-use Rattle.session_lanes.specs.Lanes.{of_lane, TakesBack, EachLane}
+use Rattle.session_lanes.proofs.Common.{◌≡◌, length, map, of_lane, TakesBack, EachLane}
 use Rattle.session_lanes.proofs.closing.take_sessions.Given as goal
 
 -- the sessions so far gave back how they ended, their tallies and their passes

@@ -1,5 +1,4 @@
-use Rattle.std.proofs.Common.{rules, ◌≡◌, [], ◌∷◌, ◌++◌, sym, subst}
-use Rattle.session_lanes.specs.Lanes.{new_lane, EachAt}
+use Rattle.session_lanes.proofs.Common.{rules, ◌≡◌, [], ◌∷◌, ◌++◌, sym, subst, new_lane, EachAt}
 use Rattle.session_lanes.proofs.FallLemmas.{EachAt-push}
 use Rattle.session_lanes.proofs.lane.make_lanes.Goals as goal
 

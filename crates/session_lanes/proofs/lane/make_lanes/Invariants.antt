@@ -1,5 +1,4 @@
-use Rattle.std.proofs.Common.{◌≡◌, vec_len}
-use Rattle.session_lanes.specs.Lanes.{new_lane, EachAt}
+use Rattle.session_lanes.proofs.Common.{◌≡◌, vec_len, new_lane, EachAt}
 use Rattle.session_lanes.proofs.lane.make_lanes.Given as goal
 
 -- so many new lanes were made

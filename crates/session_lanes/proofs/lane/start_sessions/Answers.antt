@@ -1,10 +1,4 @@
-use Rattle.std.proofs.Common.{rules, ◌≡◌, ℕ, ◌%◌, ◌<◌, ◌≤◌, [], ◌∷◌, ◌++◌, length, map, set, sym, ap, ◌∙◌, subst, refl, arith, length-append, get_or}
-use Rattle.std.proofs.lemmas.List.{get_or_read, map-append}
-use Rattle.std.proofs.lemmas.Iterator.Consumers.{YieldsList-turn}
-use Rattle.std.proofs.lemmas.Iterator.Adapters.{YieldsList-from_vec}
-use Rattle.inbox.specs.States.{new_pass}
-use Rattle.session_lanes.specs.declared.ends.SessionStart.{SessionStart}
-use Rattle.session_lanes.specs.Lanes.{LaneState, IsPassOf, EachAt, of_lane, HandsOut, EachLane}
+use Rattle.session_lanes.proofs.Common.{rules, ◌≡◌, ℕ, ◌%◌, ◌<◌, ◌≤◌, [], ◌∷◌, ◌++◌, length, map, set, sym, ap, ◌∙◌, subst, refl, arith, length-append, get_or, get_or_read, map-append, YieldsList-turn, YieldsList-from_vec, new_pass, SessionStart, LaneState, IsPassOf, EachAt, of_lane, HandsOut, EachLane}
 use Rattle.session_lanes.proofs.FallLemmas.{EachAt-push, of_lane-fits, one_more, hands_more}
 use Rattle.session_lanes.proofs.lane.start_sessions.Goals as goal
 

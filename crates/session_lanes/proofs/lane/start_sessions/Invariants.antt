@@ -1,5 +1,4 @@
-use Rattle.std.proofs.Common.{◌≡◌, ◌%◌, length, map, vec_len}
-use Rattle.session_lanes.specs.Lanes.{IsPassOf, EachAt, of_lane, HandsOut, EachLane}
+use Rattle.session_lanes.proofs.Common.{◌≡◌, ◌%◌, length, map, vec_len, IsPassOf, EachAt, of_lane, HandsOut, EachLane}
 use Rattle.session_lanes.proofs.lane.start_sessions.Given as goal
 
 -- the sessions so far have their numbers, passes, readers and writers

@@ -1,10 +1,4 @@
-use Rattle.std.proofs.Common.{◌≡◌, [], refl, sym, subst}
-use Rattle.std.specs.List.{All}
-use Rattle.std.proofs.lemmas.List.Elements.{All-nil}
-use Rattle.inbox.specs.declared.rule.Job.{Job}
-use Rattle.session_serving.specs.declared.fault.SessionFault.TheVariants.{Port}
-use Rattle.session_lanes.specs.declared.ends.SessionEnd.TheVariants.{Fault}
-use Rattle.session_lanes.specs.Ends.{streams_of, HasEnded}
+use Rattle.session_lanes.proofs.Common.{◌≡◌, [], refl, sym, subst, All, All-nil, Job, Port, Fault, streams_of, HasEnded}
 use Rattle.session_lanes.proofs.SessionLemmas.{never_began}
 use Rattle.session_lanes.proofs.session.end_at_once.Goals as goal
 

@@ -1,4 +1,4 @@
-use Rattle.std.proofs.Common.{rules}
+use Rattle.session_lanes.proofs.Common.{rules}
 use Rattle.session_lanes.proofs.SessionLemmas.{has_ended}
 use Rattle.session_lanes.proofs.session.serve_by.Goals as goal
 

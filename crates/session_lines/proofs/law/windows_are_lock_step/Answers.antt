@@ -1,6 +1,4 @@
-use Rattle.std.proofs.Common.{ap, ◌∙◌}
-use Rattle.session_lines.specs.LockStep.{lock_step}
-use Rattle.session_lines.specs.Runs.{run_of}
+use Rattle.session_lines.proofs.Common.{ap, ◌∙◌, lock_step, run_of}
 use Rattle.session_lines.proofs.LockStepLemmas.{IsLockStep-events}
 use Rattle.session_lines.proofs.law.windows_are_lock_step.Goals as goal
 

@@ -1,4 +1,4 @@
-use Rattle.std.proofs.Common.{◌∙◌, sym, ap}
+use Rattle.session_lines.proofs.Common.{◌∙◌, sym, ap}
 use Rattle.serde_json.specs.Read.{read as read_json}
 use Rattle.session_lines.proofs.JsonLemmas.{no_text, read_text}
 use Rattle.session_lines.proofs.meaning.json_of.Goals as goal

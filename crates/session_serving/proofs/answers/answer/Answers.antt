@@ -1,6 +1,4 @@
-use Rattle.std.proofs.Common.{◌∙◌, ap, length, arith}
-use Rattle.session_lines.specs.States.{State}
-use Rattle.session_lines.proofs.EventLemmas.{after_done-kept, after_done-fewer}
+use Rattle.session_serving.proofs.Common.{◌∙◌, ap, length, arith, State, after_done-kept, after_done-fewer}
 use Rattle.session_serving.proofs.EventLemmas.{done-advances}
 use Rattle.session_serving.proofs.ServeLemmas.{says-line}
 use Rattle.session_serving.proofs.answers.answer.Goals as goal

@@ -1,5 +1,4 @@
-use Rattle.std.proofs.Common.{arith, ap, length, ◌∙◌, true, false, refl}
-use Rattle.session_lines.specs.States.{State}
+use Rattle.session_serving.proofs.Common.{arith, ap, length, ◌∙◌, true, false, refl, State}
 use Rattle.session_serving.proofs.EventLemmas.{front-advances, front_fewer}
 use Rattle.session_serving.proofs.ServeLemmas.{says-line, says-then, says_none}
 use Rattle.session_serving.proofs.answers.put_held.Goals as goal

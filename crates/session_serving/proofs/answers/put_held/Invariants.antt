@@ -1,5 +1,4 @@
-use Rattle.std.proofs.Common.{◌≡◌, ◌≤◌, true, length}
-use Rattle.session_serving.specs.Output.{output_of, Says, HasRoom}
+use Rattle.session_serving.proofs.Common.{◌≡◌, ◌≤◌, true, length, output_of, Says, HasRoom}
 use Rattle.session_serving.proofs.answers.put_held.Given as goal
 
 abbrev pub invariant-loop-line : goal.invariant-loop-line

@@ -1,4 +1,4 @@
-use Rattle.std.proofs.Common.{true, refl, ◌∙◌}
+use Rattle.session_serving.proofs.Common.{true, refl, ◌∙◌}
 use Rattle.session_serving.proofs.ServeLemmas.{says-then, says_none}
 use Rattle.session_serving.proofs.answers.take_all.Goals as goal
 

@@ -1,6 +1,4 @@
-use Rattle.std.proofs.Common.{◌≡◌, true, length}
-use Rattle.session_serving.specs.Output.{output_of, Says, HasRoom}
-use Rattle.session_serving.specs.Serving.{IsReady}
+use Rattle.session_serving.proofs.Common.{◌≡◌, true, length, output_of, Says, HasRoom, IsReady}
 use Rattle.session_serving.proofs.answers.take_all.Given as goal
 
 abbrev pub invariant-loop-writer : goal.invariant-loop-writer

@@ -1,4 +1,4 @@
-use Rattle.std.proofs.Common.{true, false}
+use Rattle.session_serving.proofs.Common.{true, false}
 use Rattle.session_serving.proofs.ServeLemmas.{says-then, says_put}
 use Rattle.session_serving.proofs.answers.take_next.Goals as goal
 

@@ -1,4 +1,4 @@
-use Rattle.std.proofs.Common.{true, false}
+use Rattle.session_serving.proofs.Common.{true, false}
 use Rattle.session_serving.proofs.ServeLemmas.{first-line, first-none, serves-says}
 use Rattle.session_serving.proofs.chunk.end_line.Goals as goal
 

@@ -1,5 +1,4 @@
-use Rattle.std.proofs.Common.{true, false, refl, sym, ap, ◌∙◌, arith}
-use Rattle.session_serving.specs.Bytes.{Cut}
+use Rattle.session_serving.proofs.Common.{true, false, refl, sym, ap, ◌∙◌, arith, Cut}
 use Rattle.session_serving.proofs.CutLemmas.{chunk-cut, chunk-last}
 use Rattle.session_serving.proofs.ServeLemmas.{serves_none, serves-says, chunk-on, chunk-stop, chunk-end}
 use Rattle.session_serving.proofs.chunk.serve_chunk.Goals as goal

@@ -1,7 +1,4 @@
-use Rattle.std.proofs.Common.{◌≡◌, ◌≤◌, ◌+◌, ◌-◌, true, length, take}
-use Rattle.session_serving.specs.Bytes.{cut_after}
-use Rattle.session_serving.specs.Output.{HaveRoom}
-use Rattle.session_serving.specs.Serving.{exchange_of, IsReady, Serves}
+use Rattle.session_serving.proofs.Common.{◌≡◌, ◌≤◌, ◌+◌, ◌-◌, true, length, take, cut_after, HaveRoom, exchange_of, IsReady, Serves}
 use Rattle.session_serving.proofs.chunk.serve_chunk.Given as goal
 
 -- the lines before `from` were given

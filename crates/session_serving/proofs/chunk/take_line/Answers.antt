@@ -1,4 +1,4 @@
-use Rattle.session_lines.proofs.EventLemmas.{IsOneLine-line}
+use Rattle.session_serving.proofs.Common.{IsOneLine-line}
 use Rattle.session_serving.proofs.EventLemmas.{line-advances}
 use Rattle.session_serving.proofs.chunk.take_line.Goals as goal
 

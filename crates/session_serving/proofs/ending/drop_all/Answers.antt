@@ -1,4 +1,4 @@
-use Rattle.std.proofs.Common.{rules, arith, refl, inl, inr, ◌∙◌}
+use Rattle.session_serving.proofs.Common.{rules, arith, refl, inl, inr, ◌∙◌}
 use Rattle.session_serving.proofs.EventLemmas.{discards_none, discards_then}
 use Rattle.session_serving.proofs.ending.drop_all.Goals as goal
 

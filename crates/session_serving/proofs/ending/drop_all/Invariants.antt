@@ -1,5 +1,4 @@
-use Rattle.std.proofs.Common.{◌≡◌, length}
-use Rattle.session_serving.specs.Advances.{Discards}
+use Rattle.session_serving.proofs.Common.{◌≡◌, length, Discards}
 use Rattle.session_serving.proofs.ending.drop_all.Given as goal
 
 abbrev pub invariant-loop-port : goal.invariant-loop-port

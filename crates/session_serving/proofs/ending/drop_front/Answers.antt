@@ -1,4 +1,4 @@
-use Rattle.std.proofs.Common.{rules, tests}
+use Rattle.session_serving.proofs.Common.{rules, tests}
 use Rattle.session_serving.proofs.EventLemmas.{discards_done, discards_front}
 use Rattle.session_serving.proofs.ending.drop_front.Goals as goal
 

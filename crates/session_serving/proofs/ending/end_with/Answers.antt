@@ -1,5 +1,4 @@
-use Rattle.std.proofs.Common.{◌≡◌, rules, tests}
-use Rattle.session_serving.specs.declared.fault.SessionFault.TheVariants.{Port}
+use Rattle.session_serving.proofs.Common.{◌≡◌, rules, tests, Port}
 use Rattle.session_serving.proofs.ServeLemmas.{serves-discards}
 use Rattle.session_serving.proofs.EndLemmas.{serves-weak, still-written}
 use Rattle.session_serving.proofs.ending.end_with.Goals as goal

@@ -1,4 +1,4 @@
-use Rattle.std.proofs.Common.{rules, arith, ◌∙◌, ◌-◌}
+use Rattle.session_serving.proofs.Common.{rules, arith, ◌∙◌, ◌-◌}
 use Rattle.session_serving.proofs.CutLemmas.{kept_long, is_max_kept, length-take-most}
 use Rattle.session_serving.proofs.lines.keep.Goals as goal
 

@@ -1,4 +1,4 @@
-use Rattle.std.proofs.Common.{rules, arith, refl}
+use Rattle.session_serving.proofs.Common.{rules, arith, refl}
 use Rattle.session_serving.proofs.CutLemmas.{found-line, found-none}
 use Rattle.session_serving.proofs.lines.next_line.Goals as goal
 

@@ -1,4 +1,4 @@
-use Rattle.std.proofs.Common.{◌∷◌, []}
+use Rattle.session_serving.proofs.Common.{◌∷◌, []}
 use Rattle.session_serving.proofs.WriteLemmas.{writes-line, writes-line-fails}
 use Rattle.session_serving.proofs.output.put_line.Goals as goal
 

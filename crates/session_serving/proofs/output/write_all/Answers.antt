@@ -1,5 +1,4 @@
-use Rattle.std.proofs.Common.{◌++◌, take, ◌∙◌}
-use Rattle.std.proofs.KnownBytes.{Appends-trans}
+use Rattle.session_serving.proofs.Common.{◌++◌, take, ◌∙◌, Appends-trans}
 use Rattle.session_serving.proofs.WriteLemmas.{pushed}
 use Rattle.session_serving.proofs.output.write_all.Goals as goal
 

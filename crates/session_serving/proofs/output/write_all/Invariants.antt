@@ -1,5 +1,4 @@
-use Rattle.std.proofs.Common.{◌≡◌, ◌++◌, ℕ, List, length}
-use Rattle.std.specs.Io.KnownBytes.{Appends}
+use Rattle.session_serving.proofs.Common.{◌≡◌, ◌++◌, ℕ, List, length, Appends}
 use Rattle.session_serving.proofs.output.write_all.Given as goal
 
 -- what was taken, and then what is left to write

@@ -1,6 +1,4 @@
-use Rattle.std.proofs.Common.{true, false, take, length, length-take-le, refl, ap, ◌∙◌, ◌<◌, Ok, Err, arith, rules}
-use Rattle.std.proofs.lemmas.Bool.{false≢true}
-use Rattle.session_serving.specs.declared.fault.SessionFault.TheVariants.{Write}
+use Rattle.session_serving.proofs.Common.{true, false, take, length, length-take-le, refl, ap, ◌∙◌, ◌<◌, Ok, Err, arith, rules, false≢true, Write}
 use Rattle.session_serving.proofs.EndLemmas.{progress-start, progress-on, progress-stop, progress-end, progress-fails, progress-never, first-written, first-stops, ok_is_no_end, err_is_no_end, err_is_memory, first_fails}
 use Rattle.session_serving.proofs.serve.serve_reader.Goals as goal
 

@@ -1,7 +1,4 @@
-use Rattle.std.proofs.Common.{◌≡◌, ◌≤◌, ◌-◌, [], false, vec_len, vec_capacity}
-use Rattle.session_serving.specs.Bytes.{max_kept}
-use Rattle.session_serving.specs.Output.{HasRoom}
-use Rattle.session_serving.specs.Serving.{exchange_of}
+use Rattle.session_serving.proofs.Common.{◌≡◌, ◌≤◌, ◌-◌, [], false, vec_len, vec_capacity, max_kept, HasRoom, exchange_of}
 use Rattle.session_serving.proofs.EndLemmas.{Progress}
 use Rattle.session_serving.proofs.serve.serve_reader.Given as goal
 

@@ -1,4 +1,4 @@
-use Rattle.std.proofs.Common.{refl, rules, tests}
+use Rattle.session_serving.proofs.Common.{refl, rules, tests}
 use Rattle.session_serving.proofs.EndLemmas.{served-ok, served-err, never-began, ok_is_no_end}
 use Rattle.session_serving.proofs.serve.serve_session.Goals as goal
 

@@ -1,4 +1,4 @@
-use Rattle.std.proofs.lemmas.Str.{IsUtf8-from_ascii}
+use Rattle.taf_codes.proofs.Common.{IsUtf8-from_ascii}
 use Rattle.taf_codes.proofs.text.ascii_text.Goals as goal
 
 pub from_utf8_unchecked-requires : goal.from_utf8_unchecked-requires

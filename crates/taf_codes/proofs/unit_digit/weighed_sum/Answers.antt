@@ -1,4 +1,4 @@
-use Rattle.std.proofs.Common.{arith, ◌∙◌}
+use Rattle.taf_codes.proofs.Common.{arith, ◌∙◌}
 use Rattle.taf_codes.proofs.DigitLemmas.{weighed_more}
 use Rattle.taf_codes.proofs.unit_digit.weighed_sum.Goals as goal
 

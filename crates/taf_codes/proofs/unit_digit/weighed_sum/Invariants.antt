@@ -1,5 +1,4 @@
-use Rattle.std.proofs.Common.{◌≡◌, ◌≤◌, ◌*◌, take}
-use Rattle.taf_codes.specs.UnitDigits.{weighed_sum}
+use Rattle.taf_codes.proofs.Common.{◌≡◌, ◌≤◌, ◌*◌, take, weighed_sum}
 use Rattle.taf_codes.proofs.unit_digit.weighed_sum.Given as goal
 
 abbrev pub invariant-loop-place : goal.invariant-loop-place

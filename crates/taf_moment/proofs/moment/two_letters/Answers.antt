@@ -1,5 +1,4 @@
-use Rattle.std.proofs.Common.{refl, sym, subst}
-use Rattle.std.specs.Str.{IsAscii}
+use Rattle.taf_moment.proofs.Common.{refl, sym, subst, IsAscii}
 use Rattle.taf_moment.proofs.TableLemmas.{letters_at, IsAscii-two_digits}
 use Rattle.taf_moment.proofs.moment.two_letters.Goals as goal
 

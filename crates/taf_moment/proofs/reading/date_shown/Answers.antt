@@ -1,5 +1,4 @@
-use Rattle.std.proofs.Common.{◌≡◌, ◌+◌, ◌*◌, sym, ap, ◌∙◌, arith}
-use Rattle.taf_moment.specs.Calendar.{number_in_letters}
+use Rattle.taf_moment.proofs.Common.{◌≡◌, ◌+◌, ◌*◌, sym, ap, ◌∙◌, arith, number_in_letters}
 use Rattle.taf_moment.proofs.TextLemmas.{formed_from_test, letters_are, year_from_pairs}
 use Rattle.taf_moment.proofs.reading.date_shown.Goals as goal
 

@@ -1,5 +1,4 @@
-use Rattle.std.proofs.Common.{sym, ◌∙◌, arith}
-use Rattle.std.specs.Prelude.{codes}
+use Rattle.taf_moment.proofs.Common.{sym, ◌∙◌, arith, codes}
 use Rattle.taf_moment.proofs.TextLemmas.{fits_more}
 use Rattle.taf_moment.proofs.reading.is_formed.Goals as goal
 

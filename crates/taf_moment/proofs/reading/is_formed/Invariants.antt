@@ -1,7 +1,4 @@
-use Rattle.std.proofs.Common.{◌≡◌, ◌&&◌, map, drop}
-use Rattle.std.specs.Prelude.{codes}
-use Rattle.std.specs.Str.{bytes_eq}
-use Rattle.taf_moment.specs.Calendar.{digit_as_zero, has_form}
+use Rattle.taf_moment.proofs.Common.{◌≡◌, ◌&&◌, map, drop, codes, bytes_eq, digit_as_zero, has_form}
 use Rattle.taf_moment.proofs.reading.is_formed.Given as goal
 
 abbrev pub invariant-loop-place : goal.invariant-loop-place

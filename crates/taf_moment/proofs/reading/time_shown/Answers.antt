@@ -1,5 +1,4 @@
-use Rattle.std.proofs.Common.{sym, ap, ◌∙◌}
-use Rattle.taf_moment.specs.Calendar.{number_in_letters}
+use Rattle.taf_moment.proofs.Common.{sym, ap, ◌∙◌, number_in_letters}
 use Rattle.taf_moment.proofs.TextLemmas.{formed_from_test, letters_are}
 use Rattle.taf_moment.proofs.reading.time_shown.Goals as goal
 

@@ -1,4 +1,4 @@
-use Rattle.std.proofs.Common.{arith}
+use Rattle.taf_moment.proofs.Common.{arith}
 use Rattle.taf_moment.proofs.LetterLemmas.{digit_value-is, digit_value-small}
 use Rattle.taf_moment.proofs.reading.two_shown.Goals as goal
 

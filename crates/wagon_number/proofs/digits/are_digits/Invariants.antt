@@ -1,6 +1,4 @@
-use Rattle.std.proofs.Common.{◌≡◌, take}
-use Rattle.std.specs.Char.{is_ascii_digit}
-use Rattle.std.specs.List.{list_all}
+use Rattle.wagon_number.proofs.Common.{◌≡◌, take, is_ascii_digit, list_all}
 use Rattle.wagon_number.proofs.digits.are_digits.Given as goal
 
 abbrev pub invariant-loop-letter : goal.invariant-loop-letter

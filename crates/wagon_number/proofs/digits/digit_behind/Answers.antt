@@ -1,4 +1,4 @@
-use Rattle.std.proofs.Common.{arith}
+use Rattle.wagon_number.proofs.Common.{arith}
 use Rattle.wagon_number.proofs.CheckDigitLemmas.{sum_of_products}
 use Rattle.wagon_number.proofs.digits.digit_behind.Goals as goal
 

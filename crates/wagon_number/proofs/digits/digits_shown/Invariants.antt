@@ -1,5 +1,4 @@
-use Rattle.std.proofs.Common.{◌≡◌, ℕ, ◌<◌, ◌≤◌, get_or}
-use Rattle.std.specs.Char.{digit_value}
+use Rattle.wagon_number.proofs.Common.{◌≡◌, ℕ, ◌<◌, ◌≤◌, get_or, digit_value}
 use Rattle.wagon_number.proofs.digits.digits_shown.Given as goal
 
 abbrev pub invariant-loop-digit : goal.invariant-loop-digit

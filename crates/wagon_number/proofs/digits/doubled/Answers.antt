@@ -1,4 +1,4 @@
-use Rattle.std.proofs.Common.{arith}
+use Rattle.wagon_number.proofs.Common.{arith}
 use Rattle.wagon_number.proofs.CheckDigitLemmas.{doubled_at}
 use Rattle.wagon_number.proofs.digits.doubled.Goals as goal
 

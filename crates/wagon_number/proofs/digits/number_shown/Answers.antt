@@ -1,4 +1,4 @@
-use Rattle.std.proofs.Common.{arith}
+use Rattle.wagon_number.proofs.Common.{arith}
 use Rattle.wagon_number.proofs.DigitLemmas.{number_in-front}
 use Rattle.wagon_number.proofs.digits.number_shown.Goals as goal
 

@@ -1,5 +1,4 @@
-use Rattle.std.proofs.Common.{◌≡◌, take}
-use Rattle.wagon_number.specs.Digits.{number_in}
+use Rattle.wagon_number.proofs.Common.{◌≡◌, take, number_in}
 use Rattle.wagon_number.proofs.digits.number_shown.Given as goal
 
 abbrev pub invariant-loop-digit : goal.invariant-loop-digit

@@ -1,6 +1,4 @@
-use Rattle.std.proofs.Common.{map, sym, ap}
-use Rattle.std.specs.Char.{digit_char}
-use Rattle.wagon_number.specs.Digits.{last_digits}
+use Rattle.wagon_number.proofs.Common.{map, sym, ap, digit_char, last_digits}
 use Rattle.wagon_number.proofs.PairLemmas.{last_digits-six}
 use Rattle.wagon_number.proofs.pairs.six_letters.Goals as goal
 

@@ -1,5 +1,4 @@
-use Rattle.std.proofs.Common.{refl}
-use Rattle.wagon_number.specs.Digits.{last_digits}
+use Rattle.wagon_number.proofs.Common.{refl, last_digits}
 use Rattle.wagon_number.proofs.PairLemmas.{letters_at}
 use Rattle.wagon_number.proofs.pairs.two_letters.Goals as goal
 

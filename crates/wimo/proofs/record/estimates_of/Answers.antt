@@ -1,6 +1,4 @@
-use Rattle.std.proofs.Common.{ap, ◌∙◌, sym, Some, None, ◌++◌, ◌∷◌, []}
-use Rattle.std.specs.Prelude.{option_map}
-use Rattle.std.proofs.lemmas.List.{append-nil}
+use Rattle.wimo.proofs.Common.{ap, ◌∙◌, sym, Some, None, ◌++◌, ◌∷◌, [], option_map, append-nil}
 use Rattle.eti_chain.specs.Estimates as of
 use Rattle.wimo.proofs.RecordEventLemmas.{found_more, at_leg}
 use Rattle.wimo.proofs.record.estimates_of.Goals as goal

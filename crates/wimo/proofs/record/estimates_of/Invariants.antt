@@ -1,6 +1,4 @@
-use Rattle.std.proofs.Common.{◌≡◌}
-use Rattle.std.specs.Prelude.{filter_map, option_map}
-use Rattle.std.specs.List.{range_with_len}
+use Rattle.wimo.proofs.Common.{◌≡◌, filter_map, option_map, range_with_len}
 use Rattle.eti_chain.specs.Estimates as of
 use Rattle.wimo.proofs.RecordEventLemmas.{at_leg}
 use Rattle.wimo.proofs.record.estimates_of.Given as goal

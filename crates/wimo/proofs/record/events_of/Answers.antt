@@ -1,6 +1,4 @@
-use Rattle.std.proofs.Common.{ap, sym, ◌∙◌, ◌++◌, List, ℕ}
-use Rattle.taf_messages.specs.declared.event.RecordEvent.{RecordEvent}
-use Rattle.wimo.specs.Records.{record_events}
+use Rattle.wimo.proofs.Common.{ap, sym, ◌∙◌, ◌++◌, List, ℕ, RecordEvent, record_events}
 use Rattle.wimo.proofs.RecordEventLemmas.{events-append, room-first, room-behind}
 use Rattle.wimo.proofs.record.events_of.Goals as goal
 

@@ -1,5 +1,4 @@
-use Rattle.std.proofs.Common.{◌≡◌, ◌+◌, ◌≤◌, ◌++◌, length}
-use Rattle.journey.specs.Legs.{HaveRoom}
+use Rattle.wimo.proofs.Common.{◌≡◌, ◌+◌, ◌≤◌, ◌++◌, length, HaveRoom}
 use Rattle.wimo.specs.Records as records
 use Rattle.wimo.proofs.record.show_joined.Given as goal
 

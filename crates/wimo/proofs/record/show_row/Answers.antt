@@ -1,5 +1,4 @@
-use Rattle.std.proofs.Common.{◌≡◌, ◌+◌, [], ◌∷◌, ◌++◌, drop, ap, sym, ◌∙◌, arith}
-use Rattle.std.proofs.lemmas.List.{append-nil, at_drop_all, at_drop_more}
+use Rattle.wimo.proofs.Common.{◌≡◌, ◌+◌, [], ◌∷◌, ◌++◌, drop, ap, sym, ◌∙◌, arith, append-nil, at_drop_all, at_drop_more}
 use Rattle.wimo.proofs.RecordEventLemmas.{shown_more, leg_more, room_more}
 use Rattle.wimo.proofs.record.show_row.Goals as goal
 

@@ -1,5 +1,4 @@
-use Rattle.std.proofs.Common.{◌≡◌, ◌≤◌, ◌++◌, drop}
-use Rattle.journey.specs.Legs.{HaveRoom}
+use Rattle.wimo.proofs.Common.{◌≡◌, ◌≤◌, ◌++◌, drop, HaveRoom}
 use Rattle.wimo.specs.Records as records
 use Rattle.wimo.proofs.record.show_row.Given as goal
 

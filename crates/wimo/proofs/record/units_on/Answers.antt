@@ -1,5 +1,4 @@
-use Rattle.std.proofs.Common.{true, false, ap, sym, ◌∙◌}
-use Rattle.std.proofs.lemmas.List.{append-nil}
+use Rattle.wimo.proofs.Common.{true, false, ap, sym, ◌∙◌, append-nil}
 use Rattle.wimo.proofs.RecordEventLemmas.{units_more}
 use Rattle.wimo.proofs.record.units_on.Goals as goal
 use Rattle.wimo.proofs.record.units_on.Goals.{then-eq+in_ok-push, else-eq}

@@ -1,4 +1,4 @@
-use Rattle.std.proofs.Common.{◌≡◌, take}
+use Rattle.wimo.proofs.Common.{◌≡◌, take}
 use Rattle.wimo.specs.Records as records
 use Rattle.wimo.proofs.record.units_on.Given as goal
 

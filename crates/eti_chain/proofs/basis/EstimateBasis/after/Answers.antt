@@ -1,7 +1,4 @@
-use Rattle.std.proofs.Common.{ap, sym, ◌∙◌}
-use Rattle.journey.specs.Checks.{refusal}
-use Rattle.journey.specs.declared.event.Event.{Event}
-use Rattle.eti_chain.specs.EstimateStates.{anchor_after}
+use Rattle.eti_chain.proofs.Common.{ap, sym, ◌∙◌, refusal, Event, anchor_after}
 use Rattle.eti_chain.proofs.EstimateStateLemmas.{estimate_basis-transition}
 use Rattle.eti_chain.proofs.basis.EstimateBasis.after.Goals as goal
 

@@ -1,4 +1,4 @@
-use Rattle.std.proofs.Common.{sym, ◌∙◌, arith}
+use Rattle.eti_chain.proofs.Common.{sym, ◌∙◌, arith}
 use Rattle.eti_chain.proofs.CalendarLemmas.{end-fits}
 use Rattle.eti_chain.proofs.EstimateStateLemmas.{moment_is}
 use Rattle.eti_chain.proofs.basis.EstimateBasis.moment.Goals as goal

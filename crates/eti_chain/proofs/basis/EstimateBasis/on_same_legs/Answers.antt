@@ -1,6 +1,4 @@
-use Rattle.std.proofs.Common.{ap, sym, ◌∙◌}
-use Rattle.eti_chain.specs.Estimates.{basis_from}
-use Rattle.eti_chain.specs.EstimateStates.{anchor_after}
+use Rattle.eti_chain.proofs.Common.{ap, sym, ◌∙◌, basis_from, anchor_after}
 use Rattle.eti_chain.proofs.EstimateLemmas.{basis-kept}
 use Rattle.eti_chain.proofs.basis.EstimateBasis.on_same_legs.Goals as goal
 

@@ -1,5 +1,4 @@
-use Rattle.std.proofs.Common.{ap, ◌∙◌}
-use Rattle.eti_chain.specs.Estimates.{EstimateBasis}
+use Rattle.eti_chain.proofs.Common.{ap, ◌∙◌, EstimateBasis}
 use Rattle.eti_chain.proofs.CalendarLemmas.{small-of}
 use Rattle.eti_chain.proofs.estimate_anchor.EstimateAnchor.of.Goals as goal
 

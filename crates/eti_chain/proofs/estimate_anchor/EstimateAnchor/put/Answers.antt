@@ -1,5 +1,4 @@
-use Rattle.std.proofs.Common.{ap, ◌∙◌, ◌∷◌, [], ◌++◌, Some}
-use Rattle.eti_chain.specs.EstimateStates.{EstimateAnchor, anchor_after, anchor_with_commitment}
+use Rattle.eti_chain.proofs.Common.{ap, ◌∙◌, ◌∷◌, [], ◌++◌, Some, EstimateAnchor, anchor_after, anchor_with_commitment}
 use Rattle.eti_chain.proofs.CalendarLemmas.{small-of}
 use Rattle.eti_chain.proofs.EstimateStateLemmas.{estimate_anchor-transition}
 use Rattle.eti_chain.proofs.estimate_anchor.EstimateAnchor.put.Goals as goal

@@ -1,6 +1,4 @@
-use Rattle.std.proofs.Common.{ap, ◌∙◌}
-use Rattle.eti_chain.specs.Estimates.{EstimateBasis, end_in}
-use Rattle.eti_chain.specs.EstimateStates.{EstimatesState}
+use Rattle.eti_chain.proofs.Common.{ap, ◌∙◌, EstimateBasis, end_in, EstimatesState}
 use Rattle.eti_chain.proofs.estimates.Estimates.estimate.Goals as goal
 
 pub returns : goal.returns

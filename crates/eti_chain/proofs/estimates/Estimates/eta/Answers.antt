@@ -1,6 +1,4 @@
-use Rattle.std.proofs.Common.{ap, ◌∙◌}
-use Rattle.eti_chain.specs.Estimates.{eta_in}
-use Rattle.eti_chain.specs.EstimateStates.{EstimatesState}
+use Rattle.eti_chain.proofs.Common.{ap, ◌∙◌, eta_in, EstimatesState}
 use Rattle.eti_chain.proofs.estimates.Estimates.eta.Goals as goal
 
 pub returns : goal.returns

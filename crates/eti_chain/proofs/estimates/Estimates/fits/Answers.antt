@@ -1,5 +1,4 @@
-use Rattle.std.proofs.Common.{ap, ◌∙◌}
-use Rattle.eti_chain.specs.Estimates.{fits_in}
+use Rattle.eti_chain.proofs.Common.{ap, ◌∙◌, fits_in}
 use Rattle.eti_chain.proofs.estimates.Estimates.fits.Goals as goal
 
 pub returns : goal.returns

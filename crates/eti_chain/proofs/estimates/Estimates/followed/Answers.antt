@@ -1,6 +1,4 @@
-use Rattle.std.proofs.Common.{ap, ◌∙◌}
-use Rattle.journey.specs.Journey.{after}
-use Rattle.eti_chain.specs.EstimateStates.{EstimatesState, state_with_commitment}
+use Rattle.eti_chain.proofs.Common.{ap, ◌∙◌, after, EstimatesState, state_with_commitment}
 use Rattle.eti_chain.proofs.CalendarLemmas.{is_within_of}
 use Rattle.eti_chain.proofs.EstimateStateLemmas.{estimates_state-transition}
 use Rattle.eti_chain.proofs.estimates.Estimates.followed.Goals as goal

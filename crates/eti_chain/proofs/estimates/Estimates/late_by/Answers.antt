@@ -1,7 +1,4 @@
-use Rattle.std.proofs.Common.{ℕ, Option, ap, sym, ◌∙◌}
-use Rattle.std.specs.Option.{option_and_then}
-use Rattle.eti_chain.specs.Estimates.{EstimateBasis, lateness, eta_in}
-use Rattle.eti_chain.specs.EstimateStates.{EstimatesState}
+use Rattle.eti_chain.proofs.Common.{ℕ, Option, ap, sym, ◌∙◌, option_and_then, EstimateBasis, lateness, eta_in, EstimatesState}
 use Rattle.eti_chain.proofs.estimates.Estimates.late_by.Goals as goal
 
 -- by how many minutes the arrival is after the commitment

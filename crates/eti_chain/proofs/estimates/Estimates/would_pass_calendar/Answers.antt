@@ -1,7 +1,4 @@
-use Rattle.std.proofs.Common.{ap, sym, ◌∙◌, not}
-use Rattle.journey.specs.Journey.{NextEvent, after}
-use Rattle.eti_chain.specs.Estimates.{anchor, estimate_basis, fits_in}
-use Rattle.eti_chain.specs.EstimateStates.{EstimatesState}
+use Rattle.eti_chain.proofs.Common.{ap, sym, ◌∙◌, not, NextEvent, after, anchor, estimate_basis, fits_in, EstimatesState}
 use Rattle.eti_chain.proofs.estimates.Estimates.would_pass_calendar.Goals as goal
 
 pub after-requires-clause-newest : goal.after-requires-clause-newest

@@ -1,8 +1,4 @@
-use Rattle.std.proofs.Common.{List, ap, ◌∙◌, sym}
-use Rattle.hub_model.specs.declared.entry.Entry.{Entry}
-use Rattle.hub_model.specs.Overtaking.{is_apart}
-use Rattle.hub_model.specs.Histories.{state_of}
-use Rattle.hub_core.specs.Apart.{are_apart}
+use Rattle.hub_core.proofs.Common.{List, ap, ◌∙◌, sym, Entry, is_apart, state_of, are_apart}
 use Rattle.hub_core.proofs.hub.Hub.apart.Goals as goal
 
 pub returns-in-Send-Send : goal.returns-in-Send-Send

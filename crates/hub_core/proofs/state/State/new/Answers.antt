@@ -1,8 +1,4 @@
-use Rattle.std.proofs.Common.{rules, ℕ, Option, sym, subst}
-use Rattle.taf_codes.specs.declared.code.Railway.{Railway}
-use Rattle.outbox.specs.OutboxStates.{outbox_state_of}
-use Rattle.hub_tables.specs.TableStates.{table_state}
-use Rattle.hub_core.specs.States.{Represents}
+use Rattle.hub_core.proofs.Common.{rules, ℕ, Option, sym, subst, Railway, outbox_state_of, table_state, Represents}
 use Rattle.hub_core.proofs.state.State.new.Goals as goal
 
 pub returns-clause-kept : goal.returns-clause-kept

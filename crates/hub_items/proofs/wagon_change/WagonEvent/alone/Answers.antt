@@ -1,8 +1,4 @@
-use Rattle.std.proofs.Common.{sym, ap, ◌∙◌}
-use Rattle.std.specs.Option.{option_copied}
-use Rattle.std.proofs.lemmas.Option.{none-some}
-use Rattle.hub_tables.specs.TableStates.{table_state}
-use Rattle.hub_tables.proofs.AloneLemmas.{alone_has, alone_continues, event_given, event_of_alone}
+use Rattle.hub_items.proofs.Common.{sym, ap, ◌∙◌, option_copied, none-some, table_state, alone_has, alone_continues, event_given, event_of_alone}
 use Rattle.hub_items.proofs.wagon_change.WagonEvent.alone.Goals as goal
 
 pub of-requires-clause-no_plan : goal.of-requires-clause-no_plan

@@ -1,7 +1,4 @@
-use Rattle.std.proofs.Common.{◌∙◌, ap, sym}
-use Rattle.journey.specs.Journey.{NextEvent, after}
-use Rattle.hub_model.specs.Items.{estimate_items, alert_items}
-use Rattle.hub_items.specs.Transitions.{keeps_estimates}
+use Rattle.hub_items.proofs.Common.{◌∙◌, ap, sym, NextEvent, after, estimate_items, alert_items, keeps_estimates}
 use Rattle.hub_items.proofs.UnchangedEstimateLemmas.{still, no_estimate_items, no_alert_items}
 use Rattle.hub_items.proofs.wagon_change.WagonEvent.keeps_estimates.Goals as goal
 

@@ -1,9 +1,4 @@
-use Rattle.std.proofs.Common.{◌∙◌, ap, sym}
-use Rattle.std.specs.Prelude.{option_map}
-use Rattle.journey.specs.declared.journey_state.JourneyState.{JourneyState}
-use Rattle.journey.specs.Journey.{Journey, NextEvent, after}
-use Rattle.journey.specs.Legs.{lead_of}
-use Rattle.journey.proofs.SoundStateLemmas.{plan-kept}
+use Rattle.hub_items.proofs.Common.{◌∙◌, ap, sym, option_map, JourneyState, Journey, NextEvent, after, lead_of, plan-kept}
 use Rattle.hub_items.proofs.wagon_change.WagonEvent.lead.Goals as goal
 
 pub returns : goal.returns

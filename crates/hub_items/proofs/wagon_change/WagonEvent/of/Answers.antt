@@ -1,10 +1,4 @@
-use Rattle.std.proofs.Common.{List, ◌∙◌, ap}
-use Rattle.journey.specs.declared.event.Event.{Event}
-use Rattle.journey.specs.Journey.{Journey}
-use Rattle.journey.specs.Checks.{refusal}
-use Rattle.eti_chain.specs.Estimates.{fits}
-use Rattle.hub_model.specs.HubState.{event_body_for}
-use Rattle.hub_tables.specs.TableStates.{table_state}
+use Rattle.hub_items.proofs.Common.{List, ◌∙◌, ap, Event, Journey, refusal, fits, event_body_for, table_state}
 use Rattle.hub_items.proofs.AcceptanceLemmas.{same_after}
 use Rattle.hub_items.proofs.wagon_change.WagonEvent.of.Goals as goal
 

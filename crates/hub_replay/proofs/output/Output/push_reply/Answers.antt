@@ -1,5 +1,4 @@
-use Rattle.std.proofs.Common.{ℕ, List, [], ◌∷◌, ◌++◌, ap, ◌∙◌, append_assoc}
-use Rattle.call_lines.specs.Lines.{reply_text}
+use Rattle.hub_replay.proofs.Common.{ℕ, List, [], ◌∷◌, ◌++◌, ap, ◌∙◌, append_assoc, reply_text}
 use Rattle.hub_replay.proofs.output.Output.push_reply.Goals as goal
 
 pub returns-clause-pending : goal.returns-clause-pending

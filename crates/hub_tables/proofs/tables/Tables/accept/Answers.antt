@@ -1,5 +1,4 @@
-use Rattle.std.proofs.Common.{refl, sym, ◌∙◌}
-use Rattle.hub_tables.specs.TableStates.{table_state, event_alone}
+use Rattle.hub_tables.proofs.Common.{refl, sym, ◌∙◌, table_state, event_alone}
 use Rattle.hub_tables.proofs.AcceptanceLemmas.{on_ok, same_if_some, answer_differs, single_taken, taken_known}
 use Rattle.hub_tables.proofs.tables.Tables.accept.Goals as goal
 

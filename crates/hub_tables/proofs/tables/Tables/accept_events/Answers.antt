@@ -1,8 +1,4 @@
-use Rattle.std.proofs.Common.{◌≡◌, Option, Some, IfSome, sym, ap, subst, ◌∙◌}
-use Rattle.std.specs.Map.{keys_of}
-use Rattle.journey.specs.declared.event.Event.{Event}
-use Rattle.hub_tables.specs.TableStates.{TableEntries, events_in, table_state, event_alone}
-use Rattle.hub_tables.specs.Acceptance.{MayComeNext, with_event_on}
+use Rattle.hub_tables.proofs.Common.{◌≡◌, Option, Some, IfSome, sym, ap, subst, ◌∙◌, keys_of, Event, TableEntries, events_in, table_state, event_alone, MayComeNext, with_event_on}
 use Rattle.hub_tables.proofs.NextEventLemmas.{one_comes_next, one_after}
 use Rattle.hub_tables.proofs.tables.Tables.accept_events.Goals as goal
 

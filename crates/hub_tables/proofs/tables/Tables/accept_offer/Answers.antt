@@ -1,6 +1,4 @@
-use Rattle.std.proofs.Common.{refl, sym, ap, subst, ◌∙◌}
-use Rattle.hub_model.specs.HubState.{HubState}
-use Rattle.hub_tables.specs.TableStates.{TableEntries, table_state, IsAcceptable}
+use Rattle.hub_tables.proofs.Common.{refl, sym, ap, subst, ◌∙◌, HubState, TableEntries, table_state, IsAcceptable}
 use Rattle.hub_tables.proofs.AcceptanceLemmas.{same_known}
 use Rattle.hub_tables.proofs.tables.Tables.accept_offer.Goals as goal
 

@@ -1,13 +1,4 @@
-use Rattle.std.proofs.Common.{◌≡◌, Some, cond, map, sym, ap, subst, ◌∙◌}
-use Rattle.std.specs.Prelude.{nat_eq, bytes_eq, unwrap_or}
-use Rattle.std.specs.Option.{option_or}
-use Rattle.std.specs.Map.{lookup, update_all}
-use Rattle.trip_plan.specs.declared.parts.UnitLoad.{UnitLoad}
-use Rattle.taf_messages.specs.declared.message.Body.{Body}
-use Rattle.indexmap.specs.IndexMap.{insert_all}
-use Rattle.interchange.specs.OfferTable.{OfferTable, offer_of, is_standing}
-use Rattle.hub_model.specs.Updates.{offer_given, opening_given}
-use Rattle.hub_tables.specs.TableStates.{TableEntries, AreJourneyEntries}
+use Rattle.hub_tables.proofs.Common.{◌≡◌, Some, cond, map, sym, ap, subst, ◌∙◌, nat_eq, bytes_eq, unwrap_or, option_or, lookup, update_all, UnitLoad, Body, insert_all, OfferTable, offer_of, is_standing, offer_given, opening_given, TableEntries, AreJourneyEntries}
 use Rattle.hub_tables.proofs.NewJourneyLemmas.{begun, events_entered, entries_entered, keys_entered, plan_entered, unit_entered}
 use Rattle.hub_tables.proofs.tables.Tables.accept_plan.Goals as goal
 

@@ -1,10 +1,4 @@
-use Rattle.std.proofs.Common.{ℕ, ◌∷◌, [], ap, ◌∙◌}
-use Rattle.journey.specs.declared.event.Event.{Event}
-use Rattle.journey.specs.Journey.{Journey}
-use Rattle.journey.specs.Stages.{is_plan}
-use Rattle.eti_chain.specs.Estimates.{fits}
-use Rattle.hub_model.specs.HubState.{event_for}
-use Rattle.hub_tables.specs.TableStates.{table_state}
+use Rattle.hub_tables.proofs.Common.{ℕ, ◌∷◌, [], ap, ◌∙◌, Event, Journey, is_plan, fits, event_for, table_state}
 use Rattle.hub_tables.proofs.NextEventLemmas.{has_at}
 use Rattle.hub_tables.proofs.OfferLemmas.{made_more, made_all}
 use Rattle.hub_tables.proofs.tables.Tables.begun.Goals as goal

@@ -1,10 +1,4 @@
-use Rattle.std.proofs.Common.{ℕ, ◌^◌, List, length, map, sym, ap, subst, ◌∙◌}
-use Rattle.std.specs.Prelude.{fold, nat_lt}
-use Rattle.std.specs.List.{list_all}
-use Rattle.journey.specs.declared.event.Event.{Event}
-use Rattle.hub_model.specs.HubState.{event_for}
-use Rattle.hub_tables.specs.TableStates.{events_in, table_state}
-use Rattle.hub_tables.specs.Acceptance.{AreAdmitted, with_event_on}
+use Rattle.hub_tables.proofs.Common.{ℕ, ◌^◌, List, length, map, sym, ap, subst, ◌∙◌, fold, nat_lt, list_all, Event, event_for, events_in, table_state, AreAdmitted, with_event_on}
 use Rattle.hub_tables.proofs.NextEventLemmas.{next_admitted, next_after}
 use Rattle.hub_tables.proofs.tables.Tables.next_events.Goals as goal
 

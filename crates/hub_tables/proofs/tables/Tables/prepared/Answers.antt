@@ -1,7 +1,4 @@
-use Rattle.std.proofs.Common.{ℕ, ap, ◌∙◌}
-use Rattle.journey.specs.declared.event.Event.{Event}
-use Rattle.hub_model.specs.HubState.{event_for}
-use Rattle.hub_tables.specs.TableStates.{table_state}
+use Rattle.hub_tables.proofs.Common.{ℕ, ap, ◌∙◌, Event, event_for, table_state}
 use Rattle.hub_tables.proofs.OfferLemmas.{made_more, made_all}
 use Rattle.hub_tables.proofs.tables.Tables.prepared.Goals as goal
 

@@ -1,6 +1,4 @@
-use Rattle.std.proofs.Common.{◌≡◌, map, take}
-use Rattle.hub_model.specs.HubState.{event_for}
-use Rattle.hub_tables.specs.TableStates.{table_state}
+use Rattle.hub_tables.proofs.Common.{◌≡◌, map, take, event_for, table_state}
 use Rattle.hub_tables.proofs.tables.Tables.prepared.Given as goal
 
 abbrev pub invariant-loop-wagon : goal.invariant-loop-wagon

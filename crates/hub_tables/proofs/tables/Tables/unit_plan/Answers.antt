@@ -1,7 +1,4 @@
-use Rattle.std.proofs.Common.{◌∙◌, ap}
-use Rattle.std.specs.Map.{lookup}
-use Rattle.std.specs.Prelude.{bytes_eq}
-use Rattle.hub_tables.specs.TableStates.{TableEntries}
+use Rattle.hub_tables.proofs.Common.{◌∙◌, ap, lookup, bytes_eq, TableEntries}
 use Rattle.hub_tables.proofs.tables.Tables.unit_plan.Goals as goal
 
 pub returns : goal.returns

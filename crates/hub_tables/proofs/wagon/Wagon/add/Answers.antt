@@ -1,8 +1,4 @@
-use Rattle.std.proofs.Common.{◌≡◌, true, List, ◌++◌, ◌∷◌, [], Result, Ok, Err, OnOk, OnErr, ap, sym, ◌∙◌}
-use Rattle.journey.specs.declared.event.Event.{Event}
-use Rattle.journey.specs.Journey.{Journey}
-use Rattle.eti_chain.specs.Estimates.{fits}
-use Rattle.eti_chain.specs.EstimateStates.{EstimateAnchor, estimate_anchor}
+use Rattle.hub_tables.proofs.Common.{◌≡◌, true, List, ◌++◌, ◌∷◌, [], Result, Ok, Err, OnOk, OnErr, ap, sym, ◌∙◌, Event, Journey, fits, EstimateAnchor, estimate_anchor}
 use Rattle.hub_tables.proofs.wagon.Wagon.add.Goals as goal
 
 -- what is kept goes along with the track, or both stay

@@ -1,7 +1,4 @@
-use Rattle.std.proofs.Common.{◌++◌, ◌∷◌, [], ap, sym, ◌∙◌}
-use Rattle.journey.specs.Journey.{Journey}
-use Rattle.eti_chain.specs.Estimates.{fits}
-use Rattle.eti_chain.specs.EstimateStates.{estimate_anchor}
+use Rattle.hub_tables.proofs.Common.{◌++◌, ◌∷◌, [], ap, sym, ◌∙◌, Journey, fits, estimate_anchor}
 use Rattle.hub_tables.proofs.wagon.Wagon.put.Goals as goal
 
 pub invariant_of-self : goal.invariant_of-self

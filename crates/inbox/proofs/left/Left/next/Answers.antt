@@ -1,4 +1,4 @@
-use Rattle.std.proofs.Common.{◌∙◌, sym}
+use Rattle.inbox.proofs.Common.{◌∙◌, sym}
 use Rattle.inbox.proofs.CloseLemmas.{follows_some}
 use Rattle.inbox.proofs.left.Left.next.Goals as goal
 

@@ -1,10 +1,5 @@
-use Rattle.std.proofs.Common.{rules, ◌≡◌, ◌∷◌, map, sum_by, arith, None, ap, ◌∙◌}
-use Rattle.crossbeam_queue.specs.Passes.{view}
-use Rattle.inbox.specs.Rules.{pass_view}
-use Rattle.inbox.specs.States.{PassState, jobs_of}
+use Rattle.inbox.proofs.Common.{rules, ◌≡◌, ◌∷◌, map, sum_by, arith, None, ap, ◌∙◌, view, pass_view, PassState, jobs_of, YieldsList-end, YieldsList-from_vec}
 use Rattle.inbox.proofs.CloseLemmas.{first_rest, same_map, merges_on, whole, seals_on, closes}
-use Rattle.std.proofs.lemmas.Iterator.Consumers.{YieldsList-end}
-use Rattle.std.proofs.lemmas.Iterator.Adapters.{YieldsList-from_vec}
 use Rattle.inbox.proofs.queue.Inbox.close.Goals as goal
 
 pub absorb-requires-clause-rule : goal.absorb-requires-clause-rule

@@ -1,7 +1,4 @@
-use Rattle.std.proofs.Common.{◌≡◌, ◌+◌, ◌++◌, map, sum_by, None}
-use Rattle.crossbeam_queue.specs.Passes.{view, IsPassOf}
-use Rattle.inbox.specs.Rules.{pass_view}
-use Rattle.inbox.specs.States.{PassState, jobs_of}
+use Rattle.inbox.proofs.Common.{◌≡◌, ◌+◌, ◌++◌, map, sum_by, None, view, IsPassOf, pass_view, PassState, jobs_of}
 use Rattle.inbox.proofs.queue.Inbox.close.Given as goal
 
 -- the pass has the parts and the passes of the first pass and of those so far

@@ -1,4 +1,4 @@
-use Rattle.std.proofs.Common.{rules}
+use Rattle.inbox.proofs.Common.{rules}
 use Rattle.inbox.proofs.StepLemmas.{forks_alone}
 use Rattle.inbox.proofs.queue.Inbox.split_pass.Goals as goal
 

@@ -1,6 +1,4 @@
-use Rattle.std.proofs.Common.{◌≡◌, ap, sym, ◌∙◌, length, take, arith}
-use Rattle.std.proofs.lemmas.List.{length-take-le}
-use Rattle.journey.specs.Legs.{with_leg_minutes}
+use Rattle.journey.proofs.Common.{◌≡◌, ap, sym, ◌∙◌, length, take, arith, length-take-le, with_leg_minutes}
 use Rattle.journey.proofs.LegTimeLemmas.{with_leg_minutes-set, timed_past}
 use Rattle.journey.proofs.legs.Legs.time.Goals as goal
 

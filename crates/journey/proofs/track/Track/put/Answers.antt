@@ -1,8 +1,4 @@
-use Rattle.std.proofs.Common.{◌≡◌, length, ap, ◌∙◌}
-use Rattle.journey.specs.declared.journey_state.JourneyState.{JourneyState}
-use Rattle.journey.specs.Journey.{Journey}
-use Rattle.journey.specs.Checks.{refusal}
-use Rattle.journey.specs.JourneyStates.{journey_state_after}
+use Rattle.journey.proofs.Common.{◌≡◌, length, ap, ◌∙◌, JourneyState, Journey, refusal, journey_state_after}
 use Rattle.journey.proofs.SoundStateLemmas.{kept-push, room-kept}
 use Rattle.journey.proofs.track.Track.put.Goals as goal
 

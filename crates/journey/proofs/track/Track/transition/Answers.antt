@@ -1,7 +1,4 @@
-use Rattle.std.proofs.Common.{ap, ◌∙◌, [], ◌∷◌, ◌++◌}
-use Rattle.journey.specs.Journey.{Journey}
-use Rattle.journey.specs.Checks.{refusal}
-use Rattle.journey.specs.JourneyStates.{journey_state}
+use Rattle.journey.proofs.Common.{ap, ◌∙◌, [], ◌∷◌, ◌++◌, Journey, refusal, journey_state}
 use Rattle.journey.proofs.SoundStateLemmas.{kept-push}
 use Rattle.journey.proofs.track.Track.transition.Goals as goal
 

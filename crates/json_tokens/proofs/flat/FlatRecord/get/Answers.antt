@@ -1,5 +1,4 @@
-use Rattle.std.proofs.Common.{ap, option_map, ◌∙◌}
-use Rattle.json_tokens.specs.Flat.{last_under, scalar_data}
+use Rattle.json_tokens.proofs.Common.{ap, option_map, ◌∙◌, last_under, scalar_data}
 use Rattle.json_tokens.proofs.FlatLemmas.{flat_get}
 use Rattle.json_tokens.proofs.flat.FlatRecord.get.Goals as goal
 

@@ -1,5 +1,4 @@
-use Rattle.std.proofs.Common.{refl, subst}
-use Rattle.json_tokens.specs.Tapes.{IsSimpleAt}
+use Rattle.json_tokens.proofs.Common.{refl, subst, IsSimpleAt}
 use Rattle.json_tokens.proofs.TapeReadLemmas.{taped}
 use Rattle.json_tokens.proofs.tape.JsonTape.read.Goals as goal
 

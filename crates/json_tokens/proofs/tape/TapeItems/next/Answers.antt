@@ -1,4 +1,4 @@
-use Rattle.std.proofs.Common.{Some, None}
+use Rattle.json_tokens.proofs.Common.{Some, None}
 use Rattle.json_tokens.proofs.TapeFindLemmas.{item_taken, still_read}
 use Rattle.json_tokens.proofs.tape.TapeItems.next.Goals as goal
 

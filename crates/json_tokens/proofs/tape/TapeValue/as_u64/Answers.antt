@@ -1,4 +1,4 @@
-use Rattle.std.proofs.Common.{Some, None, ◌∙◌}
+use Rattle.json_tokens.proofs.Common.{Some, None, ◌∙◌}
 use Rattle.json_tokens.proofs.TapeFindLemmas.{number_found}
 use Rattle.json_tokens.proofs.tape.TapeValue.as_u64.Goals as goal
 

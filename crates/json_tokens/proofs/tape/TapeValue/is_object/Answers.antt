@@ -1,4 +1,4 @@
-use Rattle.std.proofs.Common.{◌∙◌}
+use Rattle.json_tokens.proofs.Common.{◌∙◌}
 use Rattle.json_tokens.proofs.TapeFindLemmas.{object_found}
 use Rattle.json_tokens.proofs.tape.TapeValue.is_object.Goals as goal
 

@@ -1,4 +1,4 @@
-use Rattle.std.proofs.Common.{Some, None}
+use Rattle.json_tokens.proofs.Common.{Some, None}
 use Rattle.json_tokens.proofs.TapeFindLemmas.{items_found}
 use Rattle.json_tokens.proofs.tape.TapeValue.items.Goals as goal
 

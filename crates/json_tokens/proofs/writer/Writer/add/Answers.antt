@@ -1,5 +1,4 @@
-use Rattle.std.proofs.Common.{◌∷◌, [], ◌++◌, cond, refl, ap, ◌∙◌}
-use Rattle.json.specs.Reads.{token_of}
+use Rattle.json_tokens.proofs.Common.{◌∷◌, [], ◌++◌, cond, refl, ap, ◌∙◌, token_of}
 use Rattle.json_tokens.proofs.WritingLemmas.{pushed, pushed_tokens, pushed_before, printable, small}
 use Rattle.json_tokens.proofs.writer.Writer.add.Goals as goal
 

@@ -1,6 +1,4 @@
-use Rattle.std.proofs.Common.{◌≡◌, ◌++◌, sym, ap, ◌∙◌, subst, take, take-append-drop}
-use Rattle.json.specs.Print.{print}
-use Rattle.json_tokens.specs.Texts.{AreSmall}
+use Rattle.json_tokens.proofs.Common.{◌≡◌, ◌++◌, sym, ap, ◌∙◌, subst, take, take-append-drop, print, AreSmall}
 use Rattle.json_tokens.proofs.WritingLemmas.{shows_printed}
 use Rattle.json_tokens.proofs.writer.Writer.into_inner.Goals as goal
 

@@ -1,9 +1,4 @@
-use Rattle.std.proofs.Common.{[], rules, refl, ap}
-use Rattle.std.proofs.lemmas.List.{drop_all}
-use Rattle.std.proofs.lemmas.List.Elements.{All-nil}
-use Rattle.json.specs.Lex.{tokens, lex, punctuate}
-use Rattle.json.specs.Print.{print_from, ArePrintable}
-use Rattle.json_tokens.specs.Texts.{IsSmallToken}
+use Rattle.json_tokens.proofs.Common.{[], rules, refl, ap, drop_all, All-nil, tokens, lex, punctuate, print_from, ArePrintable, IsSmallToken}
 use Rattle.json_tokens.proofs.writer.Writer.new.Goals as goal
 
 pub invariant_of-result : goal.invariant_of-result

@@ -1,6 +1,4 @@
-use Rattle.std.proofs.Common.{ℕ, Option, Some, cond, ap, ◌∙◌}
-use Rattle.taf_codes.specs.declared.code.Railway.{Railway}
-use Rattle.replay_numbers.specs.Names.{same_name}
+use Rattle.replay_numbers.proofs.Common.{ℕ, Option, Some, cond, ap, ◌∙◌, Railway, same_name}
 use Rattle.replay_numbers.proofs.seen.Seen.note.Goals as goal
 
 pub note_reserved-requires-clause-new : goal.note_reserved-requires-clause-new

@@ -1,5 +1,4 @@
-use Rattle.std.proofs.Common.{◌∙◌, ap}
-use Rattle.replay_numbers.specs.SentPositions.{position_of}
+use Rattle.replay_numbers.proofs.Common.{◌∙◌, ap, position_of}
 use Rattle.replay_numbers.proofs.seen.Seen.reserve.Goals as goal
 
 pub returns-clause-positions : goal.returns-clause-positions

@@ -1,4 +1,4 @@
-use Rattle.reply_writer.specs.Shapes.{leg_fields}
+use Rattle.reply_writer.proofs.Common.{leg_fields}
 use Rattle.reply_writer.proofs.put.LegObject.put_members.Goals as goal
 
 pub returns-clause-ok : goal.returns-clause-ok

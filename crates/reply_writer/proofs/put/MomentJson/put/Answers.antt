@@ -1,5 +1,4 @@
-use Rattle.std.proofs.Common.{◌≡◌, true, sym, subst}
-use Rattle.json_tokens.specs.Writing.{is_plain}
+use Rattle.reply_writer.proofs.Common.{◌≡◌, true, sym, subst, is_plain}
 use Rattle.reply_writer.proofs.PlainTextLemmas.{moment_is_plain}
 use Rattle.reply_writer.proofs.put.MomentJson.put.Goals as goal
 

@@ -1,6 +1,4 @@
-use Rattle.std.specs.Prelude.{map}
-use Rattle.std.proofs.lemmas.Result.{on_ok_weaker}
-use Rattle.json_tokens.proofs.TextLemmas.{adds_array}
+use Rattle.reply_writer.proofs.Common.{map, on_ok_weaker, adds_array}
 use Rattle.reply_writer.proofs.put.RefSliceJson.put.Goals as goal
 
 pub returns-clause-ok : goal.returns-clause-ok

@@ -1,6 +1,4 @@
-use Rattle.std.proofs.Common.{ℕ, List, OnOk, subst}
-use Rattle.json_tokens.specs.Texts.{AddsData, list_of}
-use Rattle.reply_writer.specs.Shapes.{wagon_text}
+use Rattle.reply_writer.proofs.Common.{ℕ, List, OnOk, subst, AddsData, list_of, wagon_text}
 use Rattle.reply_writer.proofs.put.WagonsJson.put.Goals as goal
 
 pub returns-clause-ok : goal.returns-clause-ok

@@ -1,5 +1,4 @@
-use Rattle.std.proofs.Common.{◌∙◌, sym}
-use Rattle.reply_writer.specs.Shapes.{body_fields}
+use Rattle.reply_writer.proofs.Common.{◌∙◌, sym, body_fields}
 use Rattle.reply_writer.proofs.put_message.MessageObject.put_members.Goals as goal
 
 pub returns-in_ok-put_field-in-EtiAsk-4-clause-ok : goal.returns-in_ok-put_field-in-EtiAsk-4-clause-ok

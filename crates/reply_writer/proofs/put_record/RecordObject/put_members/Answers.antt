@@ -1,6 +1,4 @@
-use Rattle.std.specs.Prelude.{◌++◌}
-use Rattle.reply_writer.specs.RecordShapes.{first_record_fields, middle_record_fields, last_record_fields}
-use Rattle.json_tokens.proofs.TextLemmas.{adds_more}
+use Rattle.reply_writer.proofs.Common.{◌++◌, first_record_fields, middle_record_fields, last_record_fields, adds_more}
 use Rattle.reply_writer.proofs.put_record.RecordObject.put_members.Goals as goal
 
 pub returns-clause-ok : goal.returns-clause-ok

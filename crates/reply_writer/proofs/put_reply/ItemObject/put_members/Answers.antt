@@ -1,4 +1,4 @@
-use Rattle.reply_writer.specs.ReplyShapes.{item_fields}
+use Rattle.reply_writer.proofs.Common.{item_fields}
 use Rattle.reply_writer.proofs.put_reply.ItemObject.put_members.Goals as goal
 
 pub returns-in_ok-put_text-in-Notice-clause-ok : goal.returns-in_ok-put_text-in-Notice-clause-ok

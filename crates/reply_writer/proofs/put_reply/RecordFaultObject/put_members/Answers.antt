@@ -1,4 +1,4 @@
-use Rattle.reply_writer.specs.ReplyShapes.{fault_fields}
+use Rattle.reply_writer.proofs.Common.{fault_fields}
 use Rattle.reply_writer.proofs.put_reply.RecordFaultObject.put_members.Goals as goal
 
 pub returns-in-BadJson-clause-ok : goal.returns-in-BadJson-clause-ok

@@ -1,4 +1,4 @@
-use Rattle.reply_writer.specs.ReplyShapes.{reply_fields}
+use Rattle.reply_writer.proofs.Common.{reply_fields}
 use Rattle.reply_writer.proofs.put_reply.ReplyObject.put_members.Goals as goal
 
 pub returns-in_ok-put_text-in-Acknowledged-clause-ok : goal.returns-in_ok-put_text-in-Acknowledged-clause-ok

@@ -1,4 +1,4 @@
-use Rattle.std.proofs.Common.{◌≡◌}
+use Rattle.session_lanes.proofs.Common.{◌≡◌}
 use Rattle.session_lanes.proofs.port.ShiftPortPort.send.Given as goal
 
 -- nothing has changed so far, and the job is the one that came

@@ -1,4 +1,4 @@
-use Rattle.std.proofs.Common.{◌≡◌}
+use Rattle.session_lanes.proofs.Common.{◌≡◌}
 use Rattle.session_lanes.proofs.queues.JobQueue.next.Given as goal
 
 -- nothing was taken so far

@@ -1,5 +1,4 @@
-use Rattle.std.proofs.Common.{rules, ◌∙◌, ◌+◌, ◌≤◌, sym, ap, arith, length}
-use Rattle.session_lines.specs.States.{State, jobs_out}
+use Rattle.session_lines.proofs.Common.{rules, ◌∙◌, ◌+◌, ◌≤◌, sym, ap, arith, length, State, jobs_out}
 use Rattle.session_lines.proofs.SlotLemmas.{jobs_out-job, jobs_out-within}
 use Rattle.session_lines.proofs.session.Session.on_call.Goals as goal
 

@@ -1,5 +1,4 @@
-use Rattle.std.proofs.Common.{rules, ◌∙◌, sym, ap, arith}
-use Rattle.session_lines.specs.States.{State, jobs_out}
+use Rattle.session_lines.proofs.Common.{rules, ◌∙◌, sym, ap, arith, State, jobs_out}
 use Rattle.session_lines.proofs.SlotLemmas.{jobs_out-held}
 use Rattle.session_lines.proofs.session.Session.say.Goals as goal
 

@@ -1,5 +1,4 @@
-use Rattle.std.proofs.Common.{rules}
-use Rattle.std.proofs.lemmas.Nat.{le_bytes_4}
+use Rattle.taf_codes.proofs.Common.{rules, le_bytes_4}
 use Rattle.taf_codes.proofs.code.Railway.number.Goals as goal
 
 pub returns-clause-back : goal.returns-clause-back

@@ -1,5 +1,4 @@
-use Rattle.std.proofs.Common.{sym, ◌∙◌, ap, ◌++◌, drop, length}
-use Rattle.std.specs.Prelude.{replicate}
+use Rattle.taf_codes.proofs.Common.{sym, ◌∙◌, ap, ◌++◌, drop, length, replicate}
 use Rattle.taf_codes.proofs.NameLemmas.{keeps_name}
 use Rattle.taf_codes.proofs.name_text.NameText.read.Goals as goal
 

@@ -1,7 +1,4 @@
-use Rattle.std.proofs.Common.{◌≡◌, pos, unsigned_abs, to_z, of_z, w16, rules, arith}
-use Rattle.std.proofs.lemmas.Int.{ints}
-use Rattle.jiff_core.specs.Date.{epoch_day}
-use Rattle.taf_moment.specs.Calendar.{date_after}
+use Rattle.taf_moment.proofs.Common.{◌≡◌, pos, unsigned_abs, to_z, of_z, w16, rules, arith, ints, epoch_day, date_after}
 use Rattle.taf_moment.proofs.DateLemmas.{date_after-epoch_day, date_after-is}
 use Rattle.taf_moment.proofs.date.CalendarDate.after.Goals as goal
 

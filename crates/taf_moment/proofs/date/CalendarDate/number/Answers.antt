@@ -1,6 +1,4 @@
-use Rattle.std.proofs.Common.{rules, arith, Some, sym, ◌∙◌, ap}
-use Rattle.std.proofs.lemmas.Int.{ints}
-use Rattle.std.proofs.lemmas.Bool.{cond-true}
+use Rattle.taf_moment.proofs.Common.{rules, arith, Some, sym, ◌∙◌, ap, ints, cond-true}
 use Rattle.taf_moment.proofs.DateLemmas.{epoch_day-is, day_number-bound, test_from_calendar_date}
 use Rattle.taf_moment.proofs.date.CalendarDate.number.Goals as goal
 

@@ -1,4 +1,4 @@
-use Rattle.std.proofs.lemmas.Str.{IsUtf8-from_ascii}
+use Rattle.taf_moment.proofs.Common.{IsUtf8-from_ascii}
 use Rattle.taf_moment.proofs.text.MomentText.as_str.Goals as goal
 
 pub from_utf8_unchecked-requires : goal.from_utf8_unchecked-requires

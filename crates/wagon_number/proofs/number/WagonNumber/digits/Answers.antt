@@ -1,5 +1,4 @@
-use Rattle.std.proofs.Common.{ap, ◌∙◌}
-use Rattle.wagon_number.specs.Digits.{digits_of, number_in, shown_digits}
+use Rattle.wagon_number.proofs.Common.{ap, ◌∙◌, digits_of, number_in, shown_digits}
 use Rattle.wagon_number.proofs.DigitLemmas.{last_digits-below_ten, number_gives_the_digits}
 use Rattle.wagon_number.proofs.TextLemmas.{letters-are_digits, shown_digits-letters}
 use Rattle.wagon_number.proofs.number.WagonNumber.digits.Goals as goal

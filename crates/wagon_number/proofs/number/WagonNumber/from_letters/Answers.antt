@@ -1,5 +1,4 @@
-use Rattle.std.proofs.Common.{◌≤◌, ◌<◌, sym, ◌∙◌, arith, rules}
-use Rattle.std.proofs.lemmas.List.Elements.{All-take, All-weaker}
+use Rattle.wagon_number.proofs.Common.{◌≤◌, ◌<◌, sym, ◌∙◌, arith, rules, All-take, All-weaker}
 use Rattle.wagon_number.proofs.DigitLemmas.{digits_give_the_number}
 use Rattle.wagon_number.proofs.TextLemmas.{shown_digits-below_ten}
 use Rattle.wagon_number.proofs.number.WagonNumber.from_letters.Goals as goal

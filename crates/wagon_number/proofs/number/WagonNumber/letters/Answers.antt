@@ -1,5 +1,4 @@
-use Rattle.std.proofs.Common.{ap, ◌∙◌}
-use Rattle.wagon_number.specs.Digits.{digits_of, text_of}
+use Rattle.wagon_number.proofs.Common.{ap, ◌∙◌, digits_of, text_of}
 use Rattle.wagon_number.proofs.DigitLemmas.{last_digits-below_ten}
 use Rattle.wagon_number.proofs.TextLemmas.{IsAscii-letters}
 use Rattle.wagon_number.proofs.number.WagonNumber.letters.Goals as goal

@@ -1,5 +1,4 @@
-use Rattle.std.proofs.Common.{◌≡◌, length, sym, ◌∙◌, ap}
-use Rattle.wagon_number.specs.Digits.{with_marks}
+use Rattle.wagon_number.proofs.Common.{◌≡◌, length, sym, ◌∙◌, ap, with_marks}
 use Rattle.wagon_number.proofs.TextLemmas.{length-text_of}
 use Rattle.wagon_number.proofs.MarkLemmas.{marked_is, IsAscii-spaced}
 use Rattle.wagon_number.proofs.number.WagonNumber.marked_letters.Goals as goal

@@ -1,5 +1,4 @@
-use Rattle.std.proofs.Common.{◌≡◌, true}
-use Rattle.wagon_number.specs.Digits.{has_marks}
+use Rattle.wagon_number.proofs.Common.{◌≡◌, true, has_marks}
 use Rattle.wagon_number.proofs.MarkLemmas.{marked_number_of-unspaced}
 use Rattle.wagon_number.proofs.number.WagonNumber.read_marked.Goals as goal
 

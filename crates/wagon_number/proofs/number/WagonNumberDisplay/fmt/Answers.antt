@@ -1,5 +1,4 @@
-use Rattle.std.proofs.Common.{rules}
-use Rattle.std.proofs.lemmas.Str.{IsUtf8-from_ascii}
+use Rattle.wagon_number.proofs.Common.{rules, IsUtf8-from_ascii}
 use Rattle.wagon_number.proofs.number.WagonNumberDisplay.fmt.Goals as goal
 
 pub unwrap-requires : goal.unwrap-requires

@@ -1,18 +1,4 @@
-use Rattle.std.proofs.Common.{rules, arith, ap, sym, refl, subst, true, ◌∙◌, ◌≡◌, ℕ, ◌+◌, ◌%◌, ◌≤◌, [], ◌∷◌, ◌++◌, length, length-append, vec_len, vec_capacity}
-use Rattle.std.proofs.lemmas.List.{map-id}
-use Rattle.std.proofs.lemmas.Iterator.Consumers.{YieldsList-turn, YieldsList-end}
-use Rattle.std.proofs.lemmas.Iterator.Adapters.{YieldsList-from_vec}
-use Rattle.std.specs.declared.thread.PromisedHandle.{PromisedHandle}
-use Rattle.inbox.specs.States.{PassState}
-use Rattle.session_lanes.specs.declared.ends.SessionStart.{SessionStart}
-use Rattle.session_lanes.specs.declared.ends.Served.{Served}
-use Rattle.session_lanes.specs.Lanes.{IsPassOf, EachPair}
-use Rattle.session_lanes.specs.Ends.{IsServed}
-use Rattle.hub_shared.specs.Seats.{new_seat}
-use Rattle.hub_shifts.specs.declared.promises.ServedBy.{ServedBy}
-use Rattle.hub_workers.specs.declared.worker.Worker.{Worker}
-use Rattle.hub_shifts.specs.declared.promises.WorkedBy.{WorkedBy}
-use Rattle.hub_workers.specs.Work.{IsWorked}
+use Rattle.hub_shifts.proofs.Common.{rules, arith, ap, sym, refl, subst, true, ◌∙◌, ◌≡◌, ℕ, ◌+◌, ◌%◌, ◌≤◌, [], ◌∷◌, ◌++◌, length, length-append, vec_len, vec_capacity, map-id, YieldsList-turn, YieldsList-end, YieldsList-from_vec, PromisedHandle, PassState, SessionStart, Served, IsPassOf, EachPair, IsServed, new_seat, ServedBy, Worker, WorkedBy, IsWorked}
 use Rattle.hub_shifts.proofs.ThreadLemmas.{through, another_handle, if_ok_two}
 use Rattle.hub_shifts.proofs.threads.fn.run_threads.scope.Goals as goal
 use Rattle.hub_shifts.proofs.threads.fn.run_threads.scope.Goals.{in-Ok, in-Err, in-Ok-spawn_with, in-Err-spawn_with}

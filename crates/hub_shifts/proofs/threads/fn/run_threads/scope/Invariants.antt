@@ -1,5 +1,4 @@
-use Rattle.std.proofs.Common.{◌≡◌, ◌≤◌, true, length, vec_len, vec_capacity}
-use Rattle.session_lanes.specs.Lanes.{EachPair}
+use Rattle.hub_shifts.proofs.Common.{◌≡◌, ◌≤◌, true, length, vec_len, vec_capacity, EachPair}
 use Rattle.hub_shifts.proofs.threads.fn.run_threads.scope.Given as goal
 
 -- while no thread is missing, the handle at each place is of the worker at that place
