@@ -24,7 +24,7 @@ pub use Rattle.taf_messages.specs.declared.reply.Why.TheVariants.{UnknownWagon}
 pub use Rattle.history_pages.specs.Paged.{Paged}
 pub use Rattle.history_pages.proofs.EntryLemmas.{slice_get-left}
 pub use Rattle.replay_numbers.specs.Names.{same_name}
-pub use Rattle.replay_numbers.specs.SentPositions.{position_of}
+pub use Rattle.replay_numbers.specs.SentPositions.{SentStates, has_room, position_of}
 pub use Rattle.outbox.specs.Keeping.{Keeps, LastCounts, Acknowledges, PushesLast}
 pub use Rattle.outbox.specs.OutboxStates.{OutboxState, BoxState, outbox_state_of, last_of, acknowledged_up_to, room_for, with_items, first_items}
 pub use Rattle.outbox.specs.declared.fault.AckAhead.{AckAhead}

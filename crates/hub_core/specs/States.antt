@@ -1,5 +1,5 @@
 -- When the hub's state is consistent with its history.
-use Rattle.std.specs.Prelude.{◌≡◌, ℕ, ◌<◌, ◌≤◌, List, [], ◌∷◌, ◌++◌, length, slice_get, Option, Some, None, Result, Ok, Err, IfOk, OnErr}
+use Rattle.std.specs.Prelude.{◌≡◌, ℕ, ◌<◌, ◌≤◌, true, List, [], ◌∷◌, ◌++◌, length, slice_get, Option, Some, None, Result, Ok, Err, IfOk, OnErr}
 use Rattle.taf_codes.specs.declared.memory.Memory.{Memory}
 use Rattle.taf_codes.specs.declared.code.Railway.{Railway}
 use Rattle.taf_messages.specs.declared.call.Call.{Call}
@@ -11,7 +11,7 @@ use Rattle.taf_messages.specs.declared.reply.Why.TheVariants as why
 use Rattle.outbox.specs.declared.fault.AckAhead.{AckAhead}
 use Rattle.outbox.specs.OutboxStates.{OutboxState, outbox_state_of}
 use Rattle.outbox.specs.Keeping.{Keeps}
-use Rattle.replay_numbers.specs.SentPositions.{position_of}
+use Rattle.replay_numbers.specs.SentPositions.{position_of, has_room}
 use Rattle.hub_model.specs.declared.entry.Entry.{Entry}
 use Rattle.taf_messages.specs.Bodies.{moment_in}
 use Rattle.hub_model.specs.HubState.{HubState, FirstSend}
@@ -58,9 +58,9 @@ IsConsistent b = Represents b.history.entries (table_state b.tables) (position_o
 abbrev pub MayTake : State → Type 0
 MayTake b = IsConsistent b × (length b.history.entries < 1000000)
 
--- the name of the message was not used before, and the message keeps the limits of its parts
+-- the name of the message was not used before, the message keeps the limits of its parts, and there is room to note the name
 abbrev pub IsNew : State → Message → Type 0
-IsNew b m = (position_of b.seen m.by m.no ≡ None) × KeepsLimits m
+IsNew b m = (position_of b.seen m.by m.no ≡ None) × KeepsLimits m × (has_room b.seen m.by m.no ≡ true)
 
 -- the call was applied: the state represents the new history, the reply is the answer, and the history grew by exactly
 -- both; where memory is refused the history is as it was

@@ -19,21 +19,19 @@ use std::alloc::Global;
 use taf_codes::{Memory, Railway};
 use taf_messages::{Message, MessageNumber, Reply, Shared};
 
-// Makes room for one entry more, its name and the items in the list. Nothing that is looked up changes.
-fn make_room(state: &mut State, by: Railway, no: MessageNumber) -> Result<(), Memory>
+// Makes room for one entry more and for the items in the list. Nothing that is looked up changes.
+fn make_room(state: &mut State) -> Result<(), Memory>
     ensures entries { state.new.history.entries ≡ state.old.history.entries }
     ensures tables { state.new.tables ≡ state.old.tables }
-    ensures positions { position_of state.new.seen ≡ position_of state.old.seen }
+    ensures seen { state.new.seen ≡ state.old.seen }
     ensures boxes { (r : Railway) → outbox_state_of state.new.outboxes r
         ≡ outbox_state_of state.old.outboxes r }
     ensures items { state.new.items.items ≡ state.old.items.items }
     ensures ready { OnOk result (AreReady state.new.outboxes (2 ^ 62)
         (length state.new.items.items) state.new.items.items) }
     ensures room { OnOk result (0 < state.new.history.spare) }
-    ensures name { OnOk result (has_room state.new.seen by no ≡ true) }
 {
     make_room_for(&mut state.outboxes, &state.items)?;
-    state.seen.reserve(by, no)?;
     state.history.reserve()?;
     Ok(())
 }
@@ -65,7 +63,7 @@ pub(crate) fn accept(
         &message,
         event.as_ref(),
     )?;
-    make_room(state, by, no)?;
+    make_room(state)?;
     state.tables.accept(alloc, sent, event)?;
     deliver(&mut state.outboxes, &mut state.items);
     let position = state.history.len() as u64;

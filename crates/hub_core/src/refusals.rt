@@ -27,7 +27,6 @@ pub(crate) fn refuse(
     let no = content.no;
     let reply = verdict(no, Some(found));
     let reply_copy = copy_reply(&reply)?;
-    state.seen.reserve(by, no)?;
     state.history.reserve()?;
     let position = state.history.len() as u64;
     state.seen.note_reserved(by, no, position);

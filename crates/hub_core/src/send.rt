@@ -69,7 +69,7 @@ pub(crate) fn apply_send(
     let sent = message.get();
     note_moment(sent);
     note_lists(sent);
-    match state.seen.find(sent.by(), sent.no()) {
+    match state.seen.find_or_make_room(sent.by(), sent.no())? {
         Some(position) => apply_repeat(state, position, message),
         None => apply_new(alloc, state, message),
     }

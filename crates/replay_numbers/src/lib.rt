@@ -8,8 +8,8 @@
 //! number that comes before, or is far behind the row's end, lies aside.
 //!
 //! In contracts a value is known by `position_of`, the position that was noted for a name, and by `has_room`, whether a name
-//! can be noted without memory. What must not fail is done in two steps: [`Seen::reserve`] first, which may be refused, and
-//! [`Seen::note_reserved`], which may not.
+//! can be noted without memory. What must not fail is done in two steps: [`Seen::find_or_make_room`] first, which may be refused
+//! memory, and [`Seen::note_reserved`], which takes none.
 #![tactic(auto)]
 
 mod railways;

@@ -1,5 +1,5 @@
 //! The table of the railways that sent messages.
-ghost use Rattle.std.specs.Prelude.{◌≡◌, ℕ, true, Some, None, OnOk, IsOk, if◌then◌else◌};
+ghost use Rattle.std.specs.Prelude.{◌≡◌, ℕ, true, Some, None, IfOk, IsOk, if◌then◌else◌};
 ghost use Rattle.taf_codes.specs.declared.code.Railway.{Railway};
 ghost use Rattle.replay_numbers.specs.Names.{same_name};
 ghost use Rattle.replay_numbers.specs.SentPositions.{position_of, has_room};
@@ -20,22 +20,28 @@ pub(crate) fn find(railways: &Railways, by: Railway, number: u64) -> Option<u64>
     }
 }
 
-/// Makes room for a name, where there is none.
-pub(crate) fn reserve(railways: &mut Railways, by: Railway, number: u64) -> Result<(), Memory>
+/// The position that was noted for a name. Where there is none, room is made for it.
+pub(crate) fn find_or_make_room(
+    railways: &mut Railways,
+    by: Railway,
+    number: u64,
+) -> Result<Option<u64>, Memory>
     ensures positions { (also : Railway) (n : ℕ) → position_of railways.new.entries also n
         ≡ position_of railways.old.entries also n }
     ensures stay_roomy { (also : Railway) (n : ℕ) → has_room railways.old.entries also n ≡ true
         → has_room railways.new.entries also n ≡ true }
-    ensures ok { OnOk result (has_room railways.new.entries by number ≡ true) }
+    ensures found { IfOk result (λ found. found ≡ position_of railways.old.entries by number) }
+    ensures room { IfOk result (λ found. found ≡ None
+        → has_room railways.new.entries by number ≡ true) }
     ensures succeeds { has_room railways.old.entries by number ≡ true → IsOk result }
 {
     if let Some(sent) = railways.get_mut(&by) {
-        return sent.reserve(number);
+        return sent.find_or_make_room(number);
     }
     let mut sent = Sent::new(*railways.allocator(), number);
     sent.reserve(number)?;
     railways.insert(by, sent)?;
-    Ok(())
+    Ok(None)
 }
 
 /// Notes the position of a name that is new, for which there is room.

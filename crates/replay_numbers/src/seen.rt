@@ -1,4 +1,4 @@
-ghost use Rattle.std.specs.Prelude.{◌≡◌, ℕ, true, Some, None, OnOk, OnErr, IsOk, if◌then◌else◌};
+ghost use Rattle.std.specs.Prelude.{◌≡◌, ℕ, true, Some, None, IfOk, OnOk, OnErr, IsOk, if◌then◌else◌};
 ghost use Rattle.taf_codes.specs.declared.code.Railway.{Railway};
 ghost use Rattle.replay_numbers.specs.Names.{same_name};
 ghost use Rattle.replay_numbers.specs.SentPositions.{position_of, has_room};
@@ -41,15 +41,21 @@ impl Seen {
         railways::find(&self.railways, by, number.get())
     }
 
-    /// Makes room for a name, where there is none. What was noted stays, also where memory is refused.
-    pub fn reserve(&mut self, by: Railway, number: MessageNumber) -> Result<(), Memory>
+    /// The position that was noted for a name. Where there is none, room is made for the name. What was noted stays, also
+    /// where memory is refused.
+    pub fn find_or_make_room(
+        &mut self,
+        by: Railway,
+        number: MessageNumber,
+    ) -> Result<Option<u64>, Memory>
         ensures positions { position_of self.new ≡ position_of self.old }
         ensures stay_roomy { (also : Railway) (n : ℕ) → has_room self.old also n ≡ true
             → has_room self.new also n ≡ true }
-        ensures ok { OnOk result (has_room self.new by number ≡ true) }
+        ensures found { IfOk result (λ found. found ≡ position_of self.old by number) }
+        ensures room { IfOk result (λ found. found ≡ None → has_room self.new by number ≡ true) }
         ensures succeeds { has_room self.old by number ≡ true → IsOk result }
     {
-        railways::reserve(&mut self.railways, by, number.get())
+        railways::find_or_make_room(&mut self.railways, by, number.get())
     }
 
     /// Notes the position of a name that is new, for which there is room. Takes no memory.
@@ -72,7 +78,7 @@ impl Seen {
         ensures succeeds { has_room self.old by number ≡ true → IsOk result }
         ensures err { OnErr result (position_of self.new ≡ position_of self.old) }
     {
-        self.reserve(by, number)?;
+        self.find_or_make_room(by, number)?;
         self.note_reserved(by, number, position);
         Ok(())
     }

@@ -1,5 +1,5 @@
 //! What one railway sent.
-ghost use Rattle.std.specs.Prelude.{◌≡◌, ℕ, ◌==◌, ◌-◌, ◌<◌, ◌≤◌, true, Some, None, nat_le, nat_lt, ◌&&◌, ◌+◌, length, slice_get, OnOk, IsOk, if◌then◌else◌};
+ghost use Rattle.std.specs.Prelude.{◌≡◌, ℕ, ◌==◌, ◌-◌, ◌<◌, ◌≤◌, true, Some, None, nat_le, nat_lt, ◌&&◌, ◌+◌, length, slice_get, IfOk, OnOk, IsOk, if◌then◌else◌};
 ghost use Rattle.std.specs.Option.{option_flatten};
 ghost use Rattle.replay_numbers.specs.SentPositions.{in_row, position_in, has_place, has_room_in};
 
@@ -94,6 +94,22 @@ impl Sent {
         }
         self.aside.reserve(1)?;
         Ok(())
+    }
+
+    /// The position that was noted for a number. Where there is none, room is made for it.
+    pub(crate) fn find_or_make_room(&mut self, number: u64) -> Result<Option<u64>, Memory>
+        ensures positions { (n : ℕ) → position_in self.new n ≡ position_in self.old n }
+        ensures stay_roomy { (n : ℕ) → has_room_in self.old n ≡ true → has_room_in self.new n
+            ≡ true }
+        ensures found { IfOk result (λ found. found ≡ position_in self.old number) }
+        ensures room { IfOk result (λ found. found ≡ None → has_room_in self.new number ≡ true) }
+        ensures succeeds { has_room_in self.old number ≡ true → IsOk result }
+    {
+        let found = self.find(number);
+        if found.is_none() {
+            self.reserve(number)?;
+        }
+        Ok(found)
     }
 
     // Whether a number comes soon behind the row.

@@ -1,4 +1,4 @@
-use Rattle.hub_core.proofs.Common.{rules, ◌≡◌, ℕ, List, [], ◌∷◌, ◌++◌, Option, Some, None, cond, length, ap, ◌∙◌, ◌<◌, ◌^◌, sym, subst, Send, Message, Reply, Accepted, Paged, same_name, position_of, Railway, OutboxState, outbox_state_of, with_items, Entry, AddressedItem, items_to, after_acceptance, TableEntries, table_state, table_part, event_alone, Represents}
+use Rattle.hub_core.proofs.Common.{rules, ◌≡◌, ℕ, List, [], ◌∷◌, ◌++◌, Option, Some, None, cond, length, ap, ◌∙◌, ◌<◌, ◌^◌, sym, subst, Send, Message, Reply, Accepted, Paged, same_name, position_of, has_room, SentStates, Railway, OutboxState, outbox_state_of, with_items, Entry, AddressedItem, items_to, after_acceptance, TableEntries, table_state, table_part, event_alone, Represents}
 use Rattle.hub_core.proofs.HistoryLemmas.{kept_same}
 use Rattle.hub_core.proofs.SendLemmas.{few_items, new_answer, kept_accepted}
 use Rattle.hub_core.proofs.acceptance.accept.Goals as goal
@@ -17,7 +17,7 @@ returns-in_err-make_room c = record {
       let r = c.in_err-make_room.ensures in
       subst (λ (es : List Entry). Represents es (table_state n.tables) (position_of n.seen) (outbox_state_of n.outboxes)) (sym r.entries)
       (kept_same b.history.entries (table_state b.tables) (table_state n.tables) (position_of b.seen) (position_of n.seen) (outbox_state_of b.outboxes) (outbox_state_of n.outboxes)
-      (ap table_state r.tables) (λ by k i. r.positions i by k) r.boxes c.requires.ready.0);
+      (ap table_state r.tables) (λ by k. ap (λ (t : SentStates). position_of t by k) r.seen) r.boxes c.requires.ready.0);
   answered = search rules;
   grows = search rules;
   err = search rules;
@@ -30,7 +30,7 @@ returns-in_err-accept c = record {
       let r = c.in_ok-make_room.ensures in
       subst (λ (es : List Entry). Represents es (table_state c.accept.new.self) (position_of n.seen) (outbox_state_of n.outboxes)) (sym r.entries)
       (kept_same b.history.entries (table_state b.tables) (table_state c.accept.new.self) (position_of b.seen) (position_of n.seen) (outbox_state_of b.outboxes) (outbox_state_of n.outboxes)
-      (c.in_err-accept.ensures.err ∙ ap table_state r.tables) (λ by k i. r.positions i by k) r.boxes c.requires.ready.0);
+      (c.in_err-accept.ensures.err ∙ ap table_state r.tables) (λ by k. ap (λ (t : SentStates). position_of t by k) r.seen) r.boxes c.requires.ready.0);
   answered = search rules;
   grows = search rules;
   err = search rules;
@@ -57,7 +57,7 @@ returns c = record {
       (λ by k. c.note_reserved.ensures by k ∙
       ap (λ (x : Message). cond (same_name x.by x.no by k) (Some c.len-position.result) (position_of n.seen by k)) same ∙
       ap (λ (p : ℕ). cond (same_name m.by m.no by k) (Some p) (position_of n.seen by k)) len ∙
-      ap (λ (o : Option ℕ). cond (same_name m.by m.no by k) (Some (length b.history.entries)) o) (λ i. r.positions i by k))
+      ap (λ (o : Option ℕ). cond (same_name m.by m.no by k) (Some (length b.history.entries)) o) (ap (λ (t : SentStates). position_of t by k) r.seen))
       (λ q. c.deliver.ensures q ∙
       ap (λ (k : OutboxState). with_items k (items_to q c.make_room.new.state.items.items)) (r.boxes q) ∙
       ap (λ (is : List AddressedItem). with_items (outbox_state_of b.outboxes q) (items_to q is)) (r.items ∙ c.in_ok-put_items.ensures)));
@@ -71,7 +71,12 @@ returns c = record {
 pub note_reserved-requires-clause-new : goal.note_reserved-requires-clause-new
 note_reserved-requires-clause-new c =
     let sent = c.content-content.result.now in
-    ap (λ (found : Railway → ℕ → Option ℕ). found sent.by sent.no) c.in_ok-make_room.ensures.positions ∙ ap (λ (x : Message). position_of c.args.state.now.seen x.by x.no) (c.content-content.ensures.value ∙ c.get-sent.ensures) ∙ c.requires.new.0
+    ap (λ (t : SentStates). position_of t sent.by sent.no) c.in_ok-make_room.ensures.seen ∙ ap (λ (x : Message). position_of c.args.state.now.seen x.by x.no) (c.content-content.ensures.value ∙ c.get-sent.ensures) ∙ c.requires.new.0
+
+pub note_reserved-requires-clause-room : goal.note_reserved-requires-clause-room
+note_reserved-requires-clause-room c =
+    let sent = c.content-content.result.now in
+    ap (λ (t : SentStates). has_room t sent.by sent.no) c.in_ok-make_room.ensures.seen ∙ ap (λ (x : Message). has_room c.args.state.now.seen x.by x.no) (c.content-content.ensures.value ∙ c.get-sent.ensures) ∙ c.requires.new.2
 
 pub deliver-requires-clause-few : goal.deliver-requires-clause-few
 deliver-requires-clause-few c =

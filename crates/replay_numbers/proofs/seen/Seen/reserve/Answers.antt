@@ -1,5 +1,0 @@
-use Rattle.replay_numbers.proofs.Common.{◌∙◌, ap, position_of}
-use Rattle.replay_numbers.proofs.seen.Seen.reserve.Goals as goal
-
-pub returns-clause-positions : goal.returns-clause-positions
-returns-clause-positions c = (λ i by n. c.reserve.ensures.positions by n i) ∙ ap position_of c.self.view_is
