@@ -75,6 +75,7 @@ fn refused_at(wagon: WagonNumber, why: Why) -> Checked
 
 // Why a message, which is not refused as a whole, is refused: at the first wagon that has a fault, or for the first
 // intermodal unit that is busy.
+#[inline(never)]
 fn part_fault(alloc: Global, tables: &Tables, message: &Message) -> Result<Option<Fault>, Memory>
     requires whole { of.whole_fault (table_state tables.now) message.now.by message.now.body
         ≡ None }

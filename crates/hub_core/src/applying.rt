@@ -2,9 +2,9 @@
 ghost use Rattle.hub_core.specs.States.{Applies, MayTake};
 
 use crate::ack::apply_ack;
-use crate::ask::{ask_reply, deviation_reply, fetch_reply, unit_reply};
+use crate::ask::{apply_ask, apply_ask_unit, apply_deviation, apply_fetch};
 use crate::send::apply_send;
-use crate::state::{State, append_entry};
+use crate::state::State;
 use std::alloc::Global;
 use taf_codes::Memory;
 use taf_messages::{Call, Reply};
@@ -16,22 +16,10 @@ pub(crate) fn apply_call(alloc: Global, state: &mut State, call: Call) -> Result
 {
     match call {
         Call::Send(message) => apply_send(alloc, state, message),
-        Call::Ask { by, wagon } => {
-            let reply = ask_reply(alloc, state, by, wagon)?;
-            append_entry(state, Call::Ask { by, wagon }, reply)
-        }
-        Call::AskUnit { by, unit } => {
-            let reply = unit_reply(alloc, state, by, unit)?;
-            append_entry(state, Call::AskUnit { by, unit }, reply)
-        }
-        Call::Deviation { by, consignment } => {
-            let reply = deviation_reply(alloc, state, by, consignment)?;
-            append_entry(state, Call::Deviation { by, consignment }, reply)
-        }
-        Call::Fetch { by, limit } => {
-            let reply = fetch_reply(alloc, state, by, limit)?;
-            append_entry(state, Call::Fetch { by, limit }, reply)
-        }
+        Call::Ask { by, wagon } => apply_ask(alloc, state, by, wagon),
+        Call::AskUnit { by, unit } => apply_ask_unit(alloc, state, by, unit),
+        Call::Deviation { by, consignment } => apply_deviation(alloc, state, by, consignment),
+        Call::Fetch { by, limit } => apply_fetch(alloc, state, by, limit),
         Call::Ack { by, item } => apply_ack(state, by, item),
     }
 }

@@ -1,67 +1,73 @@
-//! Questions: they change nothing that is looked up.
-ghost use Rattle.std.specs.Prelude.{◌≡◌, IfOk};
-ghost use Rattle.hub_model.specs.Histories.{answer};
+//! Questions: they change nothing that is looked up. Each stands apart from the others and from messages, so that none takes time
+//! for the locals of another.
 ghost use Rattle.taf_messages.specs.declared.call.Call.TheVariants as call;
-ghost use Rattle.hub_core.specs.States.{IsConsistent};
+ghost use Rattle.hub_core.specs.States.{Applies, MayTake};
 
-use crate::state::State;
+use crate::state::{State, append_entry};
 use hub_answers::{ask, ask_unit, deviation};
 use std::alloc::Global;
 use taf_codes::{ConsignmentId, Memory, Railway, UnitCode};
-use taf_messages::{FetchLimit, Reply, Shared};
+use taf_messages::{Call, FetchLimit, Reply, Shared};
 use wagon_number::WagonNumber;
 
-/// The reply to one who asks for a wagon.
-pub(crate) fn ask_reply(
+/// Takes a question for a wagon.
+#[inline(never)]
+pub(crate) fn apply_ask(
     alloc: Global,
-    state: &State,
+    state: &mut State,
     by: Railway,
     wagon: WagonNumber,
 ) -> Result<Reply, Memory>
-    requires { IsConsistent state.now }
-    ensures { IfOk result (λ r. r ≡ answer state.now.history.entries (call.Ask by wagon)) }
+    requires ready { MayTake state.old }
+    ensures { Applies state.old state.new (call.Ask by wagon) result }
 {
-    ask(alloc, &state.tables, by, wagon)
+    let reply = ask(alloc, &state.tables, by, wagon)?;
+    append_entry(state, Call::Ask { by, wagon }, reply)
 }
 
-/// The reply to one who asks for an intermodal unit.
-pub(crate) fn unit_reply(
+/// Takes a question for an intermodal unit.
+#[inline(never)]
+pub(crate) fn apply_ask_unit(
     alloc: Global,
-    state: &State,
+    state: &mut State,
     by: Railway,
     unit: UnitCode,
 ) -> Result<Reply, Memory>
-    requires { IsConsistent state.now }
-    ensures { IfOk result (λ r. r ≡ answer state.now.history.entries (call.AskUnit by unit)) }
+    requires ready { MayTake state.old }
+    ensures { Applies state.old state.new (call.AskUnit by unit) result }
 {
-    ask_unit(alloc, &state.tables, by, unit)
+    let reply = ask_unit(alloc, &state.tables, by, unit)?;
+    append_entry(state, Call::AskUnit { by, unit }, reply)
 }
 
-/// The reply to one who asks for the deviations of a consignment.
-pub(crate) fn deviation_reply(
+/// Takes a question for the deviations of a consignment.
+#[inline(never)]
+pub(crate) fn apply_deviation(
     alloc: Global,
-    state: &State,
+    state: &mut State,
     by: Railway,
     consignment: ConsignmentId,
 ) -> Result<Reply, Memory>
-    requires { IsConsistent state.now }
-    ensures { IfOk result (λ r. r
-        ≡ answer state.now.history.entries (call.Deviation by consignment)) }
+    requires ready { MayTake state.old }
+    ensures { Applies state.old state.new (call.Deviation by consignment) result }
 {
-    deviation(alloc, &state.tables, by, consignment)
+    let reply = deviation(alloc, &state.tables, by, consignment)?;
+    append_entry(state, Call::Deviation { by, consignment }, reply)
 }
 
+/// Takes a railway's fetching of its items.
+#[inline(never)]
 #[tactic(auto, using(crate::proofs::HistoryLemmas::fetch_answer))]
-/// The reply to one who fetches items.
-pub(crate) fn fetch_reply(
+pub(crate) fn apply_fetch(
     alloc: Global,
-    state: &State,
+    state: &mut State,
     by: Railway,
     limit: FetchLimit,
 ) -> Result<Reply, Memory>
-    requires { IsConsistent state.now }
-    ensures { IfOk result (λ r. r ≡ answer state.now.history.entries (call.Fetch by limit)) }
+    requires ready { MayTake state.old }
+    ensures { Applies state.old state.new (call.Fetch by limit) result }
 {
     let items = state.outboxes.fetch(by, limit)?;
-    Ok(Reply::Items(Shared::new(alloc, items)?))
+    let reply = Reply::Items(Shared::new(alloc, items)?);
+    append_entry(state, Call::Fetch { by, limit }, reply)
 }

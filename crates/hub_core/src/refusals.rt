@@ -12,6 +12,7 @@ use taf_codes::Memory;
 use taf_messages::{Message, Reply, Shared, copy_reply};
 
 /// Takes a new message that has a fault.
+#[inline(never)]
 pub(crate) fn refuse(
     state: &mut State,
     message: Shared<Message>,

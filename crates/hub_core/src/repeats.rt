@@ -39,6 +39,7 @@ fn repeat_reply(state: &State, position: u64, message: &Message) -> Result<Reply
 }
 
 /// Takes a message whose number was used before: the same message gets the reply that it got then, another is refused.
+#[inline(never)]
 pub(crate) fn apply_repeat(
     state: &mut State,
     position: u64,

@@ -1,5 +1,6 @@
 -- A journey with one event more: the transition of a wagon.
 use Rattle.std.specs.Prelude.{◌≡◌, ℕ, Bool, true, false, List, Option, None, option_map, option_to_list, filter, flat_map}
+use Rattle.taf_messages.specs.declared.message.Message.{Message}
 use Rattle.taf_messages.specs.declared.movement.MovementKind.TheVariants.{YardArrival, YardDeparture}
 use Rattle.taf_messages.specs.declared.record.EstimateAt.{EstimateAt}
 use Rattle.journey.specs.declared.event.EventBody.{EventBody}
@@ -9,12 +10,20 @@ use Rattle.journey.specs.Checks.{refusal}
 use Rattle.eti_chain.specs.EstimateStates.{EstimatesState, estimates_state}
 use Rattle.eti_chain.specs.Estimates.{estimate, fits}
 use Rattle.hub_model.specs.declared.addressed_item.AddressedItem.{AddressedItem}
+use Rattle.hub_model.specs.HubState.{HubState, event_body_for, journey_after}
 use Rattle.hub_model.specs.Items.{is_news, estimate_item}
 
 -- the event may come next, and the estimates stay in the calendar
 pub record IsNextEvent (o : NextEvent) : Type 0 where
   pub admitted : refusal o.before o.event.by o.event.body ≡ None
   pub fits_after : fits (after o) ≡ true
+
+-- the event is that of the message for the wagon, and comes next in its journey
+pub record IsNextBy (s : HubState) (m : Message) (w : ℕ) (o : NextEvent) : Type 0 where
+  pub wagon : o.wagon ≡ w
+  pub before : o.before ≡ s.journey w
+  pub behind : after o ≡ journey_after s m w
+  pub says : o.event.body ≡ event_body_for s.offer m.by m.body w
 
 -- the transition is of this wagon, and these are the estimates of its events and of those with the next one
 pub record IsTransitionOf (j : Journey) (o : NextEvent) (were are : EstimatesState) : Type 0 where

@@ -9,6 +9,7 @@ ghost use Rattle.hub_model.specs.Items as of;
 ghost use Rattle.hub_tables.specs.TableStates.{IsAcceptable, continues_journeys, event_alone, table_state};
 ghost use Rattle.journey.specs.Journey.{after};
 ghost use Rattle.hub_items.specs.MessageItems.{IsAcceptableWithNotice, has_one_receiver, all_items};
+ghost use Rattle.hub_items.specs.Transitions.{IsNextBy};
 
 use crate::acceptable::Acceptable;
 use crate::alerts::put_alerts;
@@ -67,12 +68,7 @@ fn put_all(
 {
     match from.message.body() {
         Body::Movement(movement) => put_of_movement(items, from, notice, movement),
-        Body::EtiAsk { wagon } => {
-            let next = WagonEvent::alone(from, *wagon);
-            let transition = next.transition();
-            let change = next.change(&transition);
-            put_of_one(items, notice, change.responsible(), &change)
-        }
+        Body::EtiAsk { wagon } => put_of_question(items, from, notice, *wagon),
         Body::Plan(_)
         | Body::LegTime { .. }
         | Body::Offer(_)
@@ -80,6 +76,28 @@ fn put_all(
         | Body::Withdraw { .. }
         | Body::Reroute { .. } => put_of_many(alloc, items, from, notice),
     }
+}
+
+// Adds the items of a question for estimates, which the railway that answers for the wagon gets.
+#[inline(never)]
+fn put_of_question(
+    items: &mut Vec<AddressedItem>,
+    from: Acceptable<'_>,
+    notice: &Shared<Message>,
+    wagon: WagonNumber,
+) -> Result<(), Memory>
+    requires notice { IsAcceptableWithNotice (table_state from.tables.now) from.message.now
+        notice.now }
+    requires event { option_copied from.event
+        ≡ event_alone (table_state from.tables.now) from.message.now }
+    requires asks { from.message.now.body ≡ body.EtiAsk wagon }
+    ensures { OnOk result (items.new.items ≡ items.old.items
+        ++ all_items (table_state from.entry.tables.now) from.entry.message.now) }
+{
+    let next = WagonEvent::alone(from, wagon);
+    let transition = next.transition();
+    let change = next.change(&transition);
+    put_of_one(items, notice, change.responsible(), &change)
 }
 
 // Adds the items of a movement. Where it changes no estimate, there is nothing but the lead's notice.
@@ -101,6 +119,26 @@ fn put_of_movement(
     if next.keeps_estimates() {
         return put_notice(items, notice, next.lead());
     }
+    put_of_next(items, from, notice, movement, &next)
+}
+
+// The same of a movement that may change estimates.
+#[inline(never)]
+fn put_of_next(
+    items: &mut Vec<AddressedItem>,
+    from: Acceptable<'_>,
+    notice: &Shared<Message>,
+    movement: &Movement,
+    next: &WagonEvent<'_>,
+) -> Result<(), Memory>
+    requires notice { IsAcceptableWithNotice (table_state from.tables.now) from.message.now
+        notice.now }
+    requires moves { from.message.now.body ≡ body.Movement movement.now }
+    requires next { IsNextBy (table_state from.tables.now) from.message.now movement.now.wagon
+        next.now }
+    ensures { OnOk result (items.new.items ≡ items.old.items
+        ++ all_items (table_state from.entry.tables.now) from.entry.message.now) }
+{
     let transition = next.transition();
     let change = next.change(&transition);
     let receiver = movement_receivers(&change, movement.what);
@@ -126,6 +164,7 @@ fn put_of_one(
 }
 
 // Adds the items of a message on several wagons, or on one of which several railways get the notice.
+#[inline(never)]
 fn put_of_many(
     alloc: Global,
     items: &mut Vec<AddressedItem>,

@@ -5,10 +5,10 @@ ghost use Rattle.trip_plan.specs.Rules.{has};
 ghost use Rattle.journey.specs.Stages as stages;
 ghost use Rattle.journey.specs.Legs as legs_of;
 ghost use Rattle.eti_chain.specs.Estimates as of;
-ghost use Rattle.hub_model.specs.HubState.{named_wagons, journey_after, event_body_for, event_for};
+ghost use Rattle.hub_model.specs.HubState.{named_wagons, event_for};
 ghost use Rattle.hub_model.specs.Items.{alert_items, estimate_items};
 ghost use Rattle.hub_tables.specs.TableStates.{IsAcceptable, table_state, continues_journeys, named_alone, event_alone};
-ghost use Rattle.hub_items.specs.Transitions.{keeps_estimates};
+ghost use Rattle.hub_items.specs.Transitions.{IsNextBy, keeps_estimates};
 ghost use Rattle.journey.specs.declared.event.EventBody.TheVariants.{Moved};
 ghost use Rattle.journey.specs.Journey.{after};
 
@@ -49,13 +49,8 @@ impl<'a> WagonEvent<'a> {
             wagon ≡ true }
         requires event { event.now
             ≡ event_for (table_state from.tables.now).offer from.message.now wagon }
-        ensures wagon { result.wagon ≡ wagon }
-        ensures before { result.before ≡ (table_state from.entry.tables.now).journey wagon }
-        ensures after { after result
-            ≡ journey_after (table_state from.entry.tables.now) from.entry.message.now wagon }
-        ensures says { let message = from.entry.message.now in result.event.body
-            ≡ event_body_for (table_state from.entry.tables.now).offer message.by message.body
-            wagon }
+        ensures { IsNextBy (table_state from.entry.tables.now) from.entry.message.now wagon
+            result }
     {
         match from.tables.wagon(wagon) {
             Some(found) => WagonEvent {
@@ -72,13 +67,8 @@ impl<'a> WagonEvent<'a> {
         requires alone { named_alone from.message.now.body ≡ Some wagon }
         requires event { option_copied from.event
             ≡ event_alone (table_state from.tables.now) from.message.now }
-        ensures wagon { result.wagon ≡ wagon }
-        ensures before { result.before ≡ (table_state from.entry.tables.now).journey wagon }
-        ensures after { after result
-            ≡ journey_after (table_state from.entry.tables.now) from.entry.message.now wagon }
-        ensures says { let message = from.entry.message.now in result.event.body
-            ≡ event_body_for (table_state from.entry.tables.now).offer message.by message.body
-            wagon }
+        ensures { IsNextBy (table_state from.entry.tables.now) from.entry.message.now wagon
+            result }
     {
         match from.event {
             Some(event) => WagonEvent::of(from, wagon, event),

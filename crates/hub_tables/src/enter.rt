@@ -25,6 +25,7 @@ pub(crate) fn enter<K: Eq + Hash + Drop, V: Drop>(table: &mut IndexMap<K, V>, en
 }
 
 /// Puts each event at the end of its wagon's journey, in turn.
+#[inline(never)]
 pub(crate) fn put_all(
     wagons: &mut IndexMap<WagonNumber, Wagon>,
     events: Vec<(WagonNumber, PreparedEvent)>,

@@ -152,6 +152,7 @@ impl Tables {
     }
 
     /// The events by which journeys go on.
+    #[inline(never)]
     pub(crate) fn next_events(
         &self,
         alloc: Global,

@@ -6,7 +6,7 @@ returns c =
     let n = c.of-next.ensures in
     let same = c.change.ensures in
     let before = ap (λ (o : NextEvent). o.before) same ∙ n.before in
-    let behind = ap after same ∙ n.after in
+    let behind = ap after same ∙ n.behind in
     let wagon = ap (λ (o : NextEvent). o.wagon) same ∙ n.wagon in
     let put = c.put_of_change in
     record {
@@ -23,6 +23,6 @@ returns-then-keeps_estimates c =
     let k = c.keeps_estimates.ensures in
     let kept = c.if-keeps_estimates.true in
     record {
-      estimates = nothing_more _ c.args.items.now.items (sym (λ i. estimate_items (n.before i) (n.after i) c.args.wagon) ∙ k.estimates c.args.wagon kept);
-      alerts = nothing_more _ c.args.alerts.now.items (sym (λ i. alert_items (n.before i) (n.after i) c.args.wagon) ∙ k.alerts c.args.wagon kept);
+      estimates = nothing_more _ c.args.items.now.items (sym (λ i. estimate_items (n.before i) (n.behind i) c.args.wagon) ∙ k.estimates c.args.wagon kept);
+      alerts = nothing_more _ c.args.alerts.now.items (sym (λ i. alert_items (n.before i) (n.behind i) c.args.wagon) ∙ k.alerts c.args.wagon kept);
     }

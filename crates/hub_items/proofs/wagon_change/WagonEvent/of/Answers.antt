@@ -17,7 +17,13 @@ invariant_of-result c =
       fits_after = ap fits is_last ∙ ok.fits_after c.args.wagon;
     }
 
-pub returns-clause-after : goal.returns-clause-after
-returns-clause-after c =
-    same_after (table_state c.args.from.tables.now) c.args.from.message.now c.args.wagon _ _ c.requires.acceptable c.requires.no_plan c.requires.is_named
-    (ap (λ (j : Journey). j.events) c.in-Some.ensures.found) c.requires.event
+pub returns : goal.returns
+returns c =
+    let found = c.in-Some.ensures.found in
+    record {
+      wagon = ap (λ (j : Journey). j.wagon) found;
+      before = ap (λ (j : Journey). j.events) found;
+      behind = same_after (table_state c.args.from.tables.now) c.args.from.message.now c.args.wagon _ _ c.requires.acceptable c.requires.no_plan c.requires.is_named
+          (ap (λ (j : Journey). j.events) found) c.requires.event;
+      says = ap (λ (e : Event). e.body) c.requires.event;
+    }
