@@ -37,8 +37,6 @@ pub use Rattle.taf_messages.specs.declared.message.TrainOffer.{TrainOffer}
 pub use Rattle.taf_messages.specs.declared.movement.Movement.{Movement}
 pub use Rattle.taf_messages.specs.declared.movement.MovementKind.{MovementKind}
 pub use Rattle.taf_messages.specs.declared.movement.MovementKind.TheVariants.{Release, Departure, YardArrival, YardDeparture, Exception, Estimate, Arrival, Delivery}
-pub use Rattle.call_reader.specs.Reading.{value_or_fault, field_of, value_if_there, optional_field_of, plan_or_fault, plan_made, route_or_fault, listed_units, units_of, route_of, kind_of, call_read}
-unfoldable pub use Rattle.call_reader.specs.Reading.{plan_of, movement_kind_of, movement_of, offer_of, answer_of, body_of, message_of, call_of_kind, call_of}
 pub use Rattle.call_reader.specs.Values.{◌>>=◌, Misses, member, list, short_list}
 unfoldable pub use Rattle.call_reader.specs.Values.{each, leg, unit_load}
 pub use Rattle.call_reader.specs.declared.value.DecodeError.{DecodeError}

@@ -15,7 +15,7 @@ pub use Rattle.std.proofs.lemmas.Result.{on_ok_weaker}
 pub use Rattle.std.proofs.lemmas.Slice.Eq.{bytes_eq-Decides}
 pub use Rattle.std.proofs.lemmas.Str.{IsUtf8-append, IsUtf8-nil, IsUtf8-from_ascii}
 pub use Rattle.std.proofs.lemmas.Str.Ascii.{IsAscii-from_all}
-pub use Rattle.serde_json.specs.Data.{Data, unsigned, negative, float, null, boolean, number, string, array, object, no_items, item, Members, no_members}
+pub use Rattle.serde_json.specs.Data.{Data}
 pub use Rattle.serde_json.specs.Find.{get, as_object}
 pub use Rattle.json.specs.Print.{quoted}
 unfoldable pub use Rattle.json.specs.Print.{escape_byte}
@@ -69,8 +69,7 @@ pub use Rattle.taf_messages.specs.declared.record.Status.{Status}
 pub use Rattle.taf_messages.specs.declared.reply.Reply.{Reply}
 pub use Rattle.taf_messages.specs.declared.reply.Reply.TheVariants.{Accepted, Refused, One, Many, Items, Acknowledged}
 pub use Rattle.taf_messages.specs.declared.reply.Why.{Why}
-pub use Rattle.call_reader.specs.Reading.{field_of, value_or_fault, optional_field_of, plan_or_fault, route_or_fault, units_of, kind_of, call_read}
-unfoldable pub use Rattle.call_reader.specs.Reading.{plan_of, movement_kind_of, movement_of, offer_of, answer_of, body_of, message_of, call_of_kind, call_of}
+pub use Rattle.call_reader.specs.Reading.{field_of, value_or_fault, call_read}
 pub use Rattle.call_reader.specs.Values.{◌>>=◌, member}
 unfoldable pub use Rattle.call_reader.specs.Values.{leg, unit_load, each}
 pub use Rattle.call_reader.proofs.SentLemmas.{read_kept}

@@ -1,4 +1,4 @@
-use Rattle.hub_core.proofs.Common.{rules, ◌≡◌, ℕ, List, [], ◌∷◌, ◌++◌, Option, Some, None, cond, length, ap, ◌∙◌, ◌<◌, ◌^◌, sym, subst, Send, Message, Reply, Accepted, Paged, same_name, position_of, has_room, SentStates, Railway, OutboxState, outbox_state_of, with_items, Entry, AddressedItem, items_to, after_acceptance, TableEntries, table_state, table_part, event_alone, Represents}
+use Rattle.hub_core.proofs.Common.{rules, ◌≡◌, ℕ, List, [], ◌∷◌, ◌++◌, Option, Some, None, cond, length, ap, ◌∙◌, ◌<◌, ◌^◌, sym, subst, Send, Message, Reply, Accepted, Paged, same_name, position_of, has_room, SentStates, OutboxState, outbox_state_of, with_items, Entry, AddressedItem, items_to, after_acceptance, TableEntries, table_state, table_part, event_alone, Represents}
 use Rattle.hub_core.proofs.HistoryLemmas.{kept_same}
 use Rattle.hub_core.proofs.SendLemmas.{few_items, new_answer, kept_accepted}
 use Rattle.hub_core.proofs.acceptance.accept.Goals as goal

@@ -1,4 +1,4 @@
-use Rattle.hub_core.proofs.Common.{rules, ◌≡◌, ℕ, List, [], ◌∷◌, ◌++◌, Option, Some, cond, length, ap, ◌∙◌, sym, subst, Railway, Send, Message, Reply, Paged, same_name, position_of, has_room, outbox_state_of, Entry, verdict, table_state, Represents}
+use Rattle.hub_core.proofs.Common.{rules, ◌≡◌, ℕ, List, [], ◌∷◌, ◌++◌, Some, cond, length, ap, ◌∙◌, sym, subst, Send, Message, Reply, Paged, same_name, position_of, has_room, outbox_state_of, Entry, verdict, table_state, Represents}
 use Rattle.hub_core.proofs.SendLemmas.{new_answer, kept_refused}
 use Rattle.hub_core.proofs.refusals.refuse.Goals as goal
 

@@ -1,4 +1,4 @@
-use Rattle.hub_core.proofs.Common.{◌≡◌, ℕ, Option, ap, ◌∙◌, sym, subst, true, Railway, Message, moment_in, IsMoment, IsWithinLimits, SentStates, position_of, has_room}
+use Rattle.hub_core.proofs.Common.{◌≡◌, ℕ, Option, ap, ◌∙◌, sym, subst, Railway, Message, moment_in, IsMoment, IsWithinLimits, SentStates, position_of, has_room}
 use Rattle.hub_core.proofs.send.apply_send.Goals as goal
 
 -- what is found for the name is what was noted, and still is

@@ -1,6 +1,6 @@
-use Rattle.hub_items.proofs.Common.{◌≡◌, ◌∙◌, List, ◌++◌, ap, sym, subst, OnOk, option_to_list, Event, NextEvent, after, AddressedItem, wagons_in, journey_after, event_body_for, notice_receivers, sub_items, movement_receivers, table_state, keeps_estimates}
+use Rattle.hub_items.proofs.Common.{◌≡◌, ◌∙◌, List, ◌++◌, ap, sym, subst, OnOk, option_to_list, Event, after, AddressedItem, wagons_in, journey_after, event_body_for, notice_receivers, sub_items, movement_receivers, table_state, keeps_estimates}
 use Rattle.hub_items.proofs.UnchangedEstimateLemmas.{lead_told}
-use Rattle.hub_items.proofs.MessageItemLemmas.{items_of_notice_alone, items_of_one_wagon}
+use Rattle.hub_items.proofs.MessageItemLemmas.{items_of_notice_alone}
 use Rattle.hub_items.proofs.item_list.put_of_movement.Goals as goal
 
 pub returns-then-keeps_estimates : goal.returns-then-keeps_estimates
