@@ -28,8 +28,9 @@ fn is_found(seen: &Seen, code: &str, number: u64, position: Option<u64>) -> Resu
 // Notes a new name at a position, where there is room for it.
 fn note_reserved(seen: &mut Seen, by: Railway, number: u64, position: u64) -> Result<(), Memory> {
     let number = number_of(number)?;
-    if seen.find_or_make_room(by, number)?.is_none() {
-        seen.note_reserved(by, number, position);
+    match seen.find_or_make_room(by, number)? {
+        Some(_) => {}
+        None => seen.note_reserved(by, number, position),
     }
     Ok(())
 }
