@@ -90,7 +90,7 @@ fn either_fault(
     }
 }
 
-/// The same of a wagon that is known, by its event of the message.
+/// Why a wagon that is known may not have the event: by its own events, or since an estimate would pass the calendar.
 pub(crate) fn event_fault(wagon: &Wagon, event: &Event) -> Option<Why>
     ensures { result ≡ option_or (refusal wagon.now.events event.now.by event.now.body)
         (if estimates.is_calendar_checked event.now.body && not

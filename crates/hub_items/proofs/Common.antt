@@ -43,7 +43,7 @@ pub use Rattle.hub_model.specs.HubState.{HubState, named_wagons, event_for, jour
 pub use Rattle.hub_model.specs.Items.{each_once, alert, alert_receivers, alert_items, notice_receivers, sub_items, notices, estimate_items, is_news, estimate_item, movement_receivers}
 pub use Rattle.hub_model.specs.declared.addressed_item.AddressedItem.{AddressedItem}
 pub use Rattle.hub_model.proofs.NoFaultLemmas.{goes_on, planned_anew}
-pub use Rattle.hub_tables.specs.TableStates.{table_state, event_alone, continues_journeys}
+pub use Rattle.hub_tables.specs.TableStates.{IsAcceptable, table_state, event_alone, continues_journeys}
 pub use Rattle.hub_tables.proofs.AloneLemmas.{event_given, alone_has, alone_continues, event_of_alone}
 pub use Rattle.hub_items.specs.MessageItems.{all_items}
 pub use Rattle.hub_items.specs.Transitions.{keeps_estimates, estimate_of}

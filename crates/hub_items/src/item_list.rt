@@ -8,7 +8,7 @@ ghost use Rattle.hub_model.specs.HubState.{named_wagons, journey_after, event_fo
 ghost use Rattle.hub_model.specs.Items as of;
 ghost use Rattle.hub_tables.specs.TableStates.{IsAcceptable, continues_journeys, event_alone, table_state};
 ghost use Rattle.journey.specs.Journey.{after};
-ghost use Rattle.hub_items.specs.MessageItems.{IsAcceptableWithNotice, has_one_receiver, all_items};
+ghost use Rattle.hub_items.specs.MessageItems.{MayBeAccepted, has_one_receiver, all_items};
 ghost use Rattle.hub_items.specs.Transitions.{IsNextBy};
 
 use crate::acceptable::Acceptable;
@@ -59,10 +59,8 @@ fn put_all(
     from: Acceptable<'_>,
     notice: &Shared<Message>,
 ) -> Result<(), Memory>
-    requires notice { IsAcceptableWithNotice (table_state from.tables.now) from.message.now
-        notice.now }
-    requires event { option_copied from.event
-        ≡ event_alone (table_state from.tables.now) from.message.now }
+    requires acceptable { MayBeAccepted from }
+    requires notice { notice.now ≡ from.message.now }
     ensures { OnOk result (items.new.items ≡ items.old.items
         ++ all_items (table_state from.entry.tables.now) from.entry.message.now) }
 {
@@ -86,10 +84,8 @@ fn put_of_question(
     notice: &Shared<Message>,
     wagon: WagonNumber,
 ) -> Result<(), Memory>
-    requires notice { IsAcceptableWithNotice (table_state from.tables.now) from.message.now
-        notice.now }
-    requires event { option_copied from.event
-        ≡ event_alone (table_state from.tables.now) from.message.now }
+    requires acceptable { MayBeAccepted from }
+    requires notice { notice.now ≡ from.message.now }
     requires asks { from.message.now.body ≡ body.EtiAsk wagon }
     ensures { OnOk result (items.new.items ≡ items.old.items
         ++ all_items (table_state from.entry.tables.now) from.entry.message.now) }
@@ -107,10 +103,8 @@ fn put_of_movement(
     notice: &Shared<Message>,
     movement: &Movement,
 ) -> Result<(), Memory>
-    requires notice { IsAcceptableWithNotice (table_state from.tables.now) from.message.now
-        notice.now }
-    requires event { option_copied from.event
-        ≡ event_alone (table_state from.tables.now) from.message.now }
+    requires acceptable { MayBeAccepted from }
+    requires notice { notice.now ≡ from.message.now }
     requires moves { from.message.now.body ≡ body.Movement movement.now }
     ensures { OnOk result (items.new.items ≡ items.old.items
         ++ all_items (table_state from.entry.tables.now) from.entry.message.now) }
@@ -131,8 +125,7 @@ fn put_of_next(
     movement: &Movement,
     next: &WagonEvent<'_>,
 ) -> Result<(), Memory>
-    requires notice { IsAcceptableWithNotice (table_state from.tables.now) from.message.now
-        notice.now }
+    requires notice { notice.now ≡ from.message.now }
     requires moves { from.message.now.body ≡ body.Movement movement.now }
     requires next { IsNextBy (table_state from.tables.now) from.message.now movement.now.wagon
         next.now }
@@ -171,10 +164,8 @@ fn put_of_many(
     from: Acceptable<'_>,
     notice: &Shared<Message>,
 ) -> Result<(), Memory>
-    requires notice { IsAcceptableWithNotice (table_state from.tables.now) from.message.now
-        notice.now }
-    requires event { option_copied from.event
-        ≡ event_alone (table_state from.tables.now) from.message.now }
+    requires acceptable { MayBeAccepted from }
+    requires notice { notice.now ≡ from.message.now }
     requires many { has_one_receiver from.message.now.body ≡ false }
     ensures { OnOk result (items.new.items ≡ items.old.items
         ++ all_items (table_state from.entry.tables.now) from.entry.message.now) }
@@ -201,9 +192,7 @@ fn put_of_wagons(
     from: Acceptable<'_>,
     wagons: &[WagonNumber],
 ) -> Result<(), Memory>
-    requires acceptable { IsAcceptable (table_state from.tables.now) from.message.now }
-    requires event { option_copied from.event
-        ≡ event_alone (table_state from.tables.now) from.message.now }
+    requires acceptable { MayBeAccepted from }
     requires are_named { wagons.now
         ≡ named_wagons (table_state from.tables.now).offer from.message.now }
     ensures estimates { let before = table_state from.entry.tables.now in
@@ -228,9 +217,7 @@ fn put_of_wagon(
     from: Acceptable<'_>,
     wagon: WagonNumber,
 ) -> Result<(), Memory>
-    requires acceptable { IsAcceptable (table_state from.tables.now) from.message.now }
-    requires event { option_copied from.event
-        ≡ event_alone (table_state from.tables.now) from.message.now }
+    requires acceptable { MayBeAccepted from }
     requires is_named { has (named_wagons (table_state from.tables.now).offer from.message.now)
         wagon ≡ true }
     ensures estimates { let before = table_state from.entry.tables.now in

@@ -1,13 +1,13 @@
 //! A journey with one event more: the transition of a wagon.
 ghost use Rattle.std.specs.Prelude.{◌≡◌, ℕ, ◌≤◌, ◌++◌, ◌∷◌, [], length, true, Some, None};
-ghost use Rattle.std.specs.Option.{option_copied};
 ghost use Rattle.trip_plan.specs.Rules.{has};
 ghost use Rattle.journey.specs.Stages as stages;
 ghost use Rattle.journey.specs.Legs as legs_of;
 ghost use Rattle.eti_chain.specs.Estimates as of;
 ghost use Rattle.hub_model.specs.HubState.{named_wagons, event_for};
 ghost use Rattle.hub_model.specs.Items.{alert_items, estimate_items};
-ghost use Rattle.hub_tables.specs.TableStates.{IsAcceptable, table_state, continues_journeys, named_alone, event_alone};
+ghost use Rattle.hub_tables.specs.TableStates.{IsAcceptable, table_state, continues_journeys, named_alone};
+ghost use Rattle.hub_items.specs.MessageItems.{MayBeAccepted};
 ghost use Rattle.hub_items.specs.Transitions.{IsNextBy, keeps_estimates};
 ghost use Rattle.journey.specs.declared.event.EventBody.TheVariants.{Moved};
 ghost use Rattle.journey.specs.Journey.{after};
@@ -63,10 +63,8 @@ impl<'a> WagonEvent<'a> {
 
     /// The wagon that an acceptable message names alone, with the event that is given for it.
     pub(crate) fn alone(from: Acceptable<'a>, wagon: WagonNumber) -> WagonEvent<'a>
-        requires acceptable { IsAcceptable (table_state from.tables.now) from.message.now }
+        requires acceptable { MayBeAccepted from }
         requires alone { named_alone from.message.now.body ≡ Some wagon }
-        requires event { option_copied from.event
-            ≡ event_alone (table_state from.tables.now) from.message.now }
         ensures { IsNextBy (table_state from.entry.tables.now) from.entry.message.now wagon
             result }
     {

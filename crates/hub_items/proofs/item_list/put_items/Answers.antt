@@ -1,8 +1,8 @@
-use Rattle.hub_items.proofs.Common.{List, ap, ◌∙◌, ◌++◌, sym, filter, not, bytes_eq, Railway, Message, AddressedItem, table_state, event_alone, all_items}
+use Rattle.hub_items.proofs.Common.{subst, IsAcceptable, List, ap, ◌∙◌, ◌++◌, sym, filter, not, bytes_eq, Railway, Message, AddressedItem, table_state, event_alone, all_items}
 use Rattle.hub_items.proofs.item_list.put_items.Goals as goal
 
-pub put_all-requires-clause-event : goal.put_all-requires-clause-event
-put_all-requires-clause-event c = c.requires.event ∙ ap (event_alone (table_state c.args.tables.now)) (sym c.get-sent.ensures)
+pub put_all-requires-clause-acceptable : goal.put_all-requires-clause-acceptable
+put_all-requires-clause-acceptable c = (subst (IsAcceptable (table_state c.args.tables.now)) (sym c.get-sent.ensures) c.requires.acceptable, c.requires.event ∙ ap (event_alone (table_state c.args.tables.now)) (sym c.get-sent.ensures))
 
 pub returns : goal.returns
 returns c =

@@ -11,4 +11,4 @@ returns-in-Plan-clause-estimates c =
 pub put_of_event-requires-clause-event : goal.put_of_event-requires-clause-event
 put_of_event-requires-clause-event c =
     event_given (table_state c.args.from.tables.now) c.args.from.message.now c.args.wagon c.in-Some.event.now
-    (sym c.requires.event ∙ ap option_copied c.in-Some.is)
+    (sym c.requires.acceptable.1 ∙ ap option_copied c.in-Some.is)

@@ -10,9 +10,9 @@ of-requires-clause-is_named c = alone_has (table_state c.args.from.tables.now) c
 pub of-requires-clause-event : goal.of-requires-clause-event
 of-requires-clause-event c =
     event_given (table_state c.args.from.tables.now) c.args.from.message.now c.args.wagon c.in-Some.event.now
-    (sym c.requires.event ∙ ap option_copied c.in-Some.is)
+    (sym c.requires.acceptable.1 ∙ ap option_copied c.in-Some.is)
 
 pub unreachable-requires : goal.unreachable-requires
 unreachable-requires c =
     none-some _
-    (sym (ap option_copied c.in-None.is) ∙ c.requires.event ∙ event_of_alone (table_state c.args.from.tables.now) c.args.from.message.now c.args.wagon c.requires.alone)
+    (sym (ap option_copied c.in-None.is) ∙ c.requires.acceptable.1 ∙ event_of_alone (table_state c.args.from.tables.now) c.args.from.message.now c.args.wagon c.requires.alone)
