@@ -2,3 +2,4 @@ pub mod Faults
 pub mod States
 pub mod Delivery
 pub mod Apart
+pub mod Questions

@@ -2,7 +2,7 @@
 ghost use Rattle.hub_core.specs.States.{Applies, MayTake};
 
 use crate::ack::apply_ack;
-use crate::ask::{apply_ask, apply_ask_unit, apply_deviation, apply_fetch};
+use crate::ask::apply_question;
 use crate::send::apply_send;
 use crate::state::State;
 use std::alloc::Global;
@@ -16,10 +16,9 @@ pub(crate) fn apply_call(alloc: Global, state: &mut State, call: Call) -> Result
 {
     match call {
         Call::Send(message) => apply_send(alloc, state, message),
-        Call::Ask { by, wagon } => apply_ask(alloc, state, by, wagon),
-        Call::AskUnit { by, unit } => apply_ask_unit(alloc, state, by, unit),
-        Call::Deviation { by, consignment } => apply_deviation(alloc, state, by, consignment),
-        Call::Fetch { by, limit } => apply_fetch(alloc, state, by, limit),
         Call::Ack { by, item } => apply_ack(state, by, item),
+        Call::Ask { .. } | Call::AskUnit { .. } | Call::Deviation { .. } | Call::Fetch { .. } => {
+            apply_question(alloc, state, call)
+        }
     }
 }

@@ -1,73 +1,53 @@
-//! Questions: they change nothing that is looked up. Each stands apart from the others and from messages, so that none takes time
-//! for the locals of another.
+//! Questions: they change nothing that is looked up.
+ghost use Rattle.std.specs.Prelude.{◌≡◌, IfOk, true};
 ghost use Rattle.taf_messages.specs.declared.call.Call.TheVariants as call;
-ghost use Rattle.hub_core.specs.States.{Applies, MayTake};
+ghost use Rattle.hub_model.specs.Histories.{answer};
+ghost use Rattle.hub_core.specs.Questions.{is_question};
+ghost use Rattle.hub_core.specs.States.{Applies, IsConsistent, MayTake};
 
 use crate::state::{State, append_entry};
 use hub_answers::{ask, ask_unit, deviation};
 use std::alloc::Global;
-use taf_codes::{ConsignmentId, Memory, Railway, UnitCode};
+use taf_codes::{Memory, Railway};
 use taf_messages::{Call, FetchLimit, Reply, Shared};
-use wagon_number::WagonNumber;
 
-/// Takes a question for a wagon.
+/// Takes a question: it is entered with its reply.
 #[inline(never)]
-pub(crate) fn apply_ask(
-    alloc: Global,
-    state: &mut State,
-    by: Railway,
-    wagon: WagonNumber,
-) -> Result<Reply, Memory>
+pub(crate) fn apply_question(alloc: Global, state: &mut State, call: Call) -> Result<Reply, Memory>
     requires ready { MayTake state.old }
-    ensures { Applies state.old state.new (call.Ask by wagon) result }
+    requires question { is_question call ≡ true }
+    ensures { Applies state.old state.new call result }
 {
-    let reply = ask(alloc, &state.tables, by, wagon)?;
-    append_entry(state, Call::Ask { by, wagon }, reply)
+    let reply = reply_to(alloc, state, &call)?;
+    append_entry(state, call, reply)
 }
 
-/// Takes a question for an intermodal unit.
-#[inline(never)]
-pub(crate) fn apply_ask_unit(
-    alloc: Global,
-    state: &mut State,
-    by: Railway,
-    unit: UnitCode,
-) -> Result<Reply, Memory>
-    requires ready { MayTake state.old }
-    ensures { Applies state.old state.new (call.AskUnit by unit) result }
+// The reply to a question.
+fn reply_to(alloc: Global, state: &State, call: &Call) -> Result<Reply, Memory>
+    requires kept { IsConsistent state.now }
+    requires question { is_question call.now ≡ true }
+    ensures { IfOk result (λ r. r ≡ answer state.now.history.entries call.now) }
 {
-    let reply = ask_unit(alloc, &state.tables, by, unit)?;
-    append_entry(state, Call::AskUnit { by, unit }, reply)
+    match call {
+        Call::Ask { by, wagon } => ask(alloc, &state.tables, *by, *wagon),
+        Call::AskUnit { by, unit } => ask_unit(alloc, &state.tables, *by, *unit),
+        Call::Deviation { by, consignment } => deviation(alloc, &state.tables, *by, *consignment),
+        Call::Fetch { by, limit } => fetch_reply(alloc, state, *by, *limit),
+        Call::Send(_) | Call::Ack { .. } => unreachable!(),
+    }
 }
 
-/// Takes a question for the deviations of a consignment.
-#[inline(never)]
-pub(crate) fn apply_deviation(
-    alloc: Global,
-    state: &mut State,
-    by: Railway,
-    consignment: ConsignmentId,
-) -> Result<Reply, Memory>
-    requires ready { MayTake state.old }
-    ensures { Applies state.old state.new (call.Deviation by consignment) result }
-{
-    let reply = deviation(alloc, &state.tables, by, consignment)?;
-    append_entry(state, Call::Deviation { by, consignment }, reply)
-}
-
-/// Takes a railway's fetching of its items.
-#[inline(never)]
+// The reply to a railway that fetches its items.
 #[tactic(auto, using(crate::proofs::HistoryLemmas::fetch_answer))]
-pub(crate) fn apply_fetch(
+fn fetch_reply(
     alloc: Global,
-    state: &mut State,
+    state: &State,
     by: Railway,
     limit: FetchLimit,
 ) -> Result<Reply, Memory>
-    requires ready { MayTake state.old }
-    ensures { Applies state.old state.new (call.Fetch by limit) result }
+    requires { IsConsistent state.now }
+    ensures { IfOk result (λ r. r ≡ answer state.now.history.entries (call.Fetch by limit)) }
 {
     let items = state.outboxes.fetch(by, limit)?;
-    let reply = Reply::Items(Shared::new(alloc, items)?);
-    append_entry(state, Call::Fetch { by, limit }, reply)
+    Ok(Reply::Items(Shared::new(alloc, items)?))
 }
