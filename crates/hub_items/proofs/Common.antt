@@ -46,4 +46,4 @@ pub use Rattle.hub_model.proofs.NoFaultLemmas.{goes_on, planned_anew}
 pub use Rattle.hub_tables.specs.TableStates.{IsAcceptable, table_state, event_alone, continues_journeys}
 pub use Rattle.hub_tables.proofs.AloneLemmas.{event_given, alone_has, alone_continues, event_of_alone}
 pub use Rattle.hub_items.specs.MessageItems.{all_items}
-pub use Rattle.hub_items.specs.Transitions.{keeps_estimates, estimate_of}
+pub use Rattle.hub_items.specs.Transitions.{IsNextBy, keeps_estimates, estimate_of}

@@ -1,5 +1,5 @@
 -- What is told are the notices, the estimates that are news and the alerts.
-use Rattle.hub_items.proofs.Common.{◌≡◌, ℕ, List, [], ◌∷◌, ◌++◌, Option, Some, None, refl, sym, ap, ◌∙◌, append_assoc, append-nil, map, flat_map, option_to_list, Railway, Message, Event, AddressedItem, HubState, named_wagons, journey_after, each_once, notice_receivers, sub_items, notices, estimate_items, alert_items, NextEvent, after, all_items}
+use Rattle.hub_items.proofs.Common.{◌≡◌, ℕ, List, [], ◌∷◌, ◌++◌, Option, Some, None, refl, sym, ap, ◌∙◌, append_assoc, append-nil, map, flat_map, option_to_list, Railway, Message, Event, AddressedItem, HubState, named_wagons, journey_after, each_once, notice_receivers, sub_items, notices, estimate_items, alert_items, NextEvent, after, all_items, IsNextBy}
 use Rattle.taf_messages.specs.declared.item.ItemBody.TheVariants as item
 
 -- of a wagon
@@ -46,32 +46,29 @@ pub notice_of_one : (s : HubState) (m copy : Message) (receiver : Option Railway
 notice_of_one s m copy receiver same is none = ap (to_each (option_to_list receiver)) same ∙ one_noticed s m receiver is none
 
 -- a wagon's items by its progress are those of the message, if it names no other wagon
-of_one : (s : HubState) (m : Message) (w : ℕ) (p : NextEvent) (f : List Event → List Event → ℕ → List AddressedItem) → named_wagons s.offer m ≡ w ∷ [] →
-    p.wagon ≡ w → p.before ≡ s.journey w → after p ≡ journey_after s m w →
+of_one : (s : HubState) (m : Message) (w : ℕ) (p : NextEvent) (f : List Event → List Event → ℕ → List AddressedItem) → named_wagons s.offer m ≡ w ∷ [] → IsNextBy s m w p →
     f p.before (after p) p.wagon ≡ flat_map (λ v. f (s.journey v) (journey_after s m v) v) (named_wagons s.offer m)
-of_one s m w p f n wagon before behind =
-    ap (λ es. f es (after p) p.wagon) before ∙ ap (λ es. f (s.journey w) es p.wagon) behind ∙ ap (λ v. f (s.journey w) (journey_after s m w) v) wagon ∙
+of_one s m w p f n next =
+    ap (λ es. f es (after p) p.wagon) next.before ∙ ap (λ es. f (s.journey w) es p.wagon) next.behind ∙ ap (λ v. f (s.journey w) (journey_after s m w) v) next.wagon ∙
     sym (append-nil (f (s.journey w) (journey_after s m w) w)) ∙ ap (λ ws. flat_map (λ v. f (s.journey v) (journey_after s m v) v) ws) (sym n)
 
 -- a message on one wagon has its notice, if it has one, told to one railway
 pub items_of_one_wagon : (s : HubState) (m copy : Message) (w : ℕ) (receiver : Option Railway) (p : NextEvent) → copy ≡ m → named_wagons s.offer m ≡ w ∷ [] →
-    notice_receivers s (journey_after s m) m.by m.body ≡ option_to_list receiver → sub_items m.by m.body ≡ [] →
-    p.wagon ≡ w → p.before ≡ s.journey w → after p ≡ journey_after s m w →
+    notice_receivers s (journey_after s m) m.by m.body ≡ option_to_list receiver → sub_items m.by m.body ≡ [] → IsNextBy s m w p →
     map (λ r. record { to = r; body = item.Notice copy }) (option_to_list receiver) ++ estimate_items p.before (after p) p.wagon ++ alert_items p.before (after p) p.wagon ≡ all_items s m
-items_of_one_wagon s m copy w receiver p same n is none wagon before behind =
+items_of_one_wagon s m copy w receiver p same n is none next =
     ap (λ xs. xs ++ estimate_items p.before (after p) p.wagon ++ alert_items p.before (after p) p.wagon) (notice_of_one s m copy receiver same is none) ∙
-    ap (λ xs. notices s m ++ xs ++ alert_items p.before (after p) p.wagon) (of_one s m w p estimate_items n wagon before behind) ∙
-    ap (λ xs. notices s m ++ flat_map (estimates_at s m) (named_wagons s.offer m) ++ xs) (of_one s m w p alert_items n wagon before behind)
+    ap (λ xs. notices s m ++ xs ++ alert_items p.before (after p) p.wagon) (of_one s m w p estimate_items n next) ∙
+    ap (λ xs. notices s m ++ flat_map (estimates_at s m) (named_wagons s.offer m) ++ xs) (of_one s m w p alert_items n next)
 
 -- the same where nothing is told of the wagon's estimates
 pub items_of_notice_alone : (s : HubState) (m copy : Message) (w : ℕ) (receiver : Option Railway) (p : NextEvent) → copy ≡ m → named_wagons s.offer m ≡ w ∷ [] →
-    notice_receivers s (journey_after s m) m.by m.body ≡ option_to_list receiver → sub_items m.by m.body ≡ [] →
-    p.wagon ≡ w → p.before ≡ s.journey w → after p ≡ journey_after s m w →
+    notice_receivers s (journey_after s m) m.by m.body ≡ option_to_list receiver → sub_items m.by m.body ≡ [] → IsNextBy s m w p →
     estimate_items p.before (after p) p.wagon ≡ [] → alert_items p.before (after p) p.wagon ≡ [] →
     map (λ r. record { to = r; body = item.Notice copy }) (option_to_list receiver) ≡ all_items s m
-items_of_notice_alone s m copy w receiver p same n is none wagon before behind no_estimates no_alerts =
+items_of_notice_alone s m copy w receiver p same n is none next no_estimates no_alerts =
     sym (
     ap (λ xs. to_each (option_to_list receiver) copy ++ xs ++ alert_items p.before (after p) p.wagon) no_estimates ∙
     ap (λ xs. to_each (option_to_list receiver) copy ++ [] ++ xs) no_alerts ∙
     append-nil (to_each (option_to_list receiver) copy ++ []) ∙ append-nil (to_each (option_to_list receiver) copy)) ∙
-    items_of_one_wagon s m copy w receiver p same n is none wagon before behind
+    items_of_one_wagon s m copy w receiver p same n is none next

@@ -1,4 +1,4 @@
-use Rattle.hub_items.proofs.Common.{◌≡◌, ◌∙◌, List, ◌++◌, ap, sym, subst, OnOk, Event, NextEvent, after, AddressedItem, wagons_in, journey_after, notice_receivers, sub_items, movement_receivers, table_state}
+use Rattle.hub_items.proofs.Common.{◌≡◌, ◌∙◌, List, ◌++◌, ap, sym, subst, OnOk, Event, IsNextBy, after, AddressedItem, wagons_in, journey_after, notice_receivers, sub_items, movement_receivers, table_state}
 use Rattle.hub_items.proofs.MessageItemLemmas.{items_of_one_wagon}
 use Rattle.hub_items.proofs.item_list.put_of_next.Goals as goal
 
@@ -14,4 +14,4 @@ returns c =
     let receiver = ap (notice_receivers s (journey_after s m) m.by) is ∙ ap (λ (es : List Event). movement_receivers es c.args.movement.now.what) (sym behind) ∙ sym c.movement_receivers-receiver.ensures in
     let none = ap (sub_items m.by) is in
     subst (λ (more : List AddressedItem). OnOk c.put_of_one.result (c.put_of_one.new.items.items ≡ c.args.items.now.items ++ more))
-    (items_of_one_wagon s m _ _ _ _ c.requires.notice alone receiver none (ap (λ (o : NextEvent). o.wagon) same ∙ n.wagon) (ap (λ (o : NextEvent). o.before) same ∙ n.before) behind) c.put_of_one.ensures
+    (items_of_one_wagon s m _ _ _ _ c.requires.notice alone receiver none (subst (IsNextBy s m _) (sym same) n)) c.put_of_one.ensures
