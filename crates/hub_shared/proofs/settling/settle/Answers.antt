@@ -50,13 +50,4 @@ returns-in_err-check_tally-clause-told c = λ told.
     rw (p.1, p.2) (refutes _ _ c.args.tallies.now (lift _ _ _ _ _ page shows c.loop-session.invariant.0 there) told)
 
 pub returns-then-told-history-clause-told : goal.returns-then-told-history-clause-told
-returns-then-told-history-clause-told c = λ is_told.
-    let all = take_all c.loop-session.session c.args.tallies.now c.loop-session-test.false in
-    let told = c.loop-session.invariant.1 in
-    let from = c.from-told.ensures in
-    refutes _ c.args.hub.now c.args.tallies.now (
-      c.len-history.ensures.value,
-      from ∙ (told ∙ ap (λ l. sum_by (λ (p : TallyState). length p.entries) l) all),
-      (λ same. c.if-told-history.true (omega (arith, from, same))),
-    )
-    is_told
+returns-then-told-history-clause-told c = λ is_told. refutes _ c.args.hub.now c.args.tallies.now (returns-then-told-history-clause-err c) is_told
