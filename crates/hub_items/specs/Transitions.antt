@@ -25,12 +25,11 @@ pub record IsNextBy (s : HubState) (m : Message) (w : ℕ) (o : NextEvent) : Typ
   pub behind : after o ≡ journey_after s m w
   pub says : o.event.body ≡ event_body_for s.offer m.by m.body w
 
--- the transition is of this wagon, and these are the estimates of its events and of those with the next one
-pub record IsTransitionOf (j : Journey) (o : NextEvent) (were are : EstimatesState) : Type 0 where
+-- the transition is of this wagon, and the estimates are those of the events with the next one
+pub record IsTransitionOf (j : Journey) (o : NextEvent) (c : EstimatesState) : Type 0 where
   pub wagon_is : o.wagon ≡ j.wagon
   pub before_is : o.before ≡ j.events
-  pub estimates_were : were ≡ estimates_state o.before
-  pub estimates_are : are ≡ estimates_state (after o)
+  pub estimates_are : c ≡ estimates_state (after o)
 
 -- an event that leaves the legs and the anchor of the estimates as they are, and delays nothing (4.2.6)
 abbrev pub keeps_estimates : EventBody → Bool

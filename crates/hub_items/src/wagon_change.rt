@@ -104,13 +104,10 @@ impl<'a> WagonEvent<'a> {
         requires { transition.now ≡ self.now }
         ensures { result ≡ self.now }
     {
-        let before = self.wagon.estimates();
-        let after = before.followed(transition);
         WagonChange {
             wagon: self.wagon,
             transition,
-            before,
-            after,
+            estimates: self.wagon.estimates().followed(transition),
         }
     }
 }
@@ -144,9 +141,8 @@ fn is_in_yard(what: MovementKind) -> bool
 pub(crate) struct WagonChange<'a> {
     wagon: &'a Wagon,
     transition: &'a Transition<'a>,
-    // When the wagon was expected, and when it is with the event.
-    before: Estimates<'a>,
-    after: Estimates<'a>,
+    // When the wagon is expected with the event.
+    estimates: Estimates<'a>,
 }
 
 impl<'a> Model for WagonChange<'a> {
@@ -157,7 +153,7 @@ impl<'a> Model for WagonChange<'a> {
 
     ghost view = { λ p. p.transition.now };
 
-    ghost invariant = { λ p. IsTransitionOf p.wagon.now p.transition.now p.before p.after };
+    ghost invariant = { λ p. IsTransitionOf p.wagon.now p.transition.now p.estimates };
 }
 
 impl<'a> WagonChange<'a> {
@@ -211,34 +207,34 @@ impl<'a> WagonChange<'a> {
     pub(crate) fn estimate_before(&self, leg: usize) -> Option<Moment>
         ensures { result ≡ of.estimate self.now.before leg }
     {
-        self.before.estimate(leg)
+        self.wagon.estimates().estimate(leg)
     }
 
     /// When the wagon is expected at the end of a leg with the event.
     pub(crate) fn estimate_after(&self, leg: usize) -> Option<Moment>
         ensures { result ≡ of.estimate (after self.now) leg }
     {
-        self.after.estimate(leg)
+        self.estimates.estimate(leg)
     }
 
     /// Whether the wagon was late before the event.
     pub(crate) fn was_late(&self) -> bool
         ensures { result ≡ of.is_late self.now.before }
     {
-        self.before.late()
+        self.wagon.estimates().late()
     }
 
     /// Whether the wagon is late with the event.
     pub(crate) fn is_late(&self) -> bool
         ensures { result ≡ of.is_late (after self.now) }
     {
-        self.after.late()
+        self.estimates.late()
     }
 
     /// By how many minutes the wagon is late with the event, if it is.
     pub(crate) fn late_by(&self) -> Option<u32>
         ensures { result ≡ of.late_by (after self.now) }
     {
-        self.after.late_by()
+        self.estimates.late_by()
     }
 }

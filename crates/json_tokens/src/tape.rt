@@ -142,7 +142,6 @@ impl<'t, 'a> TapeValue<'t, 'a> {
     }
 
     /// The value under a key of the object that it is: the last one.
-    #[inline(never)]
     pub fn get(&self, name: &str) -> Option<TapeValue<'t, 'a>>
         ensures { option_map (λ v. tape_data v.element) result
             ≡ find.get name.now (tape_data self.now.element) }
