@@ -4,7 +4,7 @@ use crate::journeys::Run;
 use crate::measured::Measured;
 use crate::samples;
 use anyhow::{Result, bail};
-use call_reader::CallReader;
+use call_reader::{CallReader, FlatRecord};
 use reply_writer::append_reply;
 use serde_json::Value;
 use std::alloc::Global;
@@ -28,9 +28,10 @@ pub(crate) fn parse(clock: &impl Clock, alloc: Global, count: u64) -> Result<Mea
 pub(crate) fn read(clock: &impl Clock, alloc: Global, count: u64) -> Result<Measured> {
     let lines = samples::departures(alloc, count)?;
     let mut reader = CallReader::new(alloc);
+    let mut record = FlatRecord::new(alloc);
     let start = Instant::now(clock)?;
     for line in &lines {
-        let call = reader.read(line.as_bytes())?;
+        let call = reader.read(&mut record, line.as_bytes())?;
         if !matches!(&call, Call::Send(_)) {
             bail!("the sample is no message");
         }

@@ -3,7 +3,7 @@ ghost use Rattle.std.specs.Prelude.{◌≡◌, ◌≤◌, false, length, IfOk, O
 ghost use Rattle.call_reader.specs.Reading.{Gives};
 ghost use Rattle.call_lines.specs.Lines.{call_in, parsed_line, is_blank, IsNotMemory};
 
-use call_reader::CallReader;
+use call_reader::{CallReader, FlatRecord};
 use taf_codes::Memory;
 use taf_messages::{Call, RecordFault};
 
@@ -22,10 +22,14 @@ pub enum ParsedLine {
     Called(Call),
 }
 
-/// What the line says, which is given without its newline. The answer is [`Memory`] only where reading a call was
+/// What the line says, which is given without its newline. The record is used again for line after line. The answer is [`Memory`] only where reading a call was
 /// refused some, so never for a line that is too long or blank.
 #[tactic(auto, unfolding(crate::specs::Lines::parsed_line))]
-pub fn parse_line(reader: &mut CallReader, line: &[u8]) -> Result<ParsedLine, Memory>
+pub fn parse_line<'a>(
+    reader: &mut CallReader,
+    record: &mut FlatRecord<'a>,
+    line: &'a [u8],
+) -> Result<ParsedLine, Memory>
     ensures value { IfOk result (λ p. p ≡ parsed_line line.now) }
     ensures reportable { IfOk result IsNotMemory }
     ensures refused { OnErr result ((length line.now ≤ 65536) × (is_blank line.now ≡ false)) }
@@ -36,7 +40,7 @@ pub fn parse_line(reader: &mut CallReader, line: &[u8]) -> Result<ParsedLine, Me
     if is_blank_line(line) {
         return Ok(ParsedLine::Blank);
     }
-    match call_of(reader, line) {
+    match call_of(reader, record, line) {
         Ok(call) => Ok(ParsedLine::Called(call)),
         Err(RecordFault::Memory) => Err(Memory),
         Err(fault) => Ok(ParsedLine::Fault(fault)),
@@ -44,10 +48,14 @@ pub fn parse_line(reader: &mut CallReader, line: &[u8]) -> Result<ParsedLine, Me
 }
 
 // The call of a line, whether it is text or not.
-fn call_of(reader: &mut CallReader, line: &[u8]) -> Result<Call, RecordFault>
+fn call_of<'a>(
+    reader: &mut CallReader,
+    record: &mut FlatRecord<'a>,
+    line: &'a [u8],
+) -> Result<Call, RecordFault>
     ensures { Gives result (call_in line.now) }
 {
-    reader.read(line)
+    reader.read(record, line)
 }
 
 /// Whether the line has blanks, tabs and carriage returns alone, or nothing.

@@ -25,7 +25,7 @@ pub fn read_call(alloc: Global, line: &[u8]) -> Result<Call, RecordFault>
     ensures text { IsUtf8 line.now → Gives result (reading.call_read (read_text line.now)) }
     ensures no_text { ¬ (IsUtf8 line.now) → Gives result (Err RecordFault.BadJson) }
 {
-    CallReader::new(alloc).read(line)
+    CallReader::new(alloc).read(&mut FlatRecord::new(alloc), line)
 }
 
 /// Reads the calls of many lines, and keeps the memory that reading takes from line to line.
@@ -44,26 +44,35 @@ impl CallReader {
         }
     }
 
-    /// The call that the line is, or the first fault of it, whatever was read before. Memory may be
-    /// refused in place of any answer.
-    pub fn read(&mut self, line: &[u8]) -> Result<Call, RecordFault>
+    /// The call that the line is, or the first fault of it, whatever was read before. A line without lists is read into the
+    /// record, whose memory lines that stay use one after another. Memory may be refused in place of any answer.
+    pub fn read<'a>(
+        &mut self,
+        record: &mut FlatRecord<'a>,
+        line: &'a [u8],
+    ) -> Result<Call, RecordFault>
         // A line that is text is what its JSON says.
         ensures text { IsUtf8 line.now → Gives result (reading.call_read (read_text line.now)) }
         ensures no_text { ¬ (IsUtf8 line.now) → Gives result (Err RecordFault.BadJson) }
     {
         match str::from_utf8(line) {
-            Ok(text) => read_line(self.alloc, text, &mut self.scratch),
+            Ok(text) => read_line(self.alloc, record, text, &mut self.scratch),
             Err(_) => Err(RecordFault::BadJson),
         }
     }
 }
 
 // The call that a text is. Most records have no lists, and are read into one list of their fields.
-fn read_line(alloc: Global, text: &str, scratch: &mut Scratch) -> Result<Call, RecordFault>
+fn read_line<'a>(
+    alloc: Global,
+    record: &mut FlatRecord<'a>,
+    text: &'a str,
+    scratch: &mut Scratch,
+) -> Result<Call, RecordFault>
     ensures { Gives result (reading.call_read (read_text text.now)) }
 {
-    if let Some(record) = FlatRecord::read(alloc, text, scratch)? {
-        let value = JsonValue::Flat(&record);
+    if record.read(text)? {
+        let value = JsonValue::Flat(record);
         return read_record(&Fields { alloc, value });
     }
     read_tape(alloc, text, scratch)

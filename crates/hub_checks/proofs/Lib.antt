@@ -1,4 +1,4 @@
 pub mod Common
 pub mod ContinuationLemmas
 pub mod UnitLoadLemmas
-pub mod AloneFaultLemmas
+pub mod CheckLemmas

@@ -15,9 +15,9 @@
 //! Nothing is changed, and the tables stay as they are. Memory is taken only for the list of the wagons of an answer.
 #![tactic(auto)]
 
-mod judging;
+mod checked;
 mod units;
 mod wagon;
 mod whole;
 
-pub use judging::{Checked, check};
+pub use checked::{Checked, check};

@@ -1,58 +1,65 @@
 //! What may be wrong with one wagon that a message names.
-ghost use Rattle.std.specs.Prelude.{◌≡◌, ◌&&◌, ◌++◌, ◌∷◌, [], IfOk, None, Some, not, if◌then◌else◌};
+ghost use Rattle.std.specs.Prelude.{◌≡◌, ◌&&◌, ◌++◌, ◌∷◌, [], IfOk, None, Some, true, not, if◌then◌else◌};
+ghost use Rattle.std.specs.List.{find};
 ghost use Rattle.std.specs.Option.{option_or};
+ghost use Rattle.trip_plan.specs.Rules.{has};
 ghost use Rattle.journey.specs.Stages as stages;
 ghost use Rattle.journey.specs.Checks.{refusal};
 ghost use Rattle.eti_chain.specs.Estimates as estimates;
-ghost use Rattle.hub_model.specs.Faults as of;
-ghost use Rattle.hub_model.specs.Laws.{OpenIsOffered};
+ghost use Rattle.hub_model.specs.HubState.{named_wagons};
+ghost use Rattle.hub_model.specs.Faults.{is_busy};
 ghost use Rattle.hub_tables.specs.TableStates.{table_state};
-ghost use Rattle.hub_checks.specs.Judging.{NamesWagon};
+ghost use Rattle.hub_checks.specs.Checked.{GoesOn, IsWagonChecked};
 
-use hub_tables::{Tables, Wagon};
+use hub_tables::{EventAt, Tables, Wagon};
 use journey::{Event, EventBody};
 use taf_codes::Memory;
-use taf_messages::{Body, Message, MovementKind, Why};
+use taf_messages::{Message, MovementKind, Why};
 use wagon_number::WagonNumber;
 
-/// Why the message is refused at a wagon that it names, if it is; it is not refused as a whole.
-pub(crate) fn wagon_fault(
+/// Checks a wagon that the message names: by its own events, and then by the calendar. Gives its event, or why the message is
+/// refused there.
+pub(crate) fn check_wagon(
     tables: &Tables,
     message: &Message,
     wagon: WagonNumber,
-) -> Result<Option<Why>, Memory>
-    requires named { NamesWagon (table_state tables.now) message.now wagon }
-    requires offered { OpenIsOffered (table_state tables.now) }
-    ensures { IfOk result (λ why. why
-        ≡ of.wagon_fault (table_state tables.now) message.now message.now.body wagon) }
+) -> Result<Result<EventAt<Event>, Why>, Memory>
+    requires goes_on { GoesOn (table_state tables.now) message.now }
+    requires named { has (named_wagons (table_state tables.now).offer message.now) wagon ≡ true }
+    ensures { IfOk result (IsWagonChecked (table_state tables.now) message.now wagon) }
 {
-    match message.body() {
-        Body::Plan(_) => Ok(busy_fault(tables, wagon)),
-        Body::Answer(_) => calendar_fault(tables, message, wagon),
-        Body::Withdraw { .. } => Ok(None),
-        Body::Movement(_)
-        | Body::EtiAsk { .. }
-        | Body::LegTime { .. }
-        | Body::Offer(_)
-        | Body::Reroute { .. } => either_fault(tables, message, wagon),
+    let Some((position, found)) = tables.find(wagon) else {
+        return Ok(Err(Why::UnknownWagon));
+    };
+    if !found.has_room() {
+        return Err(Memory);
+    }
+    let event = tables.event_for(message, wagon)?;
+    match event_fault(found, &event) {
+        Some(why) => Ok(Err(why)),
+        None => Ok(Ok(EventAt {
+            wagon,
+            position,
+            event,
+        })),
     }
 }
 
-// A wagon is planned anew once it is delivered.
-fn busy_fault(tables: &Tables, wagon: WagonNumber) -> Option<Why>
-    ensures { result ≡ (if of.is_busy ((table_state tables.now).journey wagon)
-        then Some Why.WagonBusy else None) }
+/// The first of a plan's wagons that is busy: a wagon is planned anew once it is delivered.
+pub(crate) fn first_busy(tables: &Tables, wagons: &[WagonNumber]) -> Option<WagonNumber>
+    ensures { result ≡ find (λ w. is_busy ((table_state tables.now).journey w)) wagons.now }
 {
-    if is_busy(tables, wagon) {
-        Some(Why::WagonBusy)
-    } else {
-        None
+    for wagon in wagons {
+        if is_busy(tables, *wagon) {
+            return Some(*wagon);
+        }
     }
+    None
 }
 
 // It has a journey without delivery.
 fn is_busy(tables: &Tables, wagon: WagonNumber) -> bool
-    ensures { result ≡ of.is_busy ((table_state tables.now).journey wagon) }
+    ensures { result ≡ is_busy ((table_state tables.now).journey wagon) }
 {
     match tables.wagon(wagon) {
         Some(found) => !found.track().journey_state().is_delivered,
@@ -70,28 +77,8 @@ pub(crate) fn is_delivered(tables: &Tables, wagon: WagonNumber) -> bool
     }
 }
 
-// The checks by the wagon's own events, and then that of the calendar.
-fn either_fault(
-    tables: &Tables,
-    message: &Message,
-    wagon: WagonNumber,
-) -> Result<Option<Why>, Memory>
-    requires named { NamesWagon (table_state tables.now) message.now wagon }
-    ensures { IfOk result (λ why. why
-        ≡ option_or (of.known_fault (table_state tables.now) message.now wagon)
-        (of.calendar_fault (table_state tables.now) message.now wagon)) }
-{
-    match tables.wagon(wagon) {
-        Some(found) => {
-            let event = tables.event_for(message, wagon)?;
-            Ok(event_fault(found, &event))
-        }
-        None => Ok(Some(Why::UnknownWagon)),
-    }
-}
-
-/// Why a wagon that is known may not have the event: by its own events, or since an estimate would pass the calendar.
-pub(crate) fn event_fault(wagon: &Wagon, event: &Event) -> Option<Why>
+// Why a wagon that is known may not have the event: by its own events, or since an estimate would pass the calendar.
+fn event_fault(wagon: &Wagon, event: &Event) -> Option<Why>
     ensures { result ≡ option_or (refusal wagon.now.events event.now.by event.now.body)
         (if estimates.is_calendar_checked event.now.body && not
         (estimates.fits (wagon.now.events ++ event.now ∷ [])) then Some Why.BeyondCalendar
@@ -101,25 +88,6 @@ pub(crate) fn event_fault(wagon: &Wagon, event: &Event) -> Option<Why>
         Some(why) => Some(why),
         None if is_beyond(wagon, event) => Some(Why::BeyondCalendar),
         None => None,
-    }
-}
-
-// With the message, an estimate of the wagon, whose journey admits it, would pass the calendar.
-fn calendar_fault(
-    tables: &Tables,
-    message: &Message,
-    wagon: WagonNumber,
-) -> Result<Option<Why>, Memory>
-    requires named { NamesWagon (table_state tables.now) message.now wagon }
-    requires admitted { of.known_fault (table_state tables.now) message.now wagon ≡ None }
-    ensures { IfOk result (λ why. why
-        ≡ of.calendar_fault (table_state tables.now) message.now wagon) }
-{
-    let event = tables.event_for(message, wagon)?;
-    match tables.wagon(wagon) {
-        Some(found) if is_beyond(found, &event) => Ok(Some(Why::BeyondCalendar)),
-        Some(_) => Ok(None),
-        None => unreachable!(),
     }
 }
 

@@ -1,10 +1,9 @@
 //! New messages that are accepted: first all that may be refused memory, then steps that cannot fail.
-ghost use Rattle.std.specs.Prelude.{◌≡◌, ◌<◌, ◌^◌, length, OnOk, None, true};
+ghost use Rattle.std.specs.Prelude.{◌≡◌, ◌<◌, ◌^◌, length, OnOk};
 ghost use Rattle.taf_codes.specs.declared.code.Railway.{Railway};
 ghost use Rattle.outbox.specs.OutboxStates.{outbox_state_of};
 ghost use Rattle.taf_messages.specs.declared.call.Call.TheVariants as call;
-ghost use Rattle.replay_numbers.specs.SentPositions.{position_of, has_room};
-ghost use Rattle.hub_tables.specs.TableStates.{table_state, IsAcceptable, event_alone};
+ghost use Rattle.hub_tables.specs.TableStates.{table_state, IsAcceptable, AreNextEvents};
 ghost use Rattle.hub_core.specs.States.{Applies, IsNew, MayTake};
 ghost use Rattle.hub_core.specs.Delivery.{AreReady};
 
@@ -13,11 +12,11 @@ use crate::state::State;
 use crate::verdicts::{entry_of, verdict};
 use hub_items::put_items;
 use hub_model::items_and_events_are_bounded;
-use journey::Event;
+use hub_tables::NextEvents;
 use outbox::boxes_keep_the_lists;
 use std::alloc::Global;
-use taf_codes::{Memory, Railway};
-use taf_messages::{Message, MessageNumber, Reply, Shared};
+use taf_codes::Memory;
+use taf_messages::{Message, Reply, Shared};
 
 // Makes room for one entry more and for the items in the list. Nothing that is looked up changes.
 fn make_room(state: &mut State) -> Result<(), Memory>
@@ -36,18 +35,18 @@ fn make_room(state: &mut State) -> Result<(), Memory>
     Ok(())
 }
 
-/// Takes a new message that may be accepted, with the event of the wagon that it names alone: all that can be refused
-/// memory comes first, and then what cannot.
+/// Takes a new message that may be accepted, with the events of its wagons: all that can be refused memory comes first, and
+/// then what cannot.
 pub(crate) fn accept(
     alloc: Global,
     state: &mut State,
     message: Shared<Message>,
-    event: Option<Event>,
+    events: NextEvents,
 ) -> Result<Reply, Memory>
     requires ready { MayTake state.old }
     requires new { IsNew state.old message }
     requires acceptable { IsAcceptable (table_state state.old.tables) message }
-    requires event { event ≡ event_alone (table_state state.old.tables) message }
+    requires events { AreNextEvents (table_state state.old.tables) message events }
     ensures { Applies state.old state.new (call.Send message) result }
 {
     boxes_keep_the_lists();
@@ -56,15 +55,9 @@ pub(crate) fn accept(
     let content = sent.content();
     let by = content.by;
     let no = content.no;
-    put_items(
-        alloc,
-        &mut state.items,
-        &state.tables,
-        &message,
-        event.as_ref(),
-    )?;
+    put_items(alloc, &mut state.items, &state.tables, &message, &events)?;
     make_room(state)?;
-    state.tables.accept(alloc, sent, event)?;
+    state.tables.accept(alloc, sent, events)?;
     deliver(&mut state.outboxes, &mut state.items);
     let position = state.history.len() as u64;
     state.seen.note_reserved(by, no, position);

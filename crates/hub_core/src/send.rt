@@ -53,7 +53,7 @@ fn apply_new(alloc: Global, state: &mut State, message: Shared<Message>) -> Resu
     offers_are_in_order();
     match check(alloc, &state.tables, message.get())? {
         Checked::Refused(found) => refuse(state, message, found),
-        Checked::Accepted(event) => accept(alloc, state, message, event),
+        Checked::Accepted(events) => accept(alloc, state, message, events),
     }
 }
 

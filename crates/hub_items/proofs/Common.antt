@@ -1,15 +1,15 @@
 -- What the proofs of this crate have in common: the names of other crates, of the standard library and of its own definitions.
 pub use Rattle.std.specs.List.{cons_option, range_with_len, list_any}
 pub use Rattle.std.specs.Option.{option_eq, option_and_then, option_or, option_copied}
-pub use Rattle.std.specs.Prelude.{◌||◌, filter_map, option_map, map, flat_map, option_to_list, not, bytes_eq, filter, nat_eq, slice_get, is_some, OnOk}
-pub use Rattle.std.proofs.Common.{◌≡◌, ℕ, Bool, true, List, [], ◌∷◌, ◌++◌, Option, None, refl, ap, ◌∙◌, sym, false, cond, Some, append_assoc, append-nil, length, zero, suc, ◌+◌, ◌<◌, take, get_or, arith, rules, subst}
+pub use Rattle.std.specs.Prelude.{◌||◌, filter_map, option_map, map, flat_map, option_to_list, not, bytes_eq, filter, nat_eq, slice_get, is_some, OnOk, All}
+pub use Rattle.std.proofs.Common.{◌≡◌, ℕ, Bool, true, true≢false, Result, Ok, Err, take_all, List, [], ◌∷◌, ◌++◌, Option, None, refl, ap, ◌∙◌, sym, false, cond, Some, append_assoc, append-nil, length, zero, suc, ◌+◌, ◌<◌, take, get_or, arith, rules, subst}
 pub use Rattle.std.proofs.Math.Dec.{eqb-suc-suc}
 pub use Rattle.std.proofs.lemmas.Bool.{or_right, false≢true}
 pub use Rattle.std.proofs.lemmas.Fn.{filter_same}
 pub use Rattle.std.proofs.lemmas.Grind.{flat_map-append}
 pub use Rattle.std.proofs.lemmas.List.{map-append, take_more}
-pub use Rattle.std.proofs.lemmas.List.Elements.{filter-append, filter_map-append}
-pub use Rattle.std.proofs.lemmas.Option.{none-some}
+pub use Rattle.std.proofs.lemmas.List.Elements.{filter-append, filter_map-append, All-head}
+pub use Rattle.std.proofs.lemmas.Option.{none-some, same_Some}
 pub use Rattle.std.proofs.lemmas.Result.{IfOk-equal, on_ok_weaker}
 pub use Rattle.std.proofs.lemmas.Slice.Eq.{bytes_eq-Decides}
 pub use Rattle.taf_codes.specs.Words.{same_text}
@@ -42,8 +42,12 @@ pub use Rattle.hub_model.specs.Faults.{known_fault}
 pub use Rattle.hub_model.specs.HubState.{HubState, named_wagons, event_for, journey_after, wagons_in, event_body_for}
 pub use Rattle.hub_model.specs.Items.{each_once, alert, alert_receivers, alert_items, notice_receivers, sub_items, notices, estimate_items, is_news, estimate_item, movement_receivers}
 pub use Rattle.hub_model.specs.declared.addressed_item.AddressedItem.{AddressedItem}
-pub use Rattle.hub_model.proofs.NoFaultLemmas.{goes_on, planned_anew}
-pub use Rattle.hub_tables.specs.TableStates.{IsAcceptable, table_state, event_alone, continues_journeys}
-pub use Rattle.hub_tables.proofs.AloneLemmas.{event_given, alone_has, alone_continues, event_of_alone}
-pub use Rattle.hub_items.specs.MessageItems.{all_items}
+pub use Rattle.hub_model.proofs.NoFaultLemmas.{known_allowed, planned_anew}
+pub use Rattle.hub_tables.specs.TableStates.{IsAcceptable, table_state, continues_journeys, named_alone, IsEventOf, AreEventsOf}
+unfoldable pub use Rattle.hub_tables.specs.TableStates.{AreNextEvents}
+pub use Rattle.hub_tables.specs.declared.next_events.EventAt.{EventAt}
+pub use Rattle.hub_tables.specs.declared.next_events.NextEvents.{NextEvents}
+pub use Rattle.hub_tables.proofs.AloneLemmas.{alone_named, alone_has, alone_continues, event_alone}
+pub use Rattle.hub_tables.proofs.NextEventLemmas.{has_at, known_begun, admitted_by, comes_last}
+pub use Rattle.hub_items.specs.MessageItems.{MayBeAccepted, all_items}
 pub use Rattle.hub_items.specs.Transitions.{IsNextBy, keeps_estimates, estimate_of}

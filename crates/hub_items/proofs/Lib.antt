@@ -6,3 +6,4 @@ pub mod AcceptanceLemmas
 pub mod AlertLemmas
 pub mod NoticeLemmas
 pub mod MessageItemLemmas
+pub mod WagonItemLemmas

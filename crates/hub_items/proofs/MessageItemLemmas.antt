@@ -15,14 +15,13 @@ three_put start first second third one two f s =
     ap (λ xs. xs ++ third) (s ∙ ap (λ xs. xs ++ second) f ∙ append_assoc start first second) ∙ append_assoc start (first ++ second) third
 
 -- those of many wagons: the alerts stand apart until the estimates are put
-pub items_of_many_wagons : (s : HubState) (m : Message) (start one two none alerts last : List AddressedItem) (wagons : List ℕ) → one ≡ start ++ notices s m → wagons ≡ named_wagons s.offer m →
-    two ≡ one ++ flat_map (λ w. estimate_items (s.journey w) (journey_after s m w) w) wagons →
-    none ≡ [] → alerts ≡ none ++ flat_map (λ w. alert_items (s.journey w) (journey_after s m w) w) wagons →
+pub items_of_many_wagons : (s : HubState) (m : Message) (start one two none alerts last : List AddressedItem) → one ≡ start ++ notices s m →
+    two ≡ one ++ flat_map (estimates_at s m) (named_wagons s.offer m) → none ≡ [] → alerts ≡ none ++ flat_map (alerts_at s m) (named_wagons s.offer m) →
     last ≡ two ++ alerts → last ≡ start ++ all_items s m
-items_of_many_wagons s m start one two none alerts last wagons f ws a e b t =
+items_of_many_wagons s m start one two none alerts last f a e b t =
+    let wagons = named_wagons s.offer m in
     t ∙ ap (λ ys. two ++ ys) (b ∙ ap (λ ys. ys ++ flat_map (alerts_at s m) wagons) e) ∙
-    three_put start (notices s m) (flat_map (estimates_at s m) wagons) (flat_map (alerts_at s m) wagons) one two f a ∙
-    ap (λ us. start ++ (notices s m ++ flat_map (estimates_at s m) us ++ flat_map (alerts_at s m) us)) ws
+    three_put start (notices s m) (flat_map (estimates_at s m) wagons) (flat_map (alerts_at s m) wagons) one two f a
 
 once_one : (found : Option Railway) → each_once (option_to_list found) ≡ option_to_list found
 once_one None = refl
@@ -46,10 +45,10 @@ pub notice_of_one : (s : HubState) (m copy : Message) (receiver : Option Railway
 notice_of_one s m copy receiver same is none = ap (to_each (option_to_list receiver)) same ∙ one_noticed s m receiver is none
 
 -- a wagon's items by its progress are those of the message, if it names no other wagon
-of_one : (s : HubState) (m : Message) (w : ℕ) (p : NextEvent) (f : List Event → List Event → ℕ → List AddressedItem) → named_wagons s.offer m ≡ w ∷ [] → IsNextBy s m w p →
+pub of_one : (s : HubState) (m : Message) (w : ℕ) (p : NextEvent) (f : List Event → List Event → ℕ → List AddressedItem) → named_wagons s.offer m ≡ w ∷ [] → IsNextBy s m w p →
     f p.before (after p) p.wagon ≡ flat_map (λ v. f (s.journey v) (journey_after s m v) v) (named_wagons s.offer m)
 of_one s m w p f n next =
-    ap (λ es. f es (after p) p.wagon) next.before ∙ ap (λ es. f (s.journey w) es p.wagon) next.behind ∙ ap (λ v. f (s.journey w) (journey_after s m w) v) next.wagon ∙
+    ap (λ es. f es (after p) p.wagon) next.before ∙ ap (λ es. f (s.journey w) es p.wagon) next.events_after ∙ ap (λ v. f (s.journey w) (journey_after s m w) v) next.wagon ∙
     sym (append-nil (f (s.journey w) (journey_after s m w) w)) ∙ ap (λ ws. flat_map (λ v. f (s.journey v) (journey_after s m v) v) ws) (sym n)
 
 -- a message on one wagon has its notice, if it has one, told to one railway

@@ -1,22 +1,17 @@
 -- All items of a message, before those for its sender are taken out.
-use Rattle.std.specs.Prelude.{◌≡◌, Bool, true, false, List, ◌++◌, flat_map}
-use Rattle.std.specs.Option.{option_copied}
+use Rattle.std.specs.Prelude.{Bool, true, false, List, ◌++◌, flat_map}
 use Rattle.taf_messages.specs.declared.message.Message.{Message}
 use Rattle.taf_messages.specs.declared.message.Body.{Body}
 use Rattle.taf_messages.specs.declared.message.Body.TheVariants as body
 use Rattle.hub_model.specs.declared.addressed_item.AddressedItem.{AddressedItem}
 use Rattle.hub_model.specs.HubState.{HubState, named_wagons, journey_after}
 use Rattle.hub_model.specs.Items.{notices, estimate_items, alert_items}
-use Rattle.hub_tables.specs.TableStates.{IsAcceptable, event_alone, table_state}
+use Rattle.hub_tables.specs.TableStates.{IsAcceptable, AreNextEvents, table_state}
 use Rattle.hub_items.specs.declared.acceptable.Acceptable.{Acceptable}
 
--- the tables may accept the message, and the event is that of the wagon that it names alone
+-- the tables may accept the message, and the events are those of its wagons
 abbrev pub MayBeAccepted : Acceptable → Type 0
-MayBeAccepted from = IsAcceptable (table_state from.tables.now) from.message.now × (option_copied from.event ≡ event_alone (table_state from.tables.now) from.message.now)
-
--- the message may be accepted, and the notice carries it
-abbrev pub IsAcceptableWithNotice : HubState → Message → Message → Type 0
-IsAcceptableWithNotice s m notice = IsAcceptable s m × (notice ≡ m)
+MayBeAccepted from = IsAcceptable (table_state from.tables.now) from.message.now × AreNextEvents (table_state from.tables.now) from.message.now from.events.now
 
 -- at most one railway gets the notice, and its wagon's journey tells which
 abbrev pub has_one_receiver : Body → Bool

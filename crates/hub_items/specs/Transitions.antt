@@ -22,7 +22,7 @@ pub record IsNextEvent (o : NextEvent) : Type 0 where
 pub record IsNextBy (s : HubState) (m : Message) (w : ℕ) (o : NextEvent) : Type 0 where
   pub wagon : o.wagon ≡ w
   pub before : o.before ≡ s.journey w
-  pub behind : after o ≡ journey_after s m w
+  pub events_after : after o ≡ journey_after s m w
   pub says : o.event.body ≡ event_body_for s.offer m.by m.body w
 
 -- the transition is of this wagon, and the estimates are those of the events with the next one

@@ -10,9 +10,9 @@
 //! 4. of each wagon of the message, the alert that begins or ends: to the lead, and to the railway that answers for it.
 //!
 //! None goes to the sender of the message. Nothing is changed: what the message leads to is computed by one transition
-//! from what the tables have of its wagons. The event of a wagon that the message names alone is lent, and those of
-//! several wagons are made one after another. The list is empty before the items are put, and keeps its memory: so one that
-//! is lent again for the next message mostly takes no more.
+//! from what the tables have of its wagons. The events are lent that were made to check the message, each with its wagon's
+//! position in the tables. The list is empty before the items are put, and keeps its memory: so one that is lent again for the
+//! next message mostly takes no more.
 #![tactic(auto)]
 
 mod acceptable;
@@ -23,5 +23,6 @@ mod item_list;
 mod notices;
 mod receivers;
 mod wagon_change;
+mod wagons;
 
 pub use item_list::put_items;

@@ -2,12 +2,12 @@
 ghost use Rattle.std.specs.Prelude.{◌≡◌, ◌++◌, true, false, IfOk, OnOk, option_to_list};
 ghost use Rattle.hub_model.specs.Items as of;
 ghost use Rattle.hub_tables.specs.TableStates.{table_state};
-ghost use Rattle.hub_items.specs.MessageItems.{IsAcceptableWithNotice, has_one_receiver, may_have_many_receivers};
+ghost use Rattle.hub_items.specs.MessageItems.{MayBeAccepted, has_one_receiver, may_have_many_receivers};
 
+use crate::acceptable::Acceptable;
 use crate::each::{put_each_once, put_notice};
 use crate::receivers::{notice_receivers, withdrawal_receivers};
 use hub_model::AddressedItem;
-use hub_tables::Tables;
 use std::alloc::Global;
 use taf_codes::{Memory, Railway};
 use taf_messages::{Body, ItemBody, Message, Shared, SubNotice, TrainAnswer};
@@ -16,24 +16,24 @@ use taf_messages::{Body, ItemBody, Message, Shared, SubNotice, TrainAnswer};
 pub(crate) fn put_notices(
     alloc: Global,
     items: &mut Vec<AddressedItem>,
-    tables: &Tables,
-    message: &Message,
+    from: Acceptable<'_>,
     notice: &Shared<Message>,
 ) -> Result<(), Memory>
-    requires notice { IsAcceptableWithNotice (table_state tables.now) message.now notice.now }
-    requires many { has_one_receiver message.now.body ≡ false }
+    requires acceptable { MayBeAccepted from }
+    requires notice { notice.now ≡ from.message.now }
+    requires many { has_one_receiver from.message.now.body ≡ false }
     ensures { OnOk result (items.new.items ≡ items.old.items
-        ++ of.notices (table_state tables.now) message.now) }
+        ++ of.notices (table_state from.entry.tables.now) from.entry.message.now) }
 {
-    match message.body() {
+    match from.message.body() {
         Body::LegTime { .. } => Ok(()),
         Body::Offer(offer) => put_notice(items, notice, Some(offer.get().to)),
         Body::Withdraw { offer, .. } => {
-            let asked = withdrawal_receivers(tables, message.by(), *offer);
+            let asked = withdrawal_receivers(from.tables, from.message.by(), *offer);
             put_notice(items, notice, asked)
         }
         Body::Plan(_) | Body::Answer(_) | Body::Reroute { .. } => {
-            put_many(alloc, items, tables, message, notice)
+            put_many(alloc, items, from, notice)
         }
         Body::Movement(_) | Body::EtiAsk { .. } => unreachable!(),
     }
@@ -43,18 +43,18 @@ pub(crate) fn put_notices(
 fn put_many(
     alloc: Global,
     items: &mut Vec<AddressedItem>,
-    tables: &Tables,
-    message: &Message,
+    from: Acceptable<'_>,
     notice: &Shared<Message>,
 ) -> Result<(), Memory>
-    requires notice { IsAcceptableWithNotice (table_state tables.now) message.now notice.now }
-    requires many { may_have_many_receivers message.now.body ≡ true }
+    requires acceptable { MayBeAccepted from }
+    requires notice { notice.now ≡ from.message.now }
+    requires many { may_have_many_receivers from.message.now.body ≡ true }
     ensures { OnOk result (items.new.items ≡ items.old.items
-        ++ of.notices (table_state tables.now) message.now) }
+        ++ of.notices (table_state from.entry.tables.now) from.entry.message.now) }
 {
-    let concerned = notice_receivers(alloc, tables, message)?;
+    let concerned = notice_receivers(alloc, from)?;
     put_each_once(items, notice, concerned.as_slice())?;
-    put_sub_notice(alloc, items, message.by(), message.body())?;
+    put_sub_notice(alloc, items, from.message.by(), from.message.body())?;
     Ok(())
 }
 

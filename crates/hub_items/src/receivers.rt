@@ -3,36 +3,33 @@ ghost use Rattle.std.specs.Prelude.{◌≡◌, ℕ, ◌++◌, ◌∷◌, true, I
 ghost use Rattle.journey.specs.Legs as legs_of;
 ghost use Rattle.hub_model.specs.HubState.{journey_after};
 ghost use Rattle.hub_model.specs.Items as of;
-ghost use Rattle.hub_tables.specs.TableStates.{IsAcceptable, table_state};
+ghost use Rattle.hub_tables.specs.TableStates.{table_state};
 ghost use Rattle.journey.specs.Journey.{after};
-ghost use Rattle.hub_items.specs.MessageItems.{may_have_many_receivers};
+ghost use Rattle.hub_items.specs.MessageItems.{MayBeAccepted, may_have_many_receivers};
 ghost use Rattle.taf_messages.specs.declared.message.Body.TheVariants as body;
 
+use crate::acceptable::Acceptable;
 use crate::wagon_change::WagonChange;
 use hub_tables::Tables;
 use journey::Track;
 use std::alloc::{AllocError, Global};
 use taf_codes::{Memory, Railway};
-use taf_messages::{Body, Message, MessageNumber, MovementKind, TrainAnswer};
+use taf_messages::{Body, MessageNumber, MovementKind, TrainAnswer};
 use trip_plan::Leg;
 use wagon_number::WagonNumber;
 
 /// Who gets the notice of a plan, an answer or new legs, as often as one is concerned.
-pub(crate) fn notice_receivers(
-    alloc: Global,
-    tables: &Tables,
-    message: &Message,
-) -> Result<Vec<Railway>, Memory>
-    requires acceptable { IsAcceptable (table_state tables.now) message.now }
-    requires many { may_have_many_receivers message.now.body ≡ true }
-    ensures { IfOk result (λ v. v.items
-        ≡ of.notice_receivers (table_state tables.now)
-        (journey_after (table_state tables.now) message.now) message.now.by message.now.body) }
+pub(crate) fn notice_receivers(alloc: Global, from: Acceptable<'_>) -> Result<Vec<Railway>, Memory>
+    requires acceptable { MayBeAccepted from }
+    requires many { may_have_many_receivers from.message.now.body ≡ true }
+    ensures { let s = table_state from.entry.tables.now in
+        let m = from.entry.message.now in
+        IfOk result (λ v. v.items ≡ of.notice_receivers s (journey_after s m) m.by m.body) }
 {
-    match message.body() {
+    match from.message.body() {
         Body::Plan(plan) => Ok(runners(alloc, plan.legs())?),
-        Body::Answer(answer) => Ok(answer_receivers(alloc, tables, answer.get())?),
-        Body::Reroute { wagon, route } => match tables.wagon(*wagon) {
+        Body::Answer(answer) => Ok(answer_receivers(alloc, from.tables, answer.get())?),
+        Body::Reroute { wagon, route } => match from.tables.wagon(*wagon) {
             Some(found) => Ok(route_receivers(alloc, found.track(), route.legs())?),
             None => unreachable!(),
         },

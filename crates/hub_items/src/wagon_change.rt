@@ -1,12 +1,10 @@
 //! A journey with one event more: the transition of a wagon.
-ghost use Rattle.std.specs.Prelude.{◌≡◌, ℕ, ◌≤◌, ◌++◌, ◌∷◌, [], length, true, Some, None};
-ghost use Rattle.trip_plan.specs.Rules.{has};
+ghost use Rattle.std.specs.Prelude.{◌≡◌, ℕ, ◌≤◌, [], length, true, Some, None};
 ghost use Rattle.journey.specs.Stages as stages;
 ghost use Rattle.journey.specs.Legs as legs_of;
 ghost use Rattle.eti_chain.specs.Estimates as of;
-ghost use Rattle.hub_model.specs.HubState.{named_wagons, event_for};
 ghost use Rattle.hub_model.specs.Items.{alert_items, estimate_items};
-ghost use Rattle.hub_tables.specs.TableStates.{IsAcceptable, table_state, continues_journeys, named_alone};
+ghost use Rattle.hub_tables.specs.TableStates.{IsEventOf, table_state, named_alone};
 ghost use Rattle.hub_items.specs.MessageItems.{MayBeAccepted};
 ghost use Rattle.hub_items.specs.Transitions.{IsNextBy, keeps_estimates};
 ghost use Rattle.journey.specs.declared.event.EventBody.TheVariants.{Moved};
@@ -14,7 +12,7 @@ ghost use Rattle.journey.specs.Journey.{after};
 
 use crate::acceptable::Acceptable;
 use eti_chain::Estimates;
-use hub_tables::Wagon;
+use hub_tables::{NextEvents, Wagon};
 use journey::{Event, EventBody, Transition};
 use std::marker::Model;
 use taf_codes::Railway;
@@ -41,19 +39,21 @@ impl<'a> Model for WagonEvent<'a> {
 }
 
 impl<'a> WagonEvent<'a> {
-    /// A wagon that an acceptable message names, which is no plan, with its event of the message.
-    pub(crate) fn of(from: Acceptable<'a>, wagon: WagonNumber, event: &'a Event) -> WagonEvent<'a>
-        requires acceptable { IsAcceptable (table_state from.tables.now) from.message.now }
-        requires no_plan { continues_journeys from.message.now.body ≡ true }
-        requires is_named { has (named_wagons (table_state from.tables.now).offer from.message.now)
-            wagon ≡ true }
-        requires event { event.now
-            ≡ event_for (table_state from.tables.now).offer from.message.now wagon }
+    /// The wagon at a position of the fleet, with its event of a message that may be accepted.
+    pub(crate) fn of(
+        from: Acceptable<'a>,
+        wagon: WagonNumber,
+        position: usize,
+        event: &'a Event,
+    ) -> WagonEvent<'a>
+        requires acceptable { MayBeAccepted from }
+        requires event { IsEventOf (table_state from.tables.now) from.message.now
+            (record { wagon = wagon; position = position; event = event.now }) }
         ensures { IsNextBy (table_state from.entry.tables.now) from.entry.message.now wagon
             result }
     {
-        match from.tables.wagon(wagon) {
-            Some(found) => WagonEvent {
+        match from.tables.at(position) {
+            Some((_, found)) => WagonEvent {
                 wagon: found,
                 event,
             },
@@ -61,16 +61,17 @@ impl<'a> WagonEvent<'a> {
         }
     }
 
-    /// The wagon that an acceptable message names alone, with the event that is given for it.
+    /// The wagon that a message which may be accepted names alone.
     pub(crate) fn alone(from: Acceptable<'a>, wagon: WagonNumber) -> WagonEvent<'a>
         requires acceptable { MayBeAccepted from }
         requires alone { named_alone from.message.now.body ≡ Some wagon }
         ensures { IsNextBy (table_state from.entry.tables.now) from.entry.message.now wagon
             result }
     {
-        match from.event {
-            Some(event) => WagonEvent::of(from, wagon, event),
-            None => unreachable!(),
+        match from.events {
+            NextEvents::Alone(next) => WagonEvent::of(from, wagon, next.position, &next.event),
+            NextEvents::Planned => unreachable!(),
+            NextEvents::Each(_) => unreachable!(),
         }
     }
 

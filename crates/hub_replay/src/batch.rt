@@ -3,7 +3,7 @@ ghost use Rattle.std.specs.Prelude.{◌<◌, IfOk};
 ghost use Rattle.hub_replay.specs.Batches.{IsBatch, IsScanned};
 
 use call_lines::{ParsedLine, next_newline, parse_line};
-use call_reader::CallReader;
+use call_reader::{CallReader, FlatRecord};
 use std::alloc::Global;
 use std::collections::VecDeque;
 use std::mem::replace;
@@ -31,6 +31,7 @@ pub(crate) fn parse_batch(
     ensures { IfOk result (λ batch. IsBatch bytes.now batch) }
 {
     let mut reader = CallReader::new(alloc);
+    let mut record = FlatRecord::new(alloc);
     let mut lines = replace(list, VecDeque::new(alloc));
     lines.clear();
     let mut from = 0;
@@ -39,7 +40,7 @@ pub(crate) fn parse_batch(
         let Some(end) = next_newline(bytes, place) else {
             return Ok(Batch { lines, end: from });
         };
-        lines.push_back(parse_line(&mut reader, &bytes[from..end])?)?;
+        lines.push_back(parse_line(&mut reader, &mut record, &bytes[from..end])?)?;
         from = end + 1;
         place = from;
     }

@@ -13,7 +13,7 @@ use crate::fault::RunFault;
 use crate::line_parser::LineParser;
 use crate::output::Output;
 use call_lines::{LONGEST, ParsedLine, next_newline, parse_line};
-use call_reader::CallReader;
+use call_reader::{CallReader, FlatRecord};
 use hub_core::Hub;
 use std::mem::replace;
 use std::thread::Threads;
@@ -216,6 +216,7 @@ fn last_line<W: Sink>(
     if line.is_empty() {
         return Ok(());
     }
-    let parsed_line = parse_line(&mut CallReader::new(output.alloc), line)?;
+    let (mut reader, mut record) = (CallReader::new(output.alloc), FlatRecord::new(output.alloc));
+    let parsed_line = parse_line(&mut reader, &mut record, line)?;
     answer_line(writer, hub, output, parsed_line)
 }

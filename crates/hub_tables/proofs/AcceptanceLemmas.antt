@@ -1,5 +1,5 @@
 -- What the tables know once they have taken a message.
-use Rattle.hub_tables.proofs.Common.{◌≡◌, ℕ, ◌==◌, ◌&&◌, Bool, true, false, List, [], ◌∷◌, ◌++◌, Option, Some, None, IfSome, Result, Ok, Err, OnOk, refl, sym, ap, ◌∙◌, append-nil, true≢false, bytes_eq, unwrap_or, option_or, list_all, lookup, keys_of, and_parts, Railway, UnitCode, ConsignmentId, has, all_differ, times_named, Message, TrainAnswer, Body, offer_of, is_standing, matches, wagons_of, HubState, new_state, named_wagons, wagons_in, fault, whole_fault, after_acceptance, plan_given, unit_plan_given, offer_given, opening_given, planned_in, fleet_after, no_whole_fault, answer_fits, TableEntries, table_state, table_part, continues_journeys, ContinuesJourneys, HasAccepted}
+use Rattle.hub_tables.proofs.Common.{◌≡◌, ℕ, ◌==◌, ◌&&◌, Bool, true, false, List, [], ◌∷◌, ◌++◌, None, Result, Ok, Err, OnOk, OnErr, refl, sym, ap, ◌∙◌, append-nil, true≢false, bytes_eq, unwrap_or, option_or, list_all, lookup, keys_of, and_parts, Railway, UnitCode, ConsignmentId, has, all_differ, times_named, Message, TrainAnswer, Body, OfferTable, offer_of, is_standing, matches, wagons_of, HubState, new_state, named_wagons, wagons_in, fault, whole_fault, after_acceptance, plan_given, unit_plan_given, offer_given, opening_given, planned_in, fleet_after, no_whole_fault, answer_fits, TableEntries, table_state, table_part, continues_journeys, ContinuesJourneys, HasAccepted}
 use Rattle.taf_messages.specs.declared.message.Body.TheVariants as body
 use Rattle.hub_tables.proofs.NextEventLemmas.{passes_named}
 
@@ -7,15 +7,18 @@ pub on_ok : {A E : Type 0} {P Q : Type 0} (r : Result A E) → (P → Q) → OnO
 on_ok (Ok x) f p = f p
 on_ok (Err e) f p = tt
 
--- an event that is there is the one that is wanted
-pub same_if_some : {A : Type 0} (o p : Option A) → o ≡ p → IfSome o (λ x. p ≡ Some x)
-same_if_some None p h = tt
-same_if_some (Some x) p h = sym h
+pub on_err : {A E P : Type 0} (r : Result A E) → P → OnErr r P
+on_err (Ok x) p = tt
+on_err (Err e) p = p
 
 -- tables with the same entries know the same
-pub same_known : (t u : TableEntries) → t.wagons ≡ u.wagons → t.plans ≡ u.plans → t.units ≡ u.units → t.offers.offers ≡ u.offers.offers → table_state t ≡ table_state u
+same_known : (t u : TableEntries) → t.wagons ≡ u.wagons → t.plans ≡ u.plans → t.units ≡ u.units → t.offers.offers ≡ u.offers.offers → table_state t ≡ table_state u
 same_known t u w p l o =
     λ i. table_state (record { wagons = w i; plans = p i; units = l i; offers = record { offers = o i; spare = u.offers.spare } })
+
+-- room for an offer changes nothing that is known
+pub with_room : (t now : TableEntries) (offers : OfferTable) → offers.offers ≡ t.offers.offers → t ≡ now → table_state (record t { offers = offers }) ≡ table_state now
+with_room t now offers same is = same_known (record t { offers = offers }) t refl refl refl same ∙ ap table_state is
 
 -- what each look-up has taken is all that is known
 pub taken_known : (old new : TableEntries) (m : Message) → HasAccepted old new m → table_state new ≡ table_part (after_acceptance (table_state old) m)

@@ -1,7 +1,5 @@
 -- The events by which journeys go on.
-use Rattle.hub_tables.proofs.Common.{◌≡◌, ℕ, ◌+◌, ◌<◌, ◌≤◌, ◌^◌, ◌==◌, ◌||◌, Bool, true, false, cond, List, [], ◌∷◌, ◌++◌, length, map, get_or, Some, refl, sym, ap, subst, ◌∙◌, arith, true≢false, if◌then◌else◌, inl, inr, nat_lt, fold, list_all, and_parts, or_cases, eqb-true, cases_Bool, or_right, Decides-ltb, list_any_at, sum_by-append, numbers, has, all_differ, times_named, Railway, Message, Body, Event, is_plan, fits, HubState, Offers, named_wagons, event_for, event_body_for, with_event, journey_after, is_unknown, IsAcceptable, continues_journeys, named_alone, event_alone, MayComeNext, IsAdmitted, AreAdmitted, with_event_on, neither}
-use Rattle.taf_messages.specs.declared.message.Body.TheVariants as body
-use Rattle.hub_tables.proofs.AloneLemmas.{alone_named, alone_has, event_given}
+use Rattle.hub_tables.proofs.Common.{◌≡◌, ℕ, ◌+◌, ◌<◌, ◌≤◌, ◌==◌, ◌||◌, Bool, true, false, cond, List, [], ◌∷◌, ◌++◌, length, map, get_or, refl, sym, ap, subst, ◌∙◌, arith, true≢false, if◌then◌else◌, inl, inr, fold, list_all, All, All-head, All-tail, and_parts, or_cases, eqb-true, cases_Bool, or_right, list_any_at, sum_by-append, numbers, has, all_differ, times_named, Message, Event, fits, HubState, named_wagons, event_for, event_body_for, journey_after, is_unknown, IsAcceptable, EventAt, IsEventOf, AreEventsOf, IsAdmitted, AreAdmitted, with_event_on, neither, Option, Some, None, Why, UnknownWagon, known_fault, goes_on, known_allowed, continues_journeys, AreNextEvents, NextEvents, Planned, Alone, Each}
 
 -- no wagon of the list comes again
 abbrev pub Differ : List ℕ → Type 0
@@ -58,11 +56,11 @@ passes_named test (v ∷ ws) w all h =
       | inr e ↦ passes_named test ws w parts.1 e
     ]
 
-put_other : (f : ℕ → List Event) (s : ℕ × Event) (w : ℕ) → (s.0 == w) ≡ false → with_event_on f s w ≡ f w
-put_other f s w apart = ap (λ (b : Bool). if b then f w ++ s.1 ∷ [] else f w) apart
+put_other : (f : ℕ → List Event) (x : EventAt Event) (w : ℕ) → (x.wagon == w) ≡ false → with_event_on f x w ≡ f w
+put_other f x w apart = ap (λ (b : Bool). if b then f w ++ x.event ∷ [] else f w) apart
 
-put_here : (f : ℕ → List Event) (s : ℕ × Event) (w : ℕ) → (s.0 == w) ≡ true → with_event_on f s w ≡ f w ++ s.1 ∷ []
-put_here f s w same = ap (λ (b : Bool). if b then f w ++ s.1 ∷ [] else f w) same
+put_here : (f : ℕ → List Event) (x : EventAt Event) (w : ℕ) → (x.wagon == w) ≡ true → with_event_on f x w ≡ f w ++ x.event ∷ []
+put_here f x w same = ap (λ (b : Bool). if b then f w ++ x.event ∷ [] else f w) same
 
 named_apart : (ws : List ℕ) (v w : ℕ) → has ws v ≡ false → has ws w ≡ true → (v == w) ≡ false
 named_apart ws v w out inside = elim (cases_Bool (v == w)) [
@@ -70,99 +68,97 @@ named_apart ws v w out inside = elim (cases_Bool (v == w)) [
   | inr e ↦ e
 ]
 
-module _ (e : ℕ → Event) where
-  abbrev events : List ℕ → List (ℕ × Event)
-  events ws = map (λ w. (w, e w)) ws
+-- the wagons of events
+abbrev wagons_of : List (EventAt Event) → List ℕ
+wagons_of es = map (λ e. e.wagon) es
 
-  put_none : (f : ℕ → List Event) (ws : List ℕ) (w : ℕ) → has ws w ≡ false → fold with_event_on f (events ws) w ≡ f w
-  put_none f [] w h = refl
-  put_none f (v ∷ ws) w h =
-      let parts = neither (v == w) (has ws w) h in
-      put_none (with_event_on f (v, e v)) ws w parts.1 ∙ put_other f (v, e v) w parts.0
+put_none : (f : ℕ → List Event) (es : List (EventAt Event)) (w : ℕ) → has (wagons_of es) w ≡ false → fold with_event_on f es w ≡ f w
+put_none f [] w h = refl
+put_none f (x ∷ es) w h =
+    let parts = neither (x.wagon == w) (has (wagons_of es) w) h in
+    put_none (with_event_on f x) es w parts.1 ∙ put_other f x w parts.0
 
+-- a journey that may go on has begun
+pub known_begun : (events : List Event) (r : Option Why) → cond (is_unknown events) (Some UnknownWagon) r ≡ None → is_unknown events ≡ false
+known_begun [] r h = cc
+known_begun (e ∷ events) r h = refl
+
+module _ (s : HubState) (m : Message) where
+  -- a wagon's events, and the message's behind them if it names the wagon
   abbrev more : (ℕ → List Event) → Bool → ℕ → List Event
-  more f named_wagons w = if named_wagons then f w ++ e w ∷ [] else f w
+  more f is_named w = if is_named then f w ++ event_for s.offer m w ∷ [] else f w
 
-  put_first : (f : ℕ → List Event) (ws : List ℕ) (v w : ℕ) → has ws v ≡ false → (b : Bool) → (v == w) ≡ b →
-      (fold with_event_on (with_event_on f (v, e v)) (events ws) w ≡ more (with_event_on f (v, e v)) (has ws w) w) → fold with_event_on (with_event_on f (v, e v)) (events ws) w ≡ more f (b || has ws w) w
-  put_first f ws v w out true same rest =
-      let is = eqb-true v w same in
-      put_none (with_event_on f (v, e v)) ws w (ap (has ws) (sym is) ∙ out) ∙ put_here f (v, e v) w same ∙ ap (λ u. f w ++ e u ∷ []) is
-  put_first f ws v w out false apart rest =
-      rest ∙ ap (λ (es : List Event). if has ws w then es ++ e w ∷ [] else es) (put_other f (v, e v) w apart)
+  put_first : (f : ℕ → List Event) (x : EventAt Event) (es : List (EventAt Event)) (w : ℕ) → IsEventOf s m x → has (wagons_of es) x.wagon ≡ false → (b : Bool) → (x.wagon == w) ≡ b →
+      (fold with_event_on (with_event_on f x) es w ≡ more (with_event_on f x) (has (wagons_of es) w) w) → fold with_event_on (with_event_on f x) es w ≡ more f (b || has (wagons_of es) w) w
+  put_first f x es w of out true same rest =
+      let is = eqb-true x.wagon w same in
+      put_none (with_event_on f x) es w (ap (has (wagons_of es)) (sym is) ∙ out) ∙ put_here f x w same ∙ ap (λ (e : Event). f w ++ e ∷ []) (of.event_is ∙ ap (event_for s.offer m) is)
+  put_first f x es w of out false apart rest =
+      rest ∙ ap (λ (before : List Event). if has (wagons_of es) w then before ++ event_for s.offer m w ∷ [] else before) (put_other f x w apart)
 
-  -- each of the named wagons has its event at the end
-  pub put_each : (f : ℕ → List Event) (ws : List ℕ) → Differ ws → (w : ℕ) → fold with_event_on f (events ws) w ≡ more f (has ws w) w
-  put_each f [] d w = refl
-  put_each f (v ∷ ws) d w = put_first f ws v w d.0 (v == w) refl (put_each (with_event_on f (v, e v)) ws d.1 w)
+  -- each of the wagons has its event at the end
+  put_each : (f : ℕ → List Event) (es : List (EventAt Event)) → All (IsEventOf s m) es → Differ (wagons_of es) → (w : ℕ) → fold with_event_on f es w ≡ more f (has (wagons_of es) w) w
+  put_each f [] of d w = refl
+  put_each f (x ∷ es) of d w = put_first f x es w (All-head (IsEventOf s m) x es of) d.0 (x.wagon == w) refl (put_each (with_event_on f x) es (All-tail (IsEventOf s m) x es of) d.1 w)
 
-  pub admit_each : (f : ℕ → List Event) (ws : List ℕ) → Differ ws → ((w : ℕ) → has ws w ≡ true → IsAdmitted (f w) (e w)) → AreAdmitted f (events ws)
-  admit_each f [] d h = tt
-  admit_each f (v ∷ ws) d h = (
-    h v (ap (λ (b : Bool). b || has ws v) (numbers.itself v)),
-    admit_each (with_event_on f (v, e v)) ws d.1 (λ w k.
-        subst (λ (es : List Event). IsAdmitted es (e w)) (sym (put_other f (v, e v) w (named_apart ws v w d.0 k))) (h w (or_right (v == w) (has ws w) k))),
+  admit_each : (f : ℕ → List Event) (es : List (EventAt Event)) → All (IsEventOf s m) es → Differ (wagons_of es) → ((x : EventAt Event) → IsEventOf s m x → has (wagons_of es) x.wagon ≡ true → IsAdmitted (f x.wagon) x.event) →
+      AreAdmitted s.fleet f es
+  admit_each f [] of d h = tt
+  admit_each f (x ∷ es) of d h = (
+    (All-head (IsEventOf s m) x es of).position_is,
+    h x (All-head (IsEventOf s m) x es of) (ap (λ (b : Bool). b || has (wagons_of es) x.wagon) (numbers.itself x.wagon)),
+    admit_each (with_event_on f x) es (All-tail (IsEventOf s m) x es of) d.1 (λ y one k.
+        subst (λ (before : List Event). IsAdmitted before y.event) (sym (put_other f x y.wagon (named_apart (wagons_of es) x.wagon y.wagon d.0 k))) (h y one (or_right (x.wagon == y.wagon) (has (wagons_of es) y.wagon) k))),
   )
 
-no_plan : (offers : Offers) (by : Railway) (says : Body) (w : ℕ) → continues_journeys says ≡ true → is_plan (event_body_for offers by says w) ≡ false
-no_plan offers by (body.Plan p) w h = absurd (true≢false (sym h))
-no_plan offers by _ w h = refl
+  -- the journey of each of the wagons admits the message
+  admitted_each : (es : List (EventAt Event)) → All (IsEventOf s m) es → (w : ℕ) → has (wagons_of es) w ≡ true → known_fault s m w ≡ None
+  admitted_each [] of w h = absurd (true≢false (sym h))
+  admitted_each (x ∷ es) of w h = elim (or_cases (x.wagon == w) (has (wagons_of es) w) h) [
+    | inl e ↦ subst (λ (v : ℕ). known_fault s m v ≡ None) (eqb-true x.wagon w e) (All-head (IsEventOf s m) x es of).admitted
+    | inr e ↦ admitted_each es (All-tail (IsEventOf s m) x es of) w e
+  ]
 
-goes_by : (events : List Event) (e : Event) → is_unknown events ≡ false → is_plan e.body ≡ false → with_event events e ≡ events ++ e ∷ []
-goes_by [] e begun h = absurd (true≢false begun)
-goes_by (first ∷ events) e begun h = rw h refl
+  admitted_named : (es : List (EventAt Event)) → AreEventsOf s m es → (w : ℕ) → has (named_wagons s.offer m) w ≡ true → known_fault s m w ≡ None
+  admitted_named es of w h = admitted_each es of.each w (ap (λ (ws : List ℕ). has ws w) of.wagons ∙ h)
 
-pub has_room : (n : ℕ) → nat_lt n (2 ^ 62) ≡ true → n + 1 < 2 ^ 63
-has_room n h = let lt : n < 2 ^ 62 = (Decides-ltb n (2 ^ 62)).0 h in omega arith
+  -- the same of the events of a message that begins no journey
+  pub admitted_by : (events : NextEvents) → AreNextEvents s m events → continues_journeys m.body ≡ true → (w : ℕ) → has (named_wagons s.offer m) w ≡ true → known_fault s m w ≡ None
+  unfolding AreNextEvents
+  admitted_by Planned of on w h = absurd (true≢false (sym on ∙ of))
+  admitted_by (Alone e) of on w h = admitted_named (e ∷ []) of w h
+  admitted_by (Each es) of on w h = admitted_named es.items of.0 w h
 
-module _ (s : HubState) (m : Message) (ok : IsAcceptable s m) (on : continues_journeys m.body ≡ true) where
-  after_by : (w : ℕ) (b : Bool) → has (named_wagons s.offer m) w ≡ b →
-      (if b then with_event (s.journey w) (event_for s.offer m w) else s.journey w) ≡ (if b then s.journey w ++ event_for s.offer m w ∷ [] else s.journey w)
-  after_by w true h = goes_by (s.journey w) (event_for s.offer m w) (ok.begun on w h) (no_plan s.offer m.by m.body w on)
-  after_by w false h = refl
+  -- it comes last in the journey of a wagon that it names and that admits it
+  pub comes_last : (w : ℕ) → has (named_wagons s.offer m) w ≡ true → known_fault s m w ≡ None → journey_after s m w ≡ s.journey w ++ event_for s.offer m w ∷ []
+  comes_last w h k = rw h (goes_on (s.journey w) (event_for s.offer m w) k)
 
-  after_is : (w : ℕ) → journey_after s m w ≡ (if has (named_wagons s.offer m) w then s.journey w ++ event_for s.offer m w ∷ [] else s.journey w)
-  after_is w = after_by w (has (named_wagons s.offer m) w) refl
+  module _ (ok : IsAcceptable s m) (es : List (EventAt Event)) (of : AreEventsOf s m es) (apart : all_differ (named_wagons s.offer m) ≡ true) where
+    differ_all : Differ (wagons_of es)
+    differ_all = differ (wagons_of es) (ap all_differ of.wagons ∙ apart)
 
-  pub comes_next : (w : ℕ) → has (named_wagons s.offer m) w ≡ true → MayComeNext (s.journey w) (event_for s.offer m w)
-  comes_next w h = record {
-    begun = ok.begun on w h;
-    allowed = ok.admitted on w h;
-    fits_after = ap fits (ap (λ (b : Bool). if b then s.journey w ++ event_for s.offer m w ∷ [] else s.journey w) (sym h) ∙ sym (after_is w)) ∙ ok.fits_after w;
-  }
+    after_by : (w : ℕ) (b : Bool) → has (named_wagons s.offer m) w ≡ b → journey_after s m w ≡ more s.journey b w
+    after_by w true h = comes_last w h (admitted_named es of w h)
+    after_by w false h = rw h refl
 
-  module _ (apart : all_differ (named_wagons s.offer m) ≡ true) where
-    pub next_after : (w : ℕ) → fold with_event_on s.journey (map (λ v. (v, event_for s.offer m v)) (named_wagons s.offer m)) w ≡ journey_after s m w
-    next_after w = put_each (event_for s.offer m) s.journey (named_wagons s.offer m) (differ _ apart) w ∙ sym (after_is w)
+    after_is : (w : ℕ) → journey_after s m w ≡ more s.journey (has (named_wagons s.offer m) w) w
+    after_is w = after_by w (has (named_wagons s.offer m) w) refl
 
-    module _ (room : list_all (λ w. nat_lt (length (s.journey w)) (2 ^ 62)) (named_wagons s.offer m) ≡ true) where
-      admitted : (w : ℕ) → has (named_wagons s.offer m) w ≡ true → IsAdmitted (s.journey w) (event_for s.offer m w)
-      admitted w h = record {
-        next = comes_next w h;
-        room = has_room _ (passes_named (λ v. nat_lt (length (s.journey v)) (2 ^ 62)) (named_wagons s.offer m) w room h);
-      }
+    pub next_after : (w : ℕ) → fold with_event_on s.journey es w ≡ journey_after s m w
+    next_after w = put_each s.journey es of.each differ_all w ∙ ap (λ (ws : List ℕ). more s.journey (has ws w) w) of.wagons ∙ sym (after_is w)
 
-      pub next_admitted : AreAdmitted s.journey (map (λ v. (v, event_for s.offer m v)) (named_wagons s.offer m))
-      next_admitted = admit_each (event_for s.offer m) s.journey (named_wagons s.offer m) (differ _ apart) admitted
+    admitted : (x : EventAt Event) → IsEventOf s m x → has (wagons_of es) x.wagon ≡ true → IsAdmitted (s.journey x.wagon) x.event
+    admitted x one h =
+        let w = x.wagon in
+        let room = one.room in
+        subst (λ (e : Event). IsAdmitted (s.journey w) e) (sym one.event_is) (record {
+          next = record {
+            begun = known_begun (s.journey w) _ one.admitted;
+            allowed = known_allowed (s.journey w) m.by (event_body_for s.offer m.by m.body w) one.admitted;
+            fits_after = ap fits (sym (comes_last w one.is_named one.admitted)) ∙ ok.fits_after w;
+          };
+          room = omega arith;
+        })
 
-pub one_differs : (w : ℕ) → all_differ (w ∷ []) ≡ true
-one_differs w = rw (numbers.itself w) refl
-
--- the same of a message that names one wagon alone, by the event that is given
-module _ (s : HubState) (m : Message) (w : ℕ) (e : Event) (ok : IsAcceptable s m) (on : continues_journeys m.body ≡ true) (named : named_alone m.body ≡ Some w) (given : event_alone s m ≡ Some e) where
-  alone : named_wagons s.offer m ≡ w ∷ []
-  alone = alone_named s.offer m.by m.body w named
-
-  apart : all_differ (named_wagons s.offer m) ≡ true
-  apart = ap all_differ alone ∙ one_differs w
-
-  is : e ≡ event_for s.offer m w
-  is = event_given s m w e given
-
-  pub one_comes_next : MayComeNext (s.journey w) e
-  one_comes_next = subst (λ (x : Event). MayComeNext (s.journey w) x) (sym is) (comes_next s m ok on w (alone_has s m w named))
-
-  pub one_after : (v : ℕ) → with_event_on s.journey (w, e) v ≡ journey_after s m v
-  one_after v =
-      ap (λ (x : Event). with_event_on s.journey (w, x) v) is ∙
-      ap (λ (ws : List ℕ). fold with_event_on s.journey (map (λ u. (u, event_for s.offer m u)) ws) v) (sym alone) ∙ next_after s m ok on apart v
+    pub next_admitted : AreAdmitted s.fleet s.journey es
+    next_admitted = admit_each s.journey es of.each differ_all admitted

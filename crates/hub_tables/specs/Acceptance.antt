@@ -1,5 +1,5 @@
 -- How the tables take a message.
-use Rattle.std.specs.Prelude.{◌≡◌, ℕ, ◌<◌, ◌+◌, ◌^◌, ◌==◌, true, false, if◌then◌else◌, List, [], ◌∷◌, ◌++◌, length, None, unwrap_or, bytes_eq}
+use Rattle.std.specs.Prelude.{◌≡◌, ℕ, ◌<◌, ◌+◌, ◌^◌, ◌==◌, true, false, if◌then◌else◌, List, [], ◌∷◌, ◌++◌, length, slice_get, Some, None, unwrap_or, bytes_eq}
 use Rattle.std.specs.Option.{option_or}
 use Rattle.std.specs.Map.{lookup, keys_of}
 use Rattle.taf_codes.specs.declared.code.Railway.{Railway}
@@ -15,6 +15,7 @@ use Rattle.hub_model.specs.HubState.{journey_after}
 use Rattle.hub_model.specs.Faults.{is_unknown}
 use Rattle.hub_model.specs.Updates.{plan_given, unit_plan_given, offer_given, opening_given, planned_in, fleet_after}
 use Rattle.hub_tables.specs.TableStates.{TableEntries, events_in, table_state}
+use Rattle.hub_tables.specs.declared.next_events.EventAt.{EventAt}
 
 -- the event may come next in a journey
 pub record MayComeNext (events : List Event) (e : Event) : Type 0 where
@@ -33,13 +34,13 @@ pub record IsBeginning (e : Event) : Type 0 where
   pub fits_after : fits (e ∷ []) ≡ true
 
 -- the events of each wagon once the event of one is put at the end of its journey
-abbrev pub with_event_on : (ℕ → List Event) → ℕ × Event → ℕ → List Event
-with_event_on events s w = if s.0 == w then events w ++ s.1 ∷ [] else events w
+abbrev pub with_event_on : (ℕ → List Event) → EventAt Event → ℕ → List Event
+with_event_on events e w = if e.wagon == w then events w ++ e.event ∷ [] else events w
 
--- each event may come next once those before it are put
-abbrev pub AreAdmitted : (ℕ → List Event) → List (ℕ × Event) → Type 0
-AreAdmitted events [] = Unit {0}
-AreAdmitted events (s ∷ later) = IsAdmitted (events s.0) s.1 × AreAdmitted (with_event_on events s) later
+-- each wagon stands at its position, and each event may come next once those before it are put
+abbrev pub AreAdmitted : List ℕ → (ℕ → List Event) → List (EventAt Event) → Type 0
+AreAdmitted fleet events [] = Unit {0}
+AreAdmitted fleet events (e ∷ later) = (slice_get fleet e.position ≡ Some e.wagon) × IsAdmitted (events e.wagon) e.event × AreAdmitted fleet (with_event_on events e) later
 
 -- journeys go on by a message, and plans stay
 pub record ContinuesJourneys (old new : TableEntries) (m : Message) : Type 0 where

@@ -1,5 +1,5 @@
 //! How the tables take a message: first all that may be refused memory, then steps that cannot fail.
-ghost use Rattle.std.specs.Prelude.{◌≡◌, ℕ, IfSome, IfOk, OnErr, OnOk, false, true, if◌then◌else◌, map};
+ghost use Rattle.std.specs.Prelude.{◌≡◌, ℕ, IfOk, OnErr, OnOk, false, true, if◌then◌else◌, map};
 ghost use Rattle.taf_codes.specs.declared.code.Railway.{Railway};
 ghost use Rattle.trip_plan.specs.Rules.{all_differ};
 ghost use Rattle.taf_messages.specs.declared.message.Body.TheVariants as says;
@@ -8,47 +8,45 @@ ghost use Rattle.interchange.specs.OfferTable.{offer_of, is_standing};
 ghost use Rattle.interchange.specs.Offers.{wagons_of};
 ghost use Rattle.hub_model.specs.HubState.{named_wagons};
 ghost use Rattle.hub_model.specs.Updates.{after_acceptance};
-ghost use Rattle.hub_tables.specs.TableStates.{IsAcceptable, continues_journeys, event_alone, table_state, table_part};
+ghost use Rattle.hub_tables.specs.TableStates.{AreNextEvents, IsAcceptable, continues_journeys, table_state, table_part};
 ghost use Rattle.hub_tables.specs.Acceptance.{ContinuesJourneys, HasAccepted};
 
 use crate::enter::{add, enter, put_all};
+use crate::next_events::NextEvents;
 use crate::tables::Tables;
-use crate::wagon_events::named_alone;
 use interchange::Offer;
-use journey::Event;
 use std::alloc::Global;
 use taf_codes::{Memory, Railway, UnitCode};
 use taf_messages::{Body, Message, MessageNumber, OfferedWagons, TrainAnswer, TrainOffer};
 use trip_plan::{Plan, UnitLoad};
 
 impl Tables {
-    /// Takes a message that may be accepted, with the event of the wagon that it names alone: what is known then is what
-    /// is known once the message is accepted. `Memory` where memory is refused, and where a journey that is to go on has
-    /// 2^62 events or more: then all is as it was.
+    /// Takes a message that may be accepted, with the events of its wagons: what is known then is what is known once the
+    /// message is accepted. `Memory` where memory is refused: then all is as it was.
     pub fn accept(
         &mut self,
         alloc: Global,
         message: &Message,
-        event: Option<Event>,
+        events: NextEvents,
     ) -> Result<(), Memory>
         requires acceptable { IsAcceptable (table_state self.old) message.now }
-        requires event { event ≡ event_alone (table_state self.old) message.now }
+        requires events { AreNextEvents (table_state self.old) message.now events }
         ensures ok { OnOk result (table_state self.new
             ≡ table_part (after_acceptance (table_state self.old) message.now)) }
         ensures err { OnErr result (table_state self.new ≡ table_state self.old) }
     {
         match message.body() {
             Body::Plan(plan) => self.accept_plan(alloc, message, plan),
-            Body::Offer(offer) => self.accept_offer(alloc, message, offer.get()),
+            Body::Offer(offer) => self.accept_offer(message, offer.get(), events),
             Body::Answer(answer) => {
                 let TrainAnswer { offerer, offer, .. } = answer.get();
-                self.accept_closing(alloc, message, *offerer, *offer)
+                self.accept_closing(message, *offerer, *offer, events)
             }
             Body::Withdraw { offer, .. } => {
                 self.offered_differ(message.by(), *offer);
-                self.accept_closing(alloc, message, message.by(), *offer)
+                self.accept_closing(message, message.by(), *offer, events)
             }
-            _ => self.accept_events(alloc, message, event),
+            _ => self.accept_events(message, events),
         }
     }
 
@@ -74,11 +72,12 @@ impl Tables {
     // An offer: its wagons' journeys go on, and it is open.
     fn accept_offer(
         &mut self,
-        alloc: Global,
         message: &Message,
         offer: &TrainOffer,
+        events: NextEvents,
     ) -> Result<(), Memory>
         requires acceptable { IsAcceptable (table_state self.old) message.now }
+        requires events { AreNextEvents (table_state self.old) message.now events }
         requires offer { message.now.body ≡ says.Offer offer.now }
         ensures ok { OnOk result (HasAccepted self.old self.new message.now) }
         ensures err { OnErr result (table_state self.new ≡ table_state self.old) }
@@ -86,7 +85,7 @@ impl Tables {
         let made = made_by(message, offer)?;
         differ(&offer.wagons);
         self.offers.reserve()?;
-        self.accept_events(alloc, message, None)?;
+        self.accept_events(message, events)?;
         self.offers.open_reserved(made);
         Ok(())
     }
@@ -94,12 +93,13 @@ impl Tables {
     // An answer or a withdrawal: its wagons' journeys go on, and the offer is closed.
     fn accept_closing(
         &mut self,
-        alloc: Global,
         message: &Message,
         by: Railway,
         offer: MessageNumber,
+        events: NextEvents,
     ) -> Result<(), Memory>
         requires acceptable { IsAcceptable (table_state self.old) message.now }
+        requires events { AreNextEvents (table_state self.old) message.now events }
         requires continues_journeys { continues_journeys message.now.body ≡ true }
         requires differ { all_differ (named_wagons (table_state self.old).offer message.now)
             ≡ true }
@@ -113,36 +113,26 @@ impl Tables {
             else is_standing self.old.offers also other)) }
         ensures err { OnErr result (self.new ≡ self.old) }
     {
-        self.accept_events(alloc, message, None)?;
+        self.accept_events(message, events)?;
         self.offers.close_offer(by, offer);
         Ok(())
     }
 
-    // The journeys of the named wagons go on: that of a wagon named alone by the event that is given, those of several by
-    // events that are made here.
-    fn accept_events(
-        &mut self,
-        alloc: Global,
-        message: &Message,
-        event: Option<Event>,
-    ) -> Result<(), Memory>
+    // The journeys of the named wagons go on by these events.
+    fn accept_events(&mut self, message: &Message, events: NextEvents) -> Result<(), Memory>
         requires acceptable { IsAcceptable (table_state self.old) message.now }
+        requires events { AreNextEvents (table_state self.old) message.now events }
         requires continues_journeys { continues_journeys message.now.body ≡ true }
         requires differ { all_differ (named_wagons (table_state self.old).offer message.now)
             ≡ true }
-        requires event { IfSome event
-            (λ e. event_alone (table_state self.old) message.now ≡ Some e) }
         ensures ok { OnOk result (ContinuesJourneys self.old self.new message.now) }
         ensures offers { self.new.offers ≡ self.old.offers }
         ensures err { OnErr result (self.new ≡ self.old) }
     {
-        match (named_alone(message), event) {
-            (Some(wagon), Some(event)) => {
-                add(&mut self.wagons, wagon, event)?;
-                Ok(())
-            }
-            _ => {
-                let events = self.next_events(alloc, message)?;
+        match events {
+            NextEvents::Planned => unreachable!(),
+            NextEvents::Alone(event) => add(&mut self.wagons, event),
+            NextEvents::Each(events) => {
                 put_all(&mut self.wagons, events);
                 Ok(())
             }

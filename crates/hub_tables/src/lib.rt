@@ -14,11 +14,13 @@
 
 mod accept;
 mod enter;
+mod next_events;
 mod tables;
 mod units;
 mod wagon;
 mod wagon_events;
 
+pub use next_events::{EventAt, NextEvents};
 pub use tables::Tables;
 pub use units::units_in;
 pub use wagon::Wagon;

@@ -64,6 +64,20 @@ impl Tables {
         self.wagons.get(&wagon)
     }
 
+    /// The same wagon, with its position in the fleet.
+    pub fn find(&self, wagon: WagonNumber) -> Option<(usize, &Wagon)>
+        ensures position { IfSome result
+            (λ p. slice_get (table_state self.now).fleet p.0 ≡ Some wagon) }
+        ensures found { IfSome result (λ p. p.1.now
+            ≡ record { wagon = wagon; events = (table_state self.now).journey wagon }) }
+        ensures known { is_unknown ((table_state self.now).journey wagon) ≡ is_none result }
+    {
+        match self.wagons.get_full(&wagon) {
+            Some((position, _, found)) => Some((position, found)),
+            None => None,
+        }
+    }
+
     /// The accepted plan of a consignment.
     pub fn plan(&self, consignment: ConsignmentId) -> Option<&Plan>
         ensures { option_copied result ≡ (table_state self.now).plan_of consignment }

@@ -1,16 +1,15 @@
-ghost use Rattle.std.specs.Prelude.{◌≡◌, ℕ, ◌^◌, [], ◌∷◌, ◌++◌, IfOk, None, is_none, false, true, length, map, nat_lt, fold};
-ghost use Rattle.std.specs.List.{list_all};
+ghost use Rattle.std.specs.Prelude.{◌≡◌, ℕ, [], ◌∷◌, ◌++◌, IfOk, None, is_none, false, true, map};
 ghost use Rattle.std.specs.Cow.{cow_slice_items};
-ghost use Rattle.hub_model.specs.HubState.{journey_after, named_wagons, event_body_for, event_for};
+ghost use Rattle.hub_model.specs.HubState.{named_wagons, event_body_for, event_for};
 ghost use Rattle.hub_model.specs.Faults.{whole_fault};
 ghost use Rattle.interchange.specs.Offers.{wagons_of, place_of};
-ghost use Rattle.trip_plan.specs.Rules.{all_differ, has};
-ghost use Rattle.hub_tables.specs.TableStates.{IsAcceptable, events_in, continues_journeys, named_alone, table_state};
-ghost use Rattle.hub_tables.specs.Acceptance.{AreAdmitted, IsBeginning, with_event_on};
+ghost use Rattle.trip_plan.specs.Rules.{has};
+ghost use Rattle.hub_tables.specs.TableStates.{named_alone, table_state};
+ghost use Rattle.hub_tables.specs.Acceptance.{IsBeginning};
 
 use crate::tables::Tables;
 use crate::wagon::Wagon;
-use journey::{Event, EventBody, PreparedEvent};
+use journey::{Event, EventBody};
 use std::alloc::{AllocError, Global};
 use std::borrow::CowSlice;
 use std::slice;
@@ -132,49 +131,6 @@ impl Tables {
         })
     }
 
-    // Each of the wagons with its event of the message in memory of its own.
-    fn prepared(
-        &self,
-        alloc: Global,
-        message: &Message,
-        wagons: &[WagonNumber],
-    ) -> Result<Vec<(WagonNumber, PreparedEvent)>, Memory>
-        requires { whole_fault (table_state self.now) message.now.by message.now.body ≡ None }
-        ensures { IfOk result (λ v. v.items
-            ≡ map (λ w. (w, event_for (table_state self.now).offer message.now w)) wagons.now) }
-    {
-        let mut events = Vec::with_capacity(alloc, wagons.len())?;
-        for wagon in wagons {
-            let event = self.event_for(message, *wagon)?;
-            events.push((*wagon, event.prepared(alloc)?))?;
-        }
-        Ok(events)
-    }
-
-    /// The events by which journeys go on.
-    #[inline(never)]
-    pub(crate) fn next_events(
-        &self,
-        alloc: Global,
-        message: &Message,
-    ) -> Result<Vec<(WagonNumber, PreparedEvent)>, Memory>
-        requires acceptable { IsAcceptable (table_state self.now) message.now }
-        requires continues_journeys { continues_journeys message.now.body ≡ true }
-        requires differ { all_differ (named_wagons (table_state self.now).offer message.now)
-            ≡ true }
-        ensures admitted { IfOk result (λ v. AreAdmitted (events_in self.now.wagons) v.items) }
-        ensures after { IfOk result (λ v. (w : ℕ)
-            → fold with_event_on (events_in self.now.wagons) v.items w
-            ≡ journey_after (table_state self.now) message.now w) }
-    {
-        let wagons = self.named_wagons(alloc, message)?;
-        if !have_room(self, wagons.as_slice()) {
-            return Err(Memory);
-        }
-        let events = self.prepared(alloc, message, wagons.as_slice())?;
-        Ok(events)
-    }
-
     /// Each of the wagons with a journey that begins with its event of the message.
     pub(crate) fn begun(
         &self,
@@ -199,23 +155,6 @@ impl Tables {
             begun.push((*wagon, Wagon::begin(*wagon, event)))?;
         }
         Ok(begun)
-    }
-}
-
-// Whether the journey of each of the wagons has room for one event more.
-fn have_room(tables: &Tables, wagons: &[WagonNumber]) -> bool
-    ensures { result ≡ list_all (λ w. nat_lt (length ((table_state tables.now).journey w)) (2 ^ 62))
-        wagons.now }
-{
-    wagons.iter().all(|wagon| has_room(tables, *wagon))
-}
-
-fn has_room(tables: &Tables, wagon: WagonNumber) -> bool
-    ensures { result ≡ nat_lt (length ((table_state tables.now).journey wagon)) (2 ^ 62) }
-{
-    match tables.wagon(wagon) {
-        Some(found) => found.has_room(),
-        None => true,
     }
 }
 

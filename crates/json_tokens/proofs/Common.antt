@@ -50,8 +50,8 @@ pub use Rattle.json.proofs.Printed.Trees.{value-json_tokens, ArePrintable-json_t
 pub use Rattle.serde_json.proofs.Texts.{print-outline}
 pub use Rattle.json.proofs.Unique.Spelling.{value-json_tokens_back, tokens-document}
 pub use Rattle.serde_json.proofs.Views.{get_member-put, get_member-put_other}
-pub use Rattle.json_tokens.specs.Flat.{Member, scalar_token, scalar_json, scalar_data, IsSpelt, AreSpelt, member_tokens, member_json, put_all, flat_data, under, last_under}
-pub use Rattle.json_tokens.specs.FlatText.{IsDecimal, AreDecimal, PlainUpTo, member_text, members_text, flat_tokens, is_stop}
+pub use Rattle.json_tokens.specs.Flat.{Member, scalar_token, scalar_json, scalar_data, IsSmallScalar, HaveSmallNumbers, member_tokens, member_json, put_all, flat_data, under, last_under}
+pub use Rattle.json_tokens.specs.FlatText.{PlainUpTo, member_text, members_text, flat_tokens, is_stop}
 pub use Rattle.json_tokens.specs.SmallNumbers.{HasSmallNumbers, ItemsHaveSmallNumbers, MembersHaveSmallNumbers}
 pub use Rattle.json_tokens.specs.Tapes.{first_items, tape_data, tape_items, IsSimpleAt}
 unfoldable pub use Rattle.json_tokens.specs.Tapes.{first_data}

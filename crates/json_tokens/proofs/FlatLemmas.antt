@@ -1,16 +1,15 @@
 -- Records without lists, read without a tree.
-use Rattle.json_tokens.proofs.Common.{◌≡◌, ℕ, ◌+◌, ◌-◌, ◌<◌, ◌≤◌, Bool, true, false, cond, List, [], ◌∷◌, ◌++◌, length, take, get_or, Option, Some, None, option_map, option_and_then, bytes_eq, refl, sym, ap, ◌∙◌, arith, append-nil, true≢false, subst, unwrap_or, option_or, bytes_eq-Decides, take_more, Token, token_of, Yields, tokens, value-json_tokens, Members, no_members, object, put, get_member, of_json, of_members, read, max_depth, get_member-put, get_member-put_other, Member, scalar_token, scalar_json, scalar_data, IsSpelt, AreSpelt, member_tokens, member_json, put_all, flat_data, under, last_under, Scalar, Text, Whole}
+use Rattle.json_tokens.proofs.Common.{◌≡◌, ℕ, ◌+◌, ◌-◌, ◌<◌, ◌≤◌, Bool, true, false, cond, List, [], ◌∷◌, ◌++◌, length, take, get_or, Option, Some, None, option_map, option_and_then, bytes_eq, refl, sym, ap, ◌∙◌, arith, append-nil, true≢false, option_or, bytes_eq-Decides, take_more, Token, tokens, value-json_tokens, Members, no_members, object, put, get_member, of_json, of_members, read, max_depth, get_member-put, get_member-put_other, number_of-decimal, Member, scalar_token, scalar_json, scalar_data, IsSmallScalar, HaveSmallNumbers, member_tokens, member_json, put_all, flat_data, under, last_under, Scalar, Text, Whole}
 use Rattle.json.specs.Token as token
 use Rattle.json.specs.Json as json
 use Rattle.json.specs.Tree as tree
-use Rattle.json.specs.declared.token.Token.{Token as TokenRead}
 use Rattle.json_tokens.proofs.ReadLemmas.{whole_of}
 
 -- ---- the members of a text
 
 plain_tokens : (p : Scalar) (ts : List Token) → tree.json_tokens (scalar_json p) ++ ts ≡ scalar_token p ∷ ts
 plain_tokens (Text s) ts = refl
-plain_tokens (Whole digits n) ts = refl
+plain_tokens (Whole n) ts = refl
 
 members_tokens : (ms : List Member) → tree.members_tokens (member_json ms) ≡ member_tokens ms ++ token.end_object ∷ []
 members_tokens [] = refl
@@ -18,76 +17,28 @@ members_tokens (m ∷ ms) = ap (λ ts. token.key m.0.now ∷ ts) (plain_tokens m
 
 plain_depth : (p : Scalar) → tree.depth (scalar_json p) ≤ 0
 plain_depth (Text s) = omega arith
-plain_depth (Whole digits n) = omega arith
+plain_depth (Whole n) = omega arith
 
 members_depth : (ms : List Member) → tree.members_depth (member_json ms) ≤ 0
 members_depth [] = omega arith
 members_depth (m ∷ ms) = omega (arith, plain_depth m.1, members_depth ms)
 
-plain_read : (p : Scalar) → IsSpelt p → of_json (scalar_json p) ≡ Some (scalar_data p)
+plain_read : (p : Scalar) → IsSmallScalar p → of_json (scalar_json p) ≡ Some (scalar_data p)
 plain_read (Text s) h = refl
-plain_read (Whole digits n) h = ap (option_map _) h
+plain_read (Whole n) h = ap (option_map _) (number_of-decimal n h)
 
-members_read : (ms : List Member) (before : Members) → AreSpelt ms → of_members (member_json ms) before ≡ Some (put_all ms before)
+members_read : (ms : List Member) (before : Members) → HaveSmallNumbers ms → of_members (member_json ms) before ≡ Some (put_all ms before)
 members_read [] before h = refl
 members_read (m ∷ ms) before h =
     ap (option_and_then (λ d. of_members (member_json ms) (put m.0.now d before))) (plain_read m.1 h.0) ∙ members_read ms (put m.0.now (scalar_data m.1) before) h.1
 
 -- a text of such tokens is read as these members
-pub flat_read : (text : List ℕ) (ms : List Member) → tokens text ≡ token.begin_object ∷ (member_tokens ms ++ token.end_object ∷ []) → AreSpelt ms → read text ≡ Some (flat_data ms)
+pub flat_read : (text : List ℕ) (ms : List Member) → tokens text ≡ token.begin_object ∷ (member_tokens ms ++ token.end_object ∷ []) → HaveSmallNumbers ms → read text ≡ Some (flat_data ms)
 flat_read text ms is h =
     let j = json.object (member_json ms) in
     let all : tokens text ≡ tree.json_tokens j ++ [] = is ∙ ap (λ ts. token.begin_object ∷ ts) (sym (members_tokens ms)) ∙ sym (append-nil (tree.json_tokens j)) in
     let shallow : tree.depth j ≤ max_depth = omega (arith, members_depth ms) in
     ap (λ us. whole_of (json.value max_depth us)) all ∙ ap whole_of (value-json_tokens j max_depth [] shallow) ∙ ap (option_map object) (members_read ms no_members h)
-
--- a member more
-pub tokens_more : (ms : List Member) (m : Member) (rest : List Token) → member_tokens ms ++ token.key m.0.now ∷ scalar_token m.1 ∷ rest ≡ member_tokens (ms ++ m ∷ []) ++ rest
-tokens_more [] m rest = refl
-tokens_more (x ∷ ms) m rest = ap (λ ts. token.key x.0.now ∷ scalar_token x.1 ∷ ts) (tokens_more ms m rest)
-
-pub spelt_more : (ms : List Member) (m : Member) → AreSpelt ms → IsSpelt m.1 → AreSpelt (ms ++ m ∷ [])
-spelt_more [] m all h = (h, tt)
-spelt_more (x ∷ ms) m all h = (all.0, spelt_more ms m all.1 h)
-
-abbrev has_key : Option (Option (List ℕ) × List Token) → Bool
-has_key None = false
-has_key (Some (None, ts)) = false
-has_key (Some (Some k, ts)) = true
-
--- a key, and what comes behind it
-abbrev key_first : Option (Option (List ℕ) × List Token) → List Token
-key_first None = []
-key_first (Some (None, ts)) = []
-key_first (Some (Some k, ts)) = token.key k ∷ ts
-
--- what is taken stood first
-key_taken : (ts rest : List Token) (k : List ℕ) → json.read_key ts ≡ Some (Some k, rest) → ts ≡ token.key k ∷ rest
-key_taken [] rest k h = cc
-key_taken (token.begin_object ∷ ts) rest k h = cc
-key_taken (token.end_object ∷ ts) rest k h = absurd (true≢false (sym (ap has_key h)))
-key_taken (token.begin_array ∷ ts) rest k h = cc
-key_taken (token.end_array ∷ ts) rest k h = cc
-key_taken (token.key s ∷ ts) rest k h = ap key_first h
-key_taken (token.string s ∷ ts) rest k h = cc
-key_taken (token.number s ∷ ts) rest k h = cc
-key_taken (token.boolean b ∷ ts) rest k h = cc
-key_taken (token.null ∷ ts) rest k h = cc
-key_taken (token.bad ∷ ts) rest k h = cc
-
-value_taken : (old new : List Token) (found : Option TokenRead) (t : Token) → Yields old found new → option_map token_of found ≡ Some t → old ≡ t ∷ new
-value_taken old new None t y h = cc
-value_taken old new (Some x) t y h = y ∙ ap (λ o. unwrap_or o t ∷ new) h
-
--- a key and a value are taken: a member more
-pub member_taken : (all : List Token) (ms : List Member) (m : Member) (before between after : List Token) (found : Option TokenRead) (now : List Member) →
-    AreSpelt ms × (all ≡ member_tokens ms ++ before) → json.read_key before ≡ Some (Some m.0.now, between) → Yields between found after →
-    IsSpelt m.1 → option_map token_of found ≡ Some (scalar_token m.1) → now ≡ ms ++ m ∷ [] → AreSpelt now × (all ≡ member_tokens now ++ after)
-member_taken all ms m before between after found now inv k y spelt same n =
-    let first = key_taken before between m.0.now k in
-    let second = value_taken between after found (scalar_token m.1) y same in
-    let ts = inv.1 ∙ ap (λ ts. member_tokens ms ++ ts) (first ∙ ap (λ ts. token.key m.0.now ∷ ts) second) ∙ tokens_more ms m after in
-    (subst AreSpelt (sym n) (spelt_more ms m inv.0 spelt), ts ∙ ap (λ xs. member_tokens xs ++ after) (sym n))
 
 -- ---- the last value under a name
 

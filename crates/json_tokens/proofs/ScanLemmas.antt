@@ -1,5 +1,5 @@
 -- A record that is scanned is the text of its members.
-use Rattle.json_tokens.proofs.Common.{◌≡◌, ℕ, zero, suc, ◌+◌, ◌*◌, ◌/◌, ◌%◌, ◌<◌, ◌≤◌, ◌^◌, Bool, true, false, not, cond, eqb, ltb, ◌||◌, ◌⊎◌, inl, inr, List, [], ◌∷◌, ◌++◌, map, length, take, drop, get_or, decimal, refl, sym, ap, ap₂, subst, ◌∙◌, arith, append_assoc, take-append-drop, Some, prefix_len, and_from, cases_lt, length-chunk, mask_l-mod, trailing_mask_l, run_in_chunk_le, run_in_chunk_fails, none_from_empty_mask, decimal_digit, decimal_step, drop_more, take_more, length-map, Token, tokens, print, print_from, separator, token_text, quoted, escape, IsNumber, IsPrintable, ArePrintable, tokens-print, IsNumber-decimal, unsigned, number_of, read, number_of-decimal, Member, scalar_token, IsSpelt, AreSpelt, member_tokens, flat_data, IsDecimal, AreDecimal, PlainUpTo, member_text, members_text, flat_tokens, is_stop, is_plain, is_plain_letter, Scalar, Text, Whole}
+use Rattle.json_tokens.proofs.Common.{◌≡◌, ℕ, zero, suc, ◌+◌, ◌*◌, ◌/◌, ◌%◌, ◌<◌, ◌≤◌, ◌^◌, Bool, true, false, not, cond, eqb, ltb, ◌||◌, ◌⊎◌, inl, inr, List, [], ◌∷◌, ◌++◌, map, length, take, drop, get_or, decimal, refl, sym, ap, ap₂, subst, ◌∙◌, arith, append_assoc, take-append-drop, Some, Result, Ok, Err, IfOk, prefix_len, and_from, cases_lt, length-chunk, mask_l-mod, trailing_mask_l, run_in_chunk_le, run_in_chunk_fails, none_from_empty_mask, decimal_digit, decimal_step, drop_more, take_more, length-map, Token, tokens, print, print_from, separator, token_text, quoted, escape, IsPrintable, ArePrintable, tokens-print, IsNumber-decimal, read, Member, scalar_token, IsSmallScalar, HaveSmallNumbers, member_tokens, flat_data, PlainUpTo, member_text, members_text, flat_tokens, is_stop, is_plain, is_plain_letter, Scalar, Text, Whole}
 use lib.Bits.{bit_or}
 use lib.Count.{count_trailing_zeros}
 use lib.Lanes.{chunk, mask_l, top}
@@ -114,7 +114,7 @@ print_member c m ts = ap (λ l. separator c (token.key m.0.now) ++ l) (value_beh
   where
     value_behind : (v : Scalar) → token_text (token.key m.0.now) ++ print_from false (scalar_token v ∷ ts) ≡ token_text (token.key m.0.now) ++ (token_text (scalar_token v) ++ print_from true ts)
     value_behind (Text s) = refl
-    value_behind (Whole digits n) = refl
+    value_behind (Whole n) = refl
 
 comma_first : (ms : List Member) (m : Member) (ts : List Token) → print_from true (member_tokens (ms ++ m ∷ []) ++ ts) ≡ 44 ∷ print_from false (member_tokens (ms ++ m ∷ []) ++ ts)
 unfolding print_from
@@ -135,12 +135,12 @@ print_record ms m = ap (λ l. 123 ∷ l) (print_members ms m)
 
 -- ---- the steps of a scan
 
-decimal_push : (ms : List Member) (m : Member) → AreDecimal ms → IsDecimal m.1 → AreDecimal (ms ++ m ∷ [])
-decimal_push [] m all h = (h, tt)
-decimal_push (x ∷ ms) m all h = (all.0, decimal_push ms m all.1 h)
+small_push : (ms : List Member) (m : Member) → HaveSmallNumbers ms → IsSmallScalar m.1 → HaveSmallNumbers (ms ++ m ∷ [])
+small_push [] m all h = (h, tt)
+small_push (x ∷ ms) m all h = (all.0, small_push ms m all.1 h)
 
-pub decimal_members : (now ms : List Member) (m : Member) → now ≡ ms ++ m ∷ [] → AreDecimal ms → IsDecimal m.1 → AreDecimal now
-decimal_members now ms m n all h = subst AreDecimal (sym n) (decimal_push ms m all h)
+pub small_members : (now ms : List Member) (m : Member) → now ≡ ms ++ m ∷ [] → HaveSmallNumbers ms → IsSmallScalar m.1 → HaveSmallNumbers now
+small_members now ms m n all h = subst HaveSmallNumbers (sym n) (small_push ms m all h)
 
 members_push : (ms : List Member) (m : Member) → members_text (ms ++ m ∷ []) ≡ members_text ms ++ (member_text m ++ 44 ∷ [])
 members_push [] m = refl
@@ -163,23 +163,20 @@ scanned_all text rest said behind ms now m t k v b n =
 
 -- ---- what such a text is read as
 
-spelt : (v : Scalar) → IsDecimal v → IsSpelt v
-spelt (Text s) h = tt
-spelt (Whole digits n) h = subst (λ ds. number_of ds ≡ Some (unsigned n)) (sym h.1) (number_of-decimal n h.0)
-
-all_spelt : (ms : List Member) → AreDecimal ms → AreSpelt ms
-all_spelt [] h = tt
-all_spelt (m ∷ ms) h = (spelt m.1 h.0, all_spelt ms h.1)
-
-printable : (ms : List Member) → AreDecimal ms → ArePrintable (member_tokens ms ++ token.end_object ∷ [])
+printable : (ms : List Member) → HaveSmallNumbers ms → ArePrintable (member_tokens ms ++ token.end_object ∷ [])
 unfolding ArePrintable
 printable [] h = (tt, tt)
 printable (m ∷ ms) h = (tt, (value m.1 h.0, printable ms h.1))
   where
-    value : (v : Scalar) → IsDecimal v → IsPrintable (scalar_token v)
+    value : (v : Scalar) → IsSmallScalar v → IsPrintable (scalar_token v)
     value (Text s) k = tt
-    value (Whole digits n) k = subst IsNumber (sym k.1) (IsNumber-decimal n k.0)
+    value (Whole n) k = IsNumber-decimal n k
 
-pub read_scanned : (text : List ℕ) (ms : List Member) → text ≡ print (flat_tokens ms) → AreDecimal ms → read text ≡ Some (flat_data ms)
+read_scanned : (text : List ℕ) (ms : List Member) → text ≡ print (flat_tokens ms) → HaveSmallNumbers ms → read text ≡ Some (flat_data ms)
 unfolding ArePrintable
-read_scanned text ms e h = flat_read text ms (ap tokens e ∙ tokens-print (flat_tokens ms) (tt, printable ms h)) (all_spelt ms h)
+read_scanned text ms e h = flat_read text ms (ap tokens e ∙ tokens-print (flat_tokens ms) (tt, printable ms h)) h
+
+pub read_if_scanned : {E : Type 0} (text : List ℕ) (ms : List Member) (scanned : Result Bool E) → IfOk scanned (λ is_record. is_record ≡ true → HaveSmallNumbers ms) →
+    IfOk scanned (λ is_record. is_record ≡ true → text ≡ print (flat_tokens ms)) → IfOk scanned (λ is_record. is_record ≡ true → read text ≡ Some (flat_data ms))
+read_if_scanned text ms (Ok is_record) small all = λ is. read_scanned text ms (all is) (small is)
+read_if_scanned text ms (Err e) small all = tt

@@ -1,5 +1,5 @@
 -- Records without lists: objects of texts and whole numbers.
-use Rattle.std.specs.Prelude.{◌≡◌, ℕ, List, [], ◌∷◌, Option, Some, None, ⊤, if◌then◌else◌}
+use Rattle.std.specs.Prelude.{ℕ, ◌<◌, ◌^◌, List, [], ◌∷◌, Option, Some, None, ⊤, if◌then◌else◌, decimal}
 use Rattle.std.specs.Option.{option_or}
 use Rattle.std.specs.Borrow.{Bor}
 use Rattle.std.specs.Str.{bytes_eq}
@@ -7,7 +7,6 @@ use Rattle.json.specs.Token.{Token}
 use Rattle.json.specs.Token as token
 use Rattle.json.specs.Json as json
 use Rattle.serde_json.specs.Data.{Data, unsigned, number, string, object, Members, no_members, put}
-use Rattle.serde_json.specs.Read.{number_of}
 use Rattle.json_tokens.specs.declared.flat.Scalar.{Scalar}
 use Rattle.json_tokens.specs.declared.flat.Scalar.TheVariants.{Text, Whole}
 
@@ -18,25 +17,26 @@ Member = Bor (List ℕ) × Scalar
 -- the token of a value, and its JSON
 abbrev pub scalar_token : Scalar → Token
 scalar_token (Text s) = token.string s.now
-scalar_token (Whole digits n) = token.number digits.now
+scalar_token (Whole n) = token.number (decimal n)
 
 abbrev pub scalar_json : Scalar → json.Json
 scalar_json (Text s) = json.string s.now
-scalar_json (Whole digits n) = json.number digits.now
+scalar_json (Whole n) = json.number (decimal n)
 
 -- what a value is read as
 abbrev pub scalar_data : Scalar → Data
 scalar_data (Text s) = string s.now
-scalar_data (Whole digits n) = number (unsigned n)
+scalar_data (Whole n) = number (unsigned n)
 
--- the digits of a number say it
-abbrev pub IsSpelt : Scalar → Type 0
-IsSpelt (Text s) = ⊤
-IsSpelt (Whole digits n) = number_of digits.now ≡ Some (unsigned n)
+-- a number has 64 bits at most
+abbrev pub IsSmallScalar : Scalar → Type 0
+IsSmallScalar (Text s) = ⊤
+IsSmallScalar (Whole n) = n < 2 ^ 64
 
-abbrev pub AreSpelt : List Member → Type 0
-AreSpelt [] = ⊤
-AreSpelt (m ∷ ms) = IsSpelt m.1 × AreSpelt ms
+-- each number has
+abbrev pub HaveSmallNumbers : List Member → Type 0
+HaveSmallNumbers [] = ⊤
+HaveSmallNumbers (m ∷ ms) = IsSmallScalar m.1 × HaveSmallNumbers ms
 
 -- the tokens of members, and their JSON
 abbrev pub member_tokens : List Member → List Token

@@ -1,22 +1,10 @@
 -- The form in which a record without lists is written.
-use Rattle.std.specs.Prelude.{◌≡◌, ℕ, ◌<◌, ◌^◌, ◌==◌, ◌||◌, nat_lt, Bool, true, List, [], ◌∷◌, ◌++◌, get_or, decimal, ⊤}
+use Rattle.std.specs.Prelude.{◌≡◌, ℕ, ◌<◌, ◌==◌, ◌||◌, nat_lt, Bool, true, List, [], ◌∷◌, ◌++◌, get_or}
 use Rattle.json.specs.Token.{Token}
 use Rattle.json.specs.Token as token
 use Rattle.json.specs.Print.{token_text}
 use Rattle.json_tokens.specs.Flat.{Member, scalar_token, member_tokens}
 use Rattle.json_tokens.specs.Writing.{is_plain_letter}
-use Rattle.json_tokens.specs.declared.flat.Scalar.{Scalar}
-use Rattle.json_tokens.specs.declared.flat.Scalar.TheVariants.{Text, Whole}
-
--- the digits of a number are its decimal
-abbrev pub IsDecimal : Scalar → Type 0
-IsDecimal (Text s) = ⊤
-IsDecimal (Whole digits n) = (n < 2 ^ 64) × (digits.now ≡ decimal n)
-
--- those of each number are
-abbrev pub AreDecimal : List Member → Type 0
-AreDecimal [] = ⊤
-AreDecimal (m ∷ ms) = IsDecimal m.1 × AreDecimal ms
 
 -- the text of a key with its value
 abbrev pub member_text : Member → List ℕ

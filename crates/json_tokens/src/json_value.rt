@@ -24,7 +24,7 @@ impl<'r, 'a> JsonValue<'r, 'a> {
     {
         match self {
             JsonValue::Scalar(Scalar::Text(_)) => false,
-            JsonValue::Scalar(Scalar::Whole { .. }) => false,
+            JsonValue::Scalar(Scalar::Whole(_)) => false,
             JsonValue::Flat(_) => true,
             JsonValue::Tape(value) => value.is_object(),
             JsonValue::Tree(value) => value.is_object(),
@@ -36,7 +36,7 @@ impl<'r, 'a> JsonValue<'r, 'a> {
     {
         match self {
             JsonValue::Scalar(Scalar::Text(_)) => false,
-            JsonValue::Scalar(Scalar::Whole { .. }) => false,
+            JsonValue::Scalar(Scalar::Whole(_)) => false,
             JsonValue::Flat(_) => false,
             JsonValue::Tape(value) => value.is_null(),
             JsonValue::Tree(value) => value.is_null(),
@@ -49,7 +49,7 @@ impl<'r, 'a> JsonValue<'r, 'a> {
     {
         match self {
             JsonValue::Scalar(Scalar::Text(text)) => Some(*text),
-            JsonValue::Scalar(Scalar::Whole { .. }) => None,
+            JsonValue::Scalar(Scalar::Whole(_)) => None,
             JsonValue::Flat(_) => None,
             JsonValue::Tape(value) => value.as_str(),
             JsonValue::Tree(value) => value.as_str(),
@@ -63,7 +63,7 @@ impl<'r, 'a> JsonValue<'r, 'a> {
     {
         match self {
             JsonValue::Scalar(Scalar::Text(_)) => None,
-            JsonValue::Scalar(Scalar::Whole { number, .. }) => Some(*number),
+            JsonValue::Scalar(Scalar::Whole(number)) => Some(*number),
             JsonValue::Flat(_) => None,
             JsonValue::Tape(value) => value.as_u64(),
             JsonValue::Tree(value) => value.as_u64(),
@@ -76,7 +76,7 @@ impl<'r, 'a> JsonValue<'r, 'a> {
     {
         match self {
             JsonValue::Scalar(Scalar::Text(_)) => None,
-            JsonValue::Scalar(Scalar::Whole { .. }) => None,
+            JsonValue::Scalar(Scalar::Whole(_)) => None,
             JsonValue::Flat(_) => None,
             JsonValue::Tape(value) => value.items().map(JsonItems::Tape),
             JsonValue::Tree(value) => items_of_tree(value),
@@ -90,7 +90,7 @@ impl<'r, 'a> JsonValue<'r, 'a> {
     {
         match self {
             JsonValue::Scalar(Scalar::Text(_)) => None,
-            JsonValue::Scalar(Scalar::Whole { .. }) => None,
+            JsonValue::Scalar(Scalar::Whole(_)) => None,
             JsonValue::Flat(record) => record.get(name).map(JsonValue::Scalar),
             JsonValue::Tape(value) => value.get(name).map(JsonValue::Tape),
             JsonValue::Tree(value) => value.get(name).map(JsonValue::Tree),

@@ -3,16 +3,15 @@
 //! - [`Writer`] appends JSON to a buffer, a token at a time. Each text is plain (nothing in it that JSON escapes), so it
 //!   is copied as it is, and each number is a whole one of 64 bits. What is written is read by `serde_json` as the tree
 //!   that was written (`specs/SmallNumbers.antt`).
-//! - [`FlatRecord`] reads an object of texts and whole numbers without a tree: by a scan where it is written without blanks
-//!   and escapes (`specs/FlatText.antt`), else token by token. It is proved to be the data that `serde_json` reads of the
-//!   text (`specs/Flat.antt`).
-//! - [`JsonTape`] reads any JSON whose numbers are whole ones, as a record with lists, into a flat list of its tokens. It too
-//!   is proved to be the data that `serde_json` reads of the text (`specs/Tapes.antt`).
+//! - [`FlatRecord`] reads an object of texts and whole numbers that is written without blanks and escapes, by one scan
+//!   (`specs/FlatText.antt`). It is proved to be the data that `serde_json` reads of the text (`specs/Flat.antt`).
+//! - [`JsonTape`] reads any JSON whose numbers are whole ones, as a record with lists or with blanks, into a flat list of its
+//!   tokens. It too is proved to be the data that `serde_json` reads of the text (`specs/Tapes.antt`).
 //! - [`JsonValue`] is what is found in a line: a text, a number, such a record, a value on such a tape, or any tree of
 //!   `serde_json`. Contracts see its data, so that what reads fields is written once.
 //!
-//! The writer takes memory for its buffer, and the readers for the members or the tokens of a record. Where it is refused, what
-//! a buffer held stays.
+//! The writer takes memory for its buffer, and the readers for the members or the tokens of a record; a `FlatRecord` uses its own
+//! again for the next record. Where memory is refused, what a buffer held stays.
 #![tactic(auto)]
 
 mod buffer;

@@ -3,8 +3,8 @@ ghost use Rattle.std.specs.Prelude.{◌≡◌, ◌+◌, ◌≤◌, ◌<◌, ◌�
 ghost use Rattle.std.specs.Simd.Lanes.{mask_l};
 ghost use Rattle.json.specs.Print.{print, quoted, token_text};
 ghost use Rattle.json.specs.Token as token;
-ghost use Rattle.json_tokens.specs.Flat.{scalar_token};
-ghost use Rattle.json_tokens.specs.FlatText.{AreDecimal, IsDecimal, PlainUpTo, flat_tokens, is_stop};
+ghost use Rattle.json_tokens.specs.Flat.{HaveSmallNumbers, IsSmallScalar, scalar_token};
+ghost use Rattle.json_tokens.specs.FlatText.{PlainUpTo, flat_tokens, is_stop};
 
 use crate::flat::{MAX_MEMBERS, Scalar};
 use std::alloc::AllocError;
@@ -13,65 +13,33 @@ use std::simd::prelude::*;
 // So many letters are looked at together.
 const WINDOW: usize = 16;
 
-/// What a scan finds.
-#[derive(Clone, Copy)]
-pub enum Form {
-    /// A record in this form.
-    Record,
-    /// A list or an object as a value.
-    Nested,
-    /// Anything else.
-    Other,
-}
-
-/// Takes the members of a record in this form.
-pub fn scan_members<'a>(
+/// Takes the members of a record in this form, and says whether the text is one.
+pub(crate) fn scan_members<'a>(
     text: &'a str,
     members: &mut Vec<(&'a str, Scalar<'a>)>,
-) -> Result<Form, AllocError>
+) -> Result<bool, AllocError>
     requires none { members.old.items ≡ [] }
-    ensures decimal { IfOk result (λ form. form ≡ Form.Record → AreDecimal members.new.items) }
-    ensures all { IfOk result (λ form. form ≡ Form.Record
+    ensures small { IfOk result (λ is_record. is_record ≡ true → HaveSmallNumbers members.new.items) }
+    ensures all { IfOk result (λ is_record. is_record ≡ true
         → text.now ≡ print (flat_tokens members.new.items)) }
 {
     let Some(mut rest) = after(text, b'{') else {
-        return Ok(Form::Other);
+        return Ok(false);
     };
     for i in 1..MAX_MEMBERS {
         let Some((name, said)) = key(rest) else {
-            return Ok(Form::Other);
+            return Ok(false);
         };
         let Some((value, behind)) = value(said) else {
-            return Ok(form_of(said));
+            return Ok(false);
         };
         members.push((name, value))?;
         match after(behind, b',') {
             Some(more) => rest = more,
-            None => return Ok(form_at_end(behind)),
+            None => return Ok(behind == "}"),
         }
     }
-    Ok(Form::Other)
-}
-
-// The form of a text whose value, at this place, is neither a text nor a whole number.
-fn form_of(value: &str) -> Form
-    ensures { result ≢ Form.Record }
-{
-    match value.as_bytes().first() {
-        Some(b'[' | b'{') => Form::Nested,
-        _ => Form::Other,
-    }
-}
-
-// The form of a text of which this is left behind the last member.
-fn form_at_end(rest: &str) -> Form
-    ensures { result ≡ Form.Record → rest.now ≡ 125 ∷ [] }
-{
-    if rest == "}" {
-        Form::Record
-    } else {
-        Form::Other
-    }
+    Ok(false)
 }
 
 // A key with its colon, and what follows.
@@ -87,7 +55,7 @@ fn key(text: &str) -> Option<(&str, &str)>
 // A text or a whole number, and what follows.
 #[inline(always)]
 fn value(text: &str) -> Option<(Scalar<'_>, &str)>
-    ensures decimal { IfSome result (λ p. IsDecimal p.0) }
+    ensures small { IfSome result (λ p. IsSmallScalar p.0) }
     ensures all { IfSome result (λ p. text.now ≡ token_text (scalar_token p.0) ++ p.1.now) }
 {
     match quoted(text) {
@@ -175,12 +143,12 @@ fn is_stop(letter: u8) -> bool
 // A whole number, and what follows.
 #[inline(always)]
 fn whole_number(text: &str) -> Option<(Scalar<'_>, &str)>
-    ensures decimal { IfSome result (λ p. IsDecimal p.0) }
+    ensures small { IfSome result (λ p. IsSmallScalar p.0) }
     ensures all { IfSome result (λ p. text.now ≡ token_text (scalar_token p.0) ++ p.1.now) }
 {
     let (len, number) = decimal_first(text.as_bytes())?;
-    let (digits, rest) = text.split_at_checked(len)?;
-    Some((Scalar::Whole { digits, number }, rest))
+    let (_, rest) = text.split_at_checked(len)?;
+    Some((Scalar::Whole(number), rest))
 }
 
 // How long the decimal is that comes first, and its number. Something follows it, unless it is 0.

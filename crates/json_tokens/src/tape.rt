@@ -2,15 +2,16 @@
 //!
 //! A tape is taken only where each number is a whole one of 64 bits, and where lists and objects nest no deeper than
 //! `serde_json` reads. Then the text is read as the data that the tape stands for.
-ghost use Rattle.std.specs.Prelude.{◌≡◌, List, ◌∷◌, Some, true, map, is_some, IfOk, IfSome, MatchOption, option_map, option_and_then};
+ghost use Rattle.std.specs.Prelude.{◌≡◌, List, ◌==◌, ◌∷◌, Some, true, map, is_some, IfOk, IfSome, MatchOption, option_map, option_and_then, slice_index};
 ghost use Rattle.json.specs.Tape.{node_token};
 ghost use Rattle.json.specs.Token.{Token};
-ghost use Rattle.serde_json.specs.Data.{item, no_items};
+ghost use Rattle.serde_json.specs.Data.{item, no_items, unsigned};
 ghost use Rattle.serde_json.specs.Find as find;
-ghost use Rattle.serde_json.specs.Read.{read as read_text};
+ghost use Rattle.serde_json.specs.Find.{as_u64};
+ghost use Rattle.serde_json.specs.Read.{number_of, read as read_text};
 ghost use Rattle.json_tokens.specs.Tapes.{IsSimpleAt, first_data, first_items, tape_data, tape_items};
 
-use crate::flat::whole;
+use fast_float::Numeral;
 use json::{Element, Error, Items, Node, Scratch, Tape};
 use std::alloc::{AllocError, Global};
 
@@ -90,6 +91,25 @@ fn depth_after(node: Node<'_>, depth: usize) -> Option<usize>
         Node::Bool(_) => Some(depth),
         Node::Null => Some(depth),
     }
+}
+
+// The whole number of a token's text, if it is one that is not below 0 and has 64 bits at most.
+fn whole(digits: &str) -> Option<u64>
+    ensures spelt { IfSome result (λ n. number_of digits.now ≡ Some (unsigned n)) }
+    ensures exact { result ≡ option_and_then as_u64 (number_of digits.now) }
+{
+    let bytes = digits.as_bytes();
+    if has_minus(bytes) {
+        return None;
+    }
+    Numeral::scan(bytes).to_u64()
+}
+
+#[inline(always)]
+fn has_minus(digits: &[u8]) -> bool
+    ensures { result ≡ (slice_index digits.now 0 == 45) }
+{
+    !digits.is_empty() && digits[0] == b'-'
 }
 
 /// A value on a tape.

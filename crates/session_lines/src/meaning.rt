@@ -11,7 +11,7 @@ ghost use Rattle.session_lines.specs.Meanings.{sender_of, call_meaning, is_hello
 use crate::fault::LineFault;
 use crate::line::Line;
 use call_lines::{ParsedLine, parse_line};
-use call_reader::CallReader;
+use call_reader::{CallReader, FlatRecord};
 use serde_json::Value;
 use std::alloc::Global;
 use taf_codes::{Memory, Railway};
@@ -54,7 +54,7 @@ fn later_meaning(
 ) -> Result<Meaning, Memory>
     ensures { IfOk result (λ m. m ≡ meaning_after_hello own (parsed_line line.now)) }
 {
-    match parse_line(reader, line)? {
+    match parse_line(reader, &mut FlatRecord::new(alloc), line)? {
         ParsedLine::TooLong => Ok(wrong(LineFault::LineTooLong)),
         ParsedLine::Blank => Ok(Meaning::Blank),
         ParsedLine::Fault(fault) => Ok(Meaning::Wrong(Line::of_record_fault(alloc, &fault)?)),

@@ -1,14 +1,15 @@
-use Rattle.hub_core.proofs.Common.{rules, ◌≡◌, ℕ, List, [], ◌∷◌, ◌++◌, Option, Some, None, cond, length, ap, ◌∙◌, ◌<◌, ◌^◌, sym, subst, Send, Message, Reply, Accepted, Paged, same_name, position_of, has_room, SentStates, OutboxState, outbox_state_of, with_items, Entry, AddressedItem, items_to, after_acceptance, TableEntries, table_state, table_part, event_alone, Represents}
+use Rattle.hub_core.proofs.Common.{rules, ◌≡◌, ℕ, List, [], ◌∷◌, ◌++◌, Option, Some, None, cond, length, ap, ◌∙◌, ◌<◌, ◌^◌, sym, subst, Send, Message, Reply, Accepted, Paged, same_name, position_of, has_room, SentStates, OutboxState, outbox_state_of, with_items, Entry, AddressedItem, items_to, after_acceptance, TableEntries, table_state, table_part, AreNextEvents, Represents}
 use Rattle.hub_core.proofs.HistoryLemmas.{kept_same}
 use Rattle.hub_core.proofs.SendLemmas.{few_items, new_answer, kept_accepted}
 use Rattle.hub_core.proofs.acceptance.accept.Goals as goal
 
-pub accept-requires-clause-event : goal.accept-requires-clause-event
-accept-requires-clause-event c =
-    let n = c.make_room.new.state in
-    c.requires.event ∙
-    ap (λ (t : TableEntries). event_alone (table_state t) c.args.message) (sym c.in_ok-make_room.ensures.tables) ∙
-    ap (event_alone (table_state n.tables)) (sym c.get-sent.ensures)
+pub accept-requires-clause-events : goal.accept-requires-clause-events
+accept-requires-clause-events c =
+    let same = subst (λ (t : TableEntries). AreNextEvents (table_state t) c.args.message c.args.events) (sym c.in_ok-make_room.ensures.tables) c.requires.events in
+    subst (λ (m : Message). AreNextEvents (table_state c.make_room.new.state.tables) m c.args.events) (sym c.get-sent.ensures) same
+
+pub put_items-requires-clause-events : goal.put_items-requires-clause-events
+put_items-requires-clause-events c = c.requires.events
 
 pub returns-in_err-make_room : goal.returns-in_err-make_room
 returns-in_err-make_room c = record {

@@ -1,4 +1,4 @@
-use Rattle.hub_core.proofs.Common.{◌∙◌, ap, sym, subst, position_of, outbox_state_of, fault, table_state, event_alone, Checked, IsChecked}
+use Rattle.hub_core.proofs.Common.{◌∙◌, ap, sym, subst, position_of, outbox_state_of, fault, table_state, AreNextEvents, Message, Checked, IsChecked}
 use Rattle.hub_core.proofs.AcceptableLemmas.{acceptable, offered_stay}
 use Rattle.hub_core.proofs.send.apply_new.Goals as goal
 
@@ -14,11 +14,11 @@ accept-requires-clause-acceptable c =
     acceptable c.estimates_fit.ensures c.offers_are_in_order.ensures b.history.entries c.args.message (table_state b.tables) (position_of b.seen) (outbox_state_of b.outboxes) c.requires.ready.0 c.requires.ready.1 c.requires.new.1 c.requires.new.0
     (sym (ap (fault (table_state b.tables)) c.get.ensures) ∙ checked.0)
 
-pub accept-requires-clause-event : goal.accept-requires-clause-event
-accept-requires-clause-event c =
+pub accept-requires-clause-events : goal.accept-requires-clause-events
+accept-requires-clause-events c =
     let s = table_state c.args.state.now.tables in
     let checked = subst (λ (k : Checked). IsChecked s c.get.result.now k) c.in-Accepted.is c.in_ok-found.ensures in
-    checked.1 ∙ ap (event_alone s) c.get.ensures
+    subst (λ (m : Message). AreNextEvents s m c.in-Accepted.events) c.get.ensures checked.1
 
 pub refuse-requires-clause-fault : goal.refuse-requires-clause-fault
 refuse-requires-clause-fault c =

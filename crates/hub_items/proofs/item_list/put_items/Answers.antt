@@ -1,8 +1,11 @@
-use Rattle.hub_items.proofs.Common.{subst, IsAcceptable, List, ap, ◌∙◌, ◌++◌, sym, filter, not, bytes_eq, Railway, Message, AddressedItem, table_state, event_alone, all_items}
+use Rattle.hub_items.proofs.Common.{subst, IsAcceptable, List, ap, ◌∙◌, ◌++◌, sym, filter, not, bytes_eq, Railway, Message, AddressedItem, table_state, AreNextEvents, all_items}
 use Rattle.hub_items.proofs.item_list.put_items.Goals as goal
 
 pub put_all-requires-clause-acceptable : goal.put_all-requires-clause-acceptable
-put_all-requires-clause-acceptable c = (subst (IsAcceptable (table_state c.args.tables.now)) (sym c.get-sent.ensures) c.requires.acceptable, c.requires.event ∙ ap (event_alone (table_state c.args.tables.now)) (sym c.get-sent.ensures))
+put_all-requires-clause-acceptable c =
+    let s = table_state c.args.tables.now in
+    let same = sym c.get-sent.ensures in
+    (subst (IsAcceptable s) same c.requires.acceptable, subst (λ (m : Message). AreNextEvents s m c.args.events.now) same c.requires.events)
 
 pub returns : goal.returns
 returns c =

@@ -14,7 +14,7 @@ returns-then-keeps_estimates c =
     let said = n.says ∙ ap (λ says. event_body_for s.offer m.by says c.args.movement.now.wagon) is in
     let kept = sym (ap keeps_estimates said) ∙ sym k.value ∙ c.if-keeps_estimates.true in
     let alone = ap (wagons_in s.offer m.by) is in
-    let receiver = ap (notice_receivers s (journey_after s m) m.by) is ∙ ap (λ (es : List Event). movement_receivers es what) (sym n.behind) ∙ lead_told (after c.alone-next.result) what kept ∙ ap option_to_list (sym c.lead.ensures) in
+    let receiver = ap (notice_receivers s (journey_after s m) m.by) is ∙ ap (λ (es : List Event). movement_receivers es what) (sym n.events_after) ∙ lead_told (after c.alone-next.result) what kept ∙ ap option_to_list (sym c.lead.ensures) in
     let none = ap (sub_items m.by) is in
     subst (λ (more : List AddressedItem). OnOk c.put_notice.result (c.put_notice.new.items.items ≡ c.args.items.now.items ++ more))
     (items_of_notice_alone s m _ _ _ _ c.requires.notice alone receiver none n (k.estimates _ c.if-keeps_estimates.true) (k.alerts _ c.if-keeps_estimates.true)) c.put_notice.ensures

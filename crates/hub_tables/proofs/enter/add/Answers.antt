@@ -1,29 +1,34 @@
-use Rattle.hub_tables.proofs.Common.{◌≡◌, ◌∙◌, ℕ, Some, nat_eq, sym, ap, subst, rules, if◌then◌else◌, lookup, option_copied_mut, Journey, AreJourneyEntries}
-use Rattle.hub_tables.proofs.EntryLemmas.{next_there, entries_put, kept_entries}
+use Rattle.hub_tables.proofs.Common.{◌∙◌, sym, ap, subst, option_copied_mut, AreJourneyEntries, keys-with_value_at}
+use Rattle.hub_tables.proofs.EntryLemmas.{next_there, kept_there, put_there, entries_there}
 use Rattle.hub_tables.proofs.enter.add.Goals as goal
 
 pub add-requires : goal.add-requires
 add-requires c =
-    let found = sym c.get_mut.ensures.value ∙ ap option_copied_mut c.in-Some.is in
-    let there = next_there c.args.wagons.now.entries c.args.wagon c.in-Some.found.now c.args.event found c.requires.next in
+    let value = sym c.get_index_mut.ensures.value ∙ ap option_copied_mut c.in-Some.is in
+    let there = next_there c.args.wagons.now c.args.next _ c.get_index_mut.ensures.unique c.requires.position value c.requires.next in
     record { admitted = there.allowed; fits = there.fits_after }
 
 -- where memory is refused, the entries are as they were
 pub returns-in_default-clause-err : goal.returns-in_default-clause-err
 returns-in_default-clause-err c =
-    let found = sym c.get_mut.ensures.value ∙ ap option_copied_mut c.in-Some.is in
-    let before = c.args.wagons.now.entries in
-    let after = (c.get_mut.follows.lender c.add.new.self).entries in
-    let written = c.get_mut.follows.holds c.add.new.self in
-    let same : c.add.new.self ≡ c.in-Some.found.now = c.in_default.ensures.err in
-    let as_it_was = λ (q : ℕ). (written.3 (search rules)).0 q ∙ ap (λ (j : Journey). if nat_eq c.args.wagon q then Some j else lookup (nat_eq q) before) same in
-    kept_entries before after c.args.wagon c.in-Some.found.now found as_it_was c.get_mut.ensures.unique written.1
+    let value = sym c.get_index_mut.ensures.value ∙ ap option_copied_mut c.in-Some.is in
+    kept_there c.args.wagons.now c.args.next _ c.get_index_mut.ensures.unique c.requires.position value c.add.new.self c.in_default.ensures.err
+
+pub returns-in_default-clause-keys : goal.returns-in_default-clause-keys
+returns-in_default-clause-keys c = keys-with_value_at c.args.wagons.now c.args.next.position c.add.new.self
 
 pub returns-in_default-clause-journeys : goal.returns-in_default-clause-journeys
 returns-in_default-clause-journeys c = subst AreJourneyEntries (sym (returns-in_default-clause-err c)) c.requires.journeys
 
+pub returns-clause-ok : goal.returns-clause-ok
+returns-clause-ok c =
+    let value = sym c.get_index_mut.ensures.value ∙ ap option_copied_mut c.in-Some.is in
+    put_there c.args.wagons.now c.args.next _ c.get_index_mut.ensures.unique c.requires.position value c.add.new.self c.in-Ok.ensures.ok
+
+pub returns-clause-keys : goal.returns-clause-keys
+returns-clause-keys c = keys-with_value_at c.args.wagons.now c.args.next.position c.add.new.self
+
 pub returns-clause-journeys : goal.returns-clause-journeys
 returns-clause-journeys c =
-    let found = sym c.get_mut.ensures.value ∙ ap option_copied_mut c.in-Some.is in
-    let written = c.get_mut.follows.holds c.add.new.self in
-    entries_put c.args.wagons.now.entries (c.get_mut.follows.lender c.add.new.self).entries c.args.wagon c.in-Some.found.now c.add.new.self c.args.event found c.in-Ok.ensures.ok c.requires.journeys (written.3 (search rules)).0
+    let value = sym c.get_index_mut.ensures.value ∙ ap option_copied_mut c.in-Some.is in
+    entries_there c.args.wagons.now c.args.next _ c.get_index_mut.ensures.unique c.requires.position value c.add.new.self c.in-Ok.ensures.ok c.requires.journeys

@@ -1,18 +1,23 @@
-use Rattle.hub_items.proofs.Common.{sym, ap, ◌∙◌, option_copied, none-some, table_state, alone_has, alone_continues, event_given, event_of_alone}
+use Rattle.hub_items.proofs.Common.{ℕ, [], sym, subst, ◌∙◌, true≢false, none-some, table_state, IsEventOf, AreNextEvents, alone_continues, event_alone, All-head}
 use Rattle.hub_items.proofs.wagon_change.WagonEvent.alone.Goals as goal
 
-pub of-requires-clause-no_plan : goal.of-requires-clause-no_plan
-of-requires-clause-no_plan c = alone_continues c.args.from.message.now.body c.args.wagon c.requires.alone
-
-pub of-requires-clause-is_named : goal.of-requires-clause-is_named
-of-requires-clause-is_named c = alone_has (table_state c.args.from.tables.now) c.args.from.message.now c.args.wagon c.requires.alone
-
 pub of-requires-clause-event : goal.of-requires-clause-event
+unfolding AreNextEvents
 of-requires-clause-event c =
-    event_given (table_state c.args.from.tables.now) c.args.from.message.now c.args.wagon c.in-Some.event.now
-    (sym c.requires.acceptable.1 ∙ ap option_copied c.in-Some.is)
+    let s = table_state c.args.from.tables.now in
+    let m = c.args.from.message.now in
+    let next = c.in-Alone.next in
+    let of = subst (AreNextEvents s m) c.in-Alone.is c.requires.acceptable.1 in
+    subst (λ (v : ℕ). IsEventOf s m (record { wagon = v; position = next.position; event = next.event })) (event_alone s m next c.args.wagon of c.requires.alone) (All-head (IsEventOf s m) next [] of.each)
 
 pub unreachable-requires : goal.unreachable-requires
+unfolding AreNextEvents
 unreachable-requires c =
-    none-some _
-    (sym (ap option_copied c.in-None.is) ∙ c.requires.acceptable.1 ∙ event_of_alone (table_state c.args.from.tables.now) c.args.from.message.now c.args.wagon c.requires.alone)
+    let planned = subst (AreNextEvents (table_state c.args.from.tables.now) c.args.from.message.now) c.in-Planned.is c.requires.acceptable.1 in
+    true≢false (sym (alone_continues c.args.from.message.now.body c.args.wagon c.requires.alone) ∙ planned)
+
+pub unreachable-requires-in-Each : goal.unreachable-requires-in-Each
+unfolding AreNextEvents
+unreachable-requires-in-Each c =
+    let several = subst (AreNextEvents (table_state c.args.from.tables.now) c.args.from.message.now) c.in-Each.is c.requires.acceptable.1 in
+    none-some _ (sym several.1 ∙ c.requires.alone)

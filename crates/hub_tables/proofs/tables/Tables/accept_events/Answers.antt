@@ -1,30 +1,63 @@
-use Rattle.hub_tables.proofs.Common.{◌≡◌, Option, Some, IfSome, sym, ap, subst, ◌∙◌, keys_of, Event, TableEntries, events_in, table_state, event_alone, MayComeNext, with_event_on}
-use Rattle.hub_tables.proofs.NextEventLemmas.{one_comes_next, one_after}
+use Rattle.hub_tables.proofs.Common.{true≢false, List, [], ◌∷◌, sym, ap, subst, ◌∙◌, fold, keys_of, slice_get, Event, EventAt, TableEntries, events_in, table_state, AreNextEvents, MayComeNext, AreAdmitted, with_event_on}
+use Rattle.hub_tables.proofs.AcceptanceLemmas.{on_ok}
+use Rattle.hub_tables.proofs.NextEventLemmas.{next_after, next_admitted}
 use Rattle.hub_tables.proofs.tables.Tables.accept_events.Goals as goal
 
+pub add-requires-clause-position : goal.add-requires-clause-position
+unfolding AreNextEvents
+add-requires-clause-position c =
+    let s = table_state c.args.self.now in
+    let of = subst (AreNextEvents s c.args.message.now) c.in-Alone.is c.requires.events in
+    ap (λ (t : TableEntries). slice_get (keys_of t.wagons) c.in-Alone.event.position) c.self.view_is ∙
+    (next_admitted s c.args.message.now c.requires.acceptable _ of c.requires.differ).0
+
 pub add-requires-clause-next : goal.add-requires-clause-next
+unfolding AreNextEvents
 add-requires-clause-next c =
     let s = table_state c.args.self.now in
-    let m = c.args.message.now in
-    let w = c.in-Some-Some.wagon in
-    let e = c.in-Some-Some.event in
-    let given = subst (λ (o : Option Event). IfSome o (λ x. event_alone s m ≡ Some x)) c.in-Some-Some.is-1 c.requires.event in
-    subst (λ (t : TableEntries). MayComeNext (events_in t.wagons w) e) (sym c.self.view_is)
-    (one_comes_next s m w e c.requires.acceptable c.requires.continues_journeys (sym c.named_alone.ensures ∙ c.in-Some-Some.is-0) given)
+    let e = c.in-Alone.event in
+    let of = subst (AreNextEvents s c.args.message.now) c.in-Alone.is c.requires.events in
+    let admitted = (next_admitted s c.args.message.now c.requires.acceptable _ of c.requires.differ).1 in
+    subst (λ (t : TableEntries). MayComeNext (events_in t.wagons e.wagon) e.event) (sym c.self.view_is) admitted.next
 
-pub returns-in_ok-add-in-Some-Some-clause-ok : goal.returns-in_ok-add-in-Some-Some-clause-ok
-returns-in_ok-add-in-Some-Some-clause-ok c =
+pub put_all-requires-clause-admitted : goal.put_all-requires-clause-admitted
+unfolding AreNextEvents
+put_all-requires-clause-admitted c =
+    let s = table_state c.args.self.now in
+    let of = subst (AreNextEvents s c.args.message.now) c.in-Each.is c.requires.events in
+    subst (λ (t : TableEntries). AreAdmitted (keys_of t.wagons) (events_in t.wagons) c.in-Each.events.items) (sym c.self.view_is)
+    (next_admitted s c.args.message.now c.requires.acceptable _ of.0 c.requires.differ)
+
+pub returns-in-Alone-clause-ok : goal.returns-in-Alone-clause-ok
+unfolding AreNextEvents
+returns-in-Alone-clause-ok c =
     let s = table_state c.args.self.now in
     let m = c.args.message.now in
-    let w = c.in-Some-Some.wagon in
-    let e = c.in-Some-Some.event in
-    let given = subst (λ (o : Option Event). IfSome o (λ x. event_alone s m ≡ Some x)) c.in-Some-Some.is-1 c.requires.event in
-    let put = c.in_ok-add-in-Some-Some.ensures in
+    let e = c.in-Alone.event in
+    let of = subst (AreNextEvents s m) c.in-Alone.is c.requires.events in
+    on_ok c.add.result
+    (λ put. record {
+      events = λ w. put w ∙ ap (λ (t : TableEntries). with_event_on (events_in t.wagons) e w) c.self.view_is ∙ next_after s m c.requires.acceptable (e ∷ []) of c.requires.differ w;
+      keys = c.add.ensures.keys ∙ ap (λ (t : TableEntries). keys_of t.wagons) c.self.view_is;
+      plans = ap (λ (t : TableEntries). t.plans) c.self.view_is;
+      units = ap (λ (t : TableEntries). t.units) c.self.view_is;
+    })
+    c.add.ensures.ok
+
+pub returns-in-Each-clause-ok : goal.returns-in-Each-clause-ok
+unfolding AreNextEvents
+returns-in-Each-clause-ok c =
+    let s = table_state c.args.self.now in
+    let m = c.args.message.now in
+    let es : List (EventAt Event) = c.in-Each.events.items in
+    let of = subst (AreNextEvents s m) c.in-Each.is c.requires.events in
     record {
-      events = λ v.
-          put.ok v ∙ ap (λ (t : TableEntries). with_event_on (events_in t.wagons) (w, e) v) c.self.view_is ∙
-          one_after s m w e c.requires.acceptable c.requires.continues_journeys (sym c.named_alone.ensures ∙ c.in-Some-Some.is-0) given v;
-      keys = put.keys ∙ ap (λ (t : TableEntries). keys_of t.wagons) c.self.view_is;
+      events = λ w. c.put_all.ensures.events w ∙ ap (λ (t : TableEntries). fold with_event_on (events_in t.wagons) es w) c.self.view_is ∙ next_after s m c.requires.acceptable es of.0 c.requires.differ w;
+      keys = c.put_all.ensures.keys ∙ ap (λ (t : TableEntries). keys_of t.wagons) c.self.view_is;
       plans = ap (λ (t : TableEntries). t.plans) c.self.view_is;
       units = ap (λ (t : TableEntries). t.units) c.self.view_is;
     }
+
+pub unreachable-requires : goal.unreachable-requires
+unfolding AreNextEvents
+unreachable-requires c = true≢false (sym c.requires.continues_journeys ∙ subst (AreNextEvents (table_state c.args.self.now) c.args.message.now) c.in-Planned.is c.requires.events)
