@@ -9,8 +9,8 @@
 //! *consistent*: the history is legal, and each part answers as the model does after it (`specs/States.antt`). No function
 //! looks through the history, so a call takes no longer when it is long.
 //!
-//! A message that is new is checked first. Where it names one wagon alone, the wagon's event is made once: the check judges
-//! it, the items are made of it, and the tables take it.
+//! A message that is new is checked first. Of each wagon whose journey goes on with it, the event is made once: the check asks
+//! about it, the items are made of it, and the tables take it.
 //!
 //! A message is taken in two steps. First comes all that may be refused memory: the items, their places in the outboxes,
 //! room in the history and among the names, and the tables' own step, which is all or nothing. Then come steps that

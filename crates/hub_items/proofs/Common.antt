@@ -49,5 +49,5 @@ pub use Rattle.hub_tables.specs.declared.next_events.EventAt.{EventAt}
 pub use Rattle.hub_tables.specs.declared.next_events.NextEvents.{NextEvents}
 pub use Rattle.hub_tables.proofs.AloneLemmas.{alone_named, alone_has, alone_continues, event_alone}
 pub use Rattle.hub_tables.proofs.NextEventLemmas.{has_at, known_begun, admitted_by, comes_last}
-pub use Rattle.hub_items.specs.MessageItems.{MayBeAccepted, all_items}
+pub use Rattle.hub_items.specs.MessageItems.{MayBeAccepted, estimates_at, alerts_at, all_items}
 pub use Rattle.hub_items.specs.Transitions.{IsNextBy, keeps_estimates, estimate_of}

@@ -1,13 +1,6 @@
 -- What is told are the notices, the estimates that are news and the alerts.
-use Rattle.hub_items.proofs.Common.{◌≡◌, ℕ, List, [], ◌∷◌, ◌++◌, Option, Some, None, refl, sym, ap, ◌∙◌, append_assoc, append-nil, map, flat_map, option_to_list, Railway, Message, Event, AddressedItem, HubState, named_wagons, journey_after, each_once, notice_receivers, sub_items, notices, estimate_items, alert_items, NextEvent, after, all_items, IsNextBy}
+use Rattle.hub_items.proofs.Common.{◌≡◌, ℕ, List, [], ◌∷◌, ◌++◌, Option, Some, None, refl, sym, ap, ◌∙◌, append_assoc, append-nil, map, flat_map, option_to_list, Railway, Message, Event, AddressedItem, HubState, named_wagons, journey_after, each_once, notice_receivers, sub_items, notices, estimate_items, alert_items, NextEvent, after, estimates_at, alerts_at, all_items, IsNextBy}
 use Rattle.taf_messages.specs.declared.item.ItemBody.TheVariants as item
-
--- of a wagon
-abbrev estimates_at : HubState → Message → ℕ → List AddressedItem
-estimates_at s m w = estimate_items (s.journey w) (journey_after s m w) w
-
-abbrev alerts_at : HubState → Message → ℕ → List AddressedItem
-alerts_at s m w = alert_items (s.journey w) (journey_after s m w) w
 
 -- three parts that are put one after another
 pub three_put : {X : Type 0} (start first second third one two : List X) → one ≡ start ++ first → two ≡ one ++ second → two ++ third ≡ start ++ (first ++ second ++ third)

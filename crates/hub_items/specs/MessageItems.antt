@@ -1,5 +1,5 @@
 -- All items of a message, before those for its sender are taken out.
-use Rattle.std.specs.Prelude.{Bool, true, false, List, ◌++◌, flat_map}
+use Rattle.std.specs.Prelude.{ℕ, Bool, true, false, List, ◌++◌, flat_map}
 use Rattle.taf_messages.specs.declared.message.Message.{Message}
 use Rattle.taf_messages.specs.declared.message.Body.{Body}
 use Rattle.taf_messages.specs.declared.message.Body.TheVariants as body
@@ -26,9 +26,13 @@ may_have_many_receivers (body.Answer a) = true
 may_have_many_receivers (body.Reroute w route) = true
 may_have_many_receivers _ = false
 
+-- the estimates of a wagon that are news with the message, and its alerts
+abbrev pub estimates_at : HubState → Message → ℕ → List AddressedItem
+estimates_at s m w = estimate_items (s.journey w) (journey_after s m w) w
+
+abbrev pub alerts_at : HubState → Message → ℕ → List AddressedItem
+alerts_at s m w = alert_items (s.journey w) (journey_after s m w) w
+
 -- the notices, the estimates that are news, and the alerts
 abbrev pub all_items : HubState → Message → List AddressedItem
-all_items s m =
-    notices s m ++
-    flat_map (λ w. estimate_items (s.journey w) (journey_after s m w) w) (named_wagons s.offer m) ++
-    flat_map (λ w. alert_items (s.journey w) (journey_after s m w) w) (named_wagons s.offer m)
+all_items s m = notices s m ++ flat_map (estimates_at s m) (named_wagons s.offer m) ++ flat_map (alerts_at s m) (named_wagons s.offer m)

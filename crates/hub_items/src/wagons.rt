@@ -4,10 +4,10 @@ ghost use Rattle.trip_plan.specs.Rules.{has};
 ghost use Rattle.taf_messages.specs.declared.message.Body.TheVariants as body;
 ghost use Rattle.journey.specs.Journey.{after};
 ghost use Rattle.eti_chain.specs.Estimates.{is_late};
-ghost use Rattle.hub_model.specs.HubState.{named_wagons, journey_after};
+ghost use Rattle.hub_model.specs.HubState.{named_wagons};
 ghost use Rattle.hub_model.specs.Items as of;
 ghost use Rattle.hub_tables.specs.TableStates.{IsEventOf, continues_journeys, table_state};
-ghost use Rattle.hub_items.specs.MessageItems.{MayBeAccepted};
+ghost use Rattle.hub_items.specs.MessageItems.{MayBeAccepted, alerts_at, estimates_at};
 
 use crate::acceptable::Acceptable;
 use crate::alerts::put_alerts;
@@ -28,16 +28,14 @@ pub(crate) fn put_of_wagons(
     from: Acceptable<'_>,
 ) -> Result<(), Memory>
     requires { MayBeAccepted from }
-    ensures estimates { let before = table_state from.entry.tables.now in
-        let next = journey_after before from.entry.message.now in
+    ensures estimates { let s = table_state from.entry.tables.now in
+        let m = from.entry.message.now in
         OnOk result (items.new.items ≡ items.old.items
-        ++ flat_map (λ w. of.estimate_items (before.journey w) (next w) w)
-        (named_wagons before.offer from.entry.message.now)) }
-    ensures alerts { let before = table_state from.entry.tables.now in
-        let next = journey_after before from.entry.message.now in
+        ++ flat_map (estimates_at s m) (named_wagons s.offer m)) }
+    ensures alerts { let s = table_state from.entry.tables.now in
+        let m = from.entry.message.now in
         OnOk result (alerts.new.items ≡ alerts.old.items
-        ++ flat_map (λ w. of.alert_items (before.journey w) (next w) w)
-        (named_wagons before.offer from.entry.message.now)) }
+        ++ flat_map (alerts_at s m) (named_wagons s.offer m)) }
 {
     match from.events {
         NextEvents::Planned => put_of_plan(alerts, from),
@@ -58,16 +56,14 @@ fn put_of_each(
 ) -> Result<(), Memory>
     requires acceptable { MayBeAccepted from }
     requires each { All (IsEventOf (table_state from.tables.now) from.message.now) events.now }
-    ensures estimates { let before = table_state from.entry.tables.now in
-        let next = journey_after before from.entry.message.now in
+    ensures estimates { let s = table_state from.entry.tables.now in
+        let m = from.entry.message.now in
         OnOk result (items.new.items ≡ items.old.items
-        ++ flat_map (λ e. of.estimate_items (before.journey e.wagon) (next e.wagon) e.wagon)
-        events.now) }
-    ensures alerts { let before = table_state from.entry.tables.now in
-        let next = journey_after before from.entry.message.now in
+        ++ flat_map (λ e. estimates_at s m e.wagon) events.now) }
+    ensures alerts { let s = table_state from.entry.tables.now in
+        let m = from.entry.message.now in
         OnOk result (alerts.new.items ≡ alerts.old.items
-        ++ flat_map (λ e. of.alert_items (before.journey e.wagon) (next e.wagon) e.wagon)
-        events.now) }
+        ++ flat_map (λ e. alerts_at s m e.wagon) events.now) }
 {
     for next in events {
         let event = WagonEvent::of(from, next.wagon, next.position, next.event.event());
@@ -99,11 +95,10 @@ fn put_of_event(
 // The alerts of the wagons that a message plans. It gives no estimate, and ends the alert of the journey before.
 fn put_of_plan(alerts: &mut Vec<AddressedItem>, from: Acceptable<'_>) -> Result<(), Memory>
     requires { continues_journeys from.message.now.body ≡ false }
-    ensures { let before = table_state from.entry.tables.now in
-        let next = journey_after before from.entry.message.now in
+    ensures { let s = table_state from.entry.tables.now in
+        let m = from.entry.message.now in
         OnOk result (alerts.new.items ≡ alerts.old.items
-        ++ flat_map (λ w. of.alert_items (before.journey w) (next w) w)
-        (named_wagons before.offer from.entry.message.now)) }
+        ++ flat_map (alerts_at s m) (named_wagons s.offer m)) }
 {
     let Body::Plan(plan) = from.message.body() else {
         unreachable!()
@@ -123,10 +118,8 @@ fn put_alert_end(
 ) -> Result<(), Memory>
     requires plan { from.message.now.body ≡ body.Plan plan.now }
     requires is_named { has plan.now.wagons wagon ≡ true }
-    ensures { let before = table_state from.entry.tables.now in
-        let next = journey_after before from.entry.message.now in
-        OnOk result (alerts.new.items ≡ alerts.old.items
-        ++ of.alert_items (before.journey wagon) (next wagon) wagon) }
+    ensures { OnOk result (alerts.new.items ≡ alerts.old.items
+        ++ alerts_at (table_state from.entry.tables.now) from.entry.message.now wagon) }
 {
     if is_late(from.tables, wagon) {
         alerts.push(AddressedItem {

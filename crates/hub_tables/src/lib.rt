@@ -6,10 +6,11 @@
 //! says, and [`Tables::event_for`] what a message says of one of its wagons.
 //!
 //! [`Tables::accept`] takes a message that may be accepted (`IsAcceptable`), and what is known then is what `after_acceptance` of
-//! `hub_model` says. It is given the event of a wagon that the message names alone (`event_alone`), which was made to judge the
-//! message, and makes those of several wagons. First comes all that may be refused memory: of several wagons each one's event in
-//! a node of its own, copies of a plan, room in each table. Then come steps that cannot fail, or the one step of a single wagon's
-//! journey, which changes nothing where it fails. So where it answers [`Memory`](taf_codes::Memory), all is as it was.
+//! `hub_model` says. It is given the events of the message's wagons ([`NextEvents`]), which were made to check the message, each with
+//! its wagon's position in the fleet, so that no wagon is looked up again. Those of a message that may name several wagons are in
+//! memory of their own. First comes all that may be refused memory: copies of a plan, room in each table. Then come steps that
+//! cannot fail, or the one step of a single wagon's journey, which changes nothing where it fails. So where it answers
+//! [`Memory`](taf_codes::Memory), all is as it was.
 #![tactic(auto)]
 
 mod accept;

@@ -1,9 +1,7 @@
-use Rattle.hub_items.proofs.Common.{◌∙◌, ◌++◌, List, ap, take_all, flat_map, journey_after, alert_items, table_state, Event, EventAt}
+use Rattle.hub_items.proofs.Common.{◌∙◌, ◌++◌, List, ap, take_all, flat_map, alerts_at, table_state, Event, EventAt}
 use Rattle.hub_items.proofs.wagons.put_of_each.Goals as goal
 
 pub returns-clause-alerts : goal.returns-clause-alerts
 returns-clause-alerts c =
-    let s = table_state c.args.from.tables.now in
-    let m = c.args.from.message.now in
-    c.loop-next.invariant.1 ∙
-    ap (λ (es : List (EventAt Event)). c.args.alerts.now.items ++ flat_map (λ e. alert_items (s.journey e.wagon) (journey_after s m e.wagon) e.wagon) es) (take_all c.loop-next.next-index c.args.events.now c.loop-next-test.false)
+    let alerts = alerts_at (table_state c.args.from.tables.now) c.args.from.message.now in
+    c.loop-next.invariant.1 ∙ ap (λ (es : List (EventAt Event)). c.args.alerts.now.items ++ flat_map (λ e. alerts e.wagon) es) (take_all c.loop-next.next-index c.args.events.now c.loop-next-test.false)
