@@ -52,8 +52,8 @@ pub use Rattle.hub_model.proofs.HistoryLemmas.{one_more_entry}
 pub use Rattle.hub_model.proofs.NoFaultLemmas.{GoesOn, no_known_fault, no_whole_fault, known_allowed, answer_fits, withdraw_fits, listed}
 pub use Rattle.hub_model.proofs.StepLemmas.{state_of-push}
 pub use Rattle.hub_tables.specs.TableStates.{continues_journeys, IsAcceptable, table_part, TableEntries, table_state, AreNextEvents}
-pub use Rattle.hub_checks.specs.Checked.{IsChecked}
-pub use Rattle.hub_checks.specs.declared.checked.Checked.{Checked}
+pub use Rattle.hub_tables.specs.Checked.{IsChecked}
+pub use Rattle.hub_tables.specs.declared.checked.Checked.{Checked}
 pub use Rattle.hub_core.specs.Apart.{are_apart}
 pub use Rattle.hub_core.specs.Delivery.{AreReady}
 pub use Rattle.hub_core.specs.States.{Represents, KeepsLimits, ack_outcome_reply, LeadsTo, OffersWereSent, entry_of}

@@ -6,3 +6,6 @@ pub mod FleetLemmas
 pub mod NewJourneyLemmas
 pub mod AcceptanceLemmas
 pub mod OfferLemmas
+pub mod CheckLemmas
+pub mod ContinuationLemmas
+pub mod UnitLoadLemmas

@@ -1,2 +1,3 @@
 pub mod TableStates
 pub mod Acceptance
+pub mod Checked

@@ -15,8 +15,7 @@ use taf_messages::{Message, MessageNumber};
 use trip_plan::Plan;
 use wagon_number::WagonNumber;
 
-/// What the hub looks up: wagons, plans and offers. All but [`Tables::named_wagons`], [`Tables::event_body`], [`Tables::event_for`] and
-/// [`Tables::accept`] takes no memory.
+/// What the hub looks up: wagons, plans and offers. All but [`Tables::accept`] take no memory.
 #[derive(Drop)]
 pub struct Tables {
     /// In the order of their first plans.
@@ -65,7 +64,7 @@ impl Tables {
     }
 
     /// The same wagon, with its position in the fleet.
-    pub fn find(&self, wagon: WagonNumber) -> Option<(usize, &Wagon)>
+    pub(crate) fn find(&self, wagon: WagonNumber) -> Option<(usize, &Wagon)>
         ensures position { IfSome result
             (λ p. slice_get (table_state self.now).fleet p.0 ≡ Some wagon) }
         ensures found { IfSome result (λ p. p.1.now

@@ -72,7 +72,7 @@ impl Wagon {
     }
 
     /// Whether the journey has room for one event more.
-    pub fn has_room(&self) -> bool
+    pub(crate) fn has_room(&self) -> bool
         ensures { result ≡ nat_lt (length self.now.events) (2 ^ 62) }
     {
         self.track.events().len() < MOST_EVENTS

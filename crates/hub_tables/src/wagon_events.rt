@@ -41,7 +41,7 @@ impl Tables {
     /// The wagons that a message names, in its order: those of an answer are the received and then the refused ones, and
     /// those of a withdrawal are the wagons of its offer. Only those of an answer take memory, and `Memory` where it is
     /// refused.
-    pub fn named_wagons<'a>(
+    pub(crate) fn named_wagons<'a>(
         &'a self,
         alloc: Global,
         message: &'a Message,
@@ -89,7 +89,11 @@ impl Tables {
 
     /// What a message, which is not refused as a whole, says of a wagon that it names. Plans and routes are shared, not
     /// copied. `Memory` where one is shared too often.
-    pub fn event_body(&self, message: &Message, wagon: WagonNumber) -> Result<EventBody, Memory>
+    pub(crate) fn event_body(
+        &self,
+        message: &Message,
+        wagon: WagonNumber,
+    ) -> Result<EventBody, Memory>
         requires { whole_fault (table_state self.now) message.now.by message.now.body ≡ None }
         ensures { IfOk result (λ says. says
             ≡ event_body_for (table_state self.now).offer message.now.by message.now.body wagon) }
@@ -119,7 +123,7 @@ impl Tables {
 
     /// The wagon's event of a message that names it, and is not refused as a whole: an event of its journey. `Memory` as in
     /// [`Tables::event_body`].
-    pub fn event_for(&self, message: &Message, wagon: WagonNumber) -> Result<Event, Memory>
+    pub(crate) fn event_for(&self, message: &Message, wagon: WagonNumber) -> Result<Event, Memory>
         requires { whole_fault (table_state self.now) message.now.by message.now.body ≡ None }
         ensures { IfOk result (λ e. e ≡ event_for (table_state self.now).offer message.now wagon) }
     {
@@ -159,7 +163,7 @@ impl Tables {
 }
 
 /// The wagon of a message that names one alone. None where the message may name several.
-pub fn named_alone(message: &Message) -> Option<WagonNumber>
+pub(crate) fn named_alone(message: &Message) -> Option<WagonNumber>
     ensures { result ≡ named_alone message.now.body }
 {
     match message.body() {

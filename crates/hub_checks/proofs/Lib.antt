@@ -1,4 +1,0 @@
-pub mod Common
-pub mod ContinuationLemmas
-pub mod UnitLoadLemmas
-pub mod CheckLemmas

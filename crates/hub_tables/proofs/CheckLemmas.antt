@@ -1,0 +1,69 @@
+-- What the checks of a message's wagons and units come to.
+use Rattle.hub_tables.proofs.Common.{◌≡◌, ℕ, Bool, true, false, cond, List, [], ◌∷◌, Option, Some, None, refl, sym, ap, ◌∙◌, true≢false, option_map, option_or, find, UnitLoad, Message, Body, Why, WagonBusy, Event, is_busy, Fault, HubState, named_wagons, units_in, whole_fault, wagon_fault, first_fault, unit_fault, fault, continues_journeys, named_alone, Trip, EventAt, ◌+◌, ◌<◌, ◌++◌, length, map, take, get_or, map-append, take_more, IsEventOf}
+use Rattle.hub_tables.proofs.AloneLemmas.{alone_named}
+use Rattle.taf_messages.specs.declared.message.Body.TheVariants as body
+
+-- the fault at a wagon
+abbrev pub at_wagon : ℕ → Why → Fault
+at_wagon w why = record { why = why; wagon = Some w }
+
+nothing_else : (o : Option Fault) → option_or o None ≡ o
+nothing_else None = refl
+nothing_else (Some f) = refl
+
+-- a message that begins no journey loads no intermodal unit
+no_units : (says : Body) → continues_journeys says ≡ true → units_in says ≡ []
+no_units (body.Plan p) h = absurd (true≢false (sym h))
+no_units _ h = refl
+
+module _ (s : HubState) (m : Message) (whole : whole_fault s m.by m.body ≡ None) where
+  part_fault : fault s m ≡ option_or (first_fault s m (named_wagons s.offer m)) (unit_fault s (units_in m.body))
+  part_fault = ap (λ (o : Option Why). option_or (option_map (λ (why : Why). let f : Fault = record { why = why; wagon = None } in f) o) (option_or (first_fault s m (named_wagons s.offer m)) (unit_fault s (units_in m.body)))) whole
+
+  -- of one that goes on with journeys, it is that of its wagons
+  pub each_fault : continues_journeys m.body ≡ true → fault s m ≡ first_fault s m (named_wagons s.offer m)
+  each_fault on =
+      part_fault ∙ ap (λ (us : List UnitLoad). option_or (first_fault s m (named_wagons s.offer m)) (unit_fault s us)) (no_units m.body on) ∙ nothing_else (first_fault s m (named_wagons s.offer m))
+
+  -- of one that names a wagon alone, it is that of the wagon
+  pub alone_fault : (w : ℕ) → continues_journeys m.body ≡ true → named_alone m.body ≡ Some w → fault s m ≡ option_map (at_wagon w) (wagon_fault s m m.body w)
+  alone_fault w on alone = each_fault on ∙ ap (first_fault s m) (alone_named s.offer m.by m.body w alone) ∙ nothing_else (option_map (at_wagon w) (wagon_fault s m m.body w))
+
+  module _ (p : Trip) (is : m.body ≡ body.Plan p) where
+    busy_by : (w : ℕ) (ws : List ℕ) (b : Bool) → is_busy (s.journey w) ≡ b → first_fault s m ws ≡ option_map (λ v. at_wagon v WagonBusy) (find (λ v. is_busy (s.journey v)) ws) →
+        option_or (option_map (at_wagon w) (cond b (Some WagonBusy) None)) (first_fault s m ws) ≡ option_map (λ v. at_wagon v WagonBusy) (cond b (Some w) (find (λ v. is_busy (s.journey v)) ws))
+    busy_by w ws true e h = refl
+    busy_by w ws false e h = h
+
+    first_busy : (ws : List ℕ) → first_fault s m ws ≡ option_map (λ w. at_wagon w WagonBusy) (find (λ w. is_busy (s.journey w)) ws)
+    first_busy [] = refl
+    first_busy (w ∷ ws) =
+        ap (λ (says : Body). option_or (option_map (at_wagon w) (wagon_fault s m says w)) (first_fault s m ws)) is ∙ busy_by w ws (is_busy (s.journey w)) refl (first_busy ws)
+
+    -- of a plan, it is that of the first wagon that is busy, or of the first unit
+    pub plan_fault : (found : Option ℕ) → found ≡ find (λ w. is_busy (s.journey w)) p.wagons → fault s m ≡ option_or (option_map (λ w. at_wagon w WagonBusy) found) (unit_fault s p.units)
+    plan_fault found f =
+        part_fault ∙ ap (λ (says : Body). option_or (first_fault s m (named_wagons s.offer (record m { body = says }))) (unit_fault s (units_in says))) is ∙
+        ap (λ (o : Option Fault). option_or o (unit_fault s p.units)) (first_busy p.wagons ∙ ap (option_map (λ w. at_wagon w WagonBusy)) (sym f))
+
+-- the first of a list that passes, by what its first item is
+pub found_first : (test : ℕ → Bool) (v w : ℕ) (ws : List ℕ) → w ≡ v → test w ≡ true → find test (v ∷ ws) ≡ Some w
+found_first test v w ws is passes = ap (λ u. find test (u ∷ ws)) (sym is) ∙ rw passes refl
+
+pub found_later : (test : ℕ → Bool) (v w : ℕ) (ws : List ℕ) → w ≡ v → test w ≡ false → find test (v ∷ ws) ≡ find test ws
+found_later test v w ws is fails = ap (λ u. find test (u ∷ ws)) (sym is) ∙ rw fails refl
+
+-- what is asked first gives nothing where both give nothing
+pub none_first : {A : Type 0} (first second : Option A) → option_or first second ≡ None → first ≡ None
+none_first None second h = refl
+none_first (Some x) second h = h
+
+-- the wagons of events, with one event more
+pub wagons_more : (es now : List (EventAt Event)) (e : EventAt Event) (ws : List ℕ) (i : ℕ) (w : ℕ) → now ≡ es ++ e ∷ [] → e.wagon ≡ w → map (λ x. x.wagon) es ≡ take i ws → i < length ws → w ≡ get_or ws i w → map (λ x. x.wagon) now ≡ take (i + 1) ws
+wagons_more es now e ws i w put is so_far within item =
+    ap (map (λ x. x.wagon)) put ∙ map-append (λ x. x.wagon) es (e ∷ []) ∙ ap (λ (us : List ℕ). us ++ e.wagon ∷ []) so_far ∙
+    ap (λ v. take i ws ++ v ∷ []) (is ∙ item) ∙ sym (take_more ws i w within)
+
+-- the same event in memory of its own
+pub prepared_is : (s : HubState) (m : Message) (e : EventAt Event) (prepared : Event) → prepared ≡ e.event → IsEventOf s m e → IsEventOf s m (record { wagon = e.wagon; position = e.position; event = prepared })
+prepared_is s m e prepared same of = record { is_named = of.is_named; position_is = of.position_is; event_is = same ∙ of.event_is; admitted = of.admitted; room = of.room }
