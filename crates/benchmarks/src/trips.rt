@@ -167,7 +167,7 @@ fn calls(alloc: Global, trip: u64) -> Result<Vec<Call>> {
 fn take(hub: &mut Hub, calls: Vec<Call>) -> Result<()> {
     for call in calls {
         let (_, reply) = hub.apply(call)?;
-        if matches!(&reply, Reply::Refused { .. }) {
+        if matches!(&reply, Reply::Refused(_)) {
             bail!("the sample is refused");
         }
     }

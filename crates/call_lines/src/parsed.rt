@@ -22,8 +22,8 @@ pub enum ParsedLine {
     Called(Call),
 }
 
-/// What the line says, which is given without its newline. The record is used again for line after line. The answer is [`Memory`] only where reading a call was
-/// refused some, so never for a line that is too long or blank.
+/// What the line says, which is given without its newline. The record is used again for line after line. The answer is [`Memory`]
+/// only where reading a call was refused some, so never for a line that is too long or blank.
 #[tactic(auto, unfolding(crate::specs::Lines::parsed_line))]
 pub fn parse_line<'a>(
     reader: &mut CallReader,

@@ -1,5 +1,5 @@
 //! What the values of fields are read as.
-ghost use Rattle.std.specs.Prelude.{◌≡◌, ◌≤◌, Option, length};
+ghost use Rattle.std.specs.Prelude.{◌≡◌, Option};
 ghost use Rattle.serde_json.specs.Data.{Data};
 ghost use Rattle.json_tokens.specs.JsonValues.{json_value_data, json_items_data};
 ghost use Rattle.call_reader.specs.Values as good;
@@ -10,7 +10,7 @@ use crate::unit_loads::UnitLoads;
 use json_tokens::{JsonItems, JsonValue};
 use std::alloc::{AllocError, AllocFailed, Global};
 use taf_codes::{ConsignmentId, Place, Railway, TrainId, UnitCode};
-use taf_messages::{Field, Listed, OfferedWagons, Wagons, Within};
+use taf_messages::{Field, Listed, OfferedWagons, Wagons, Within, Within32};
 use taf_moment::Moment;
 use trip_plan::{Leg, Load, UnitLoad};
 use wagon_number::WagonNumber;
@@ -53,6 +53,15 @@ impl<const LOW: u64, const HIGH: u64> FromJson for Within<LOW, HIGH> {
     fn of_value(_alloc: Global, value: &JsonValue<'_, '_>) -> Result<Self, DecodeError> {
         let number = value.as_u64().ok_or(DecodeError::Bad)?;
         Within::new(number).ok_or(DecodeError::Bad)
+    }
+}
+
+impl<const LOW: u32, const HIGH: u32> FromJson for Within32<LOW, HIGH> {
+    ghost good = { good.number LOW HIGH };
+
+    fn of_value(_alloc: Global, value: &JsonValue<'_, '_>) -> Result<Self, DecodeError> {
+        let number = value.as_u64().ok_or(DecodeError::Bad)?;
+        Within32::new(number).ok_or(DecodeError::Bad)
     }
 }
 

@@ -8,7 +8,7 @@ ghost use Rattle.hub_tables.specs.TableStates.{table_state};
 use hub_tables::{Tables, Wagon};
 use std::alloc::Global;
 use taf_codes::{Memory, Railway, UnitCode};
-use taf_messages::{Reply, Shared, Why};
+use taf_messages::{Refusal, Reply, Shared, Why};
 use wagon_number::WagonNumber;
 
 // How a question is refused: why, where there is no such wagon, and the wagon that each refusal names.
@@ -49,7 +49,7 @@ pub fn ask_unit(
             };
             record_reply(alloc, tables, by, wagon, refusals)
         }
-        None => Ok(refusal_reply(Why::UnknownUnit, None)),
+        None => refusal_reply(alloc, Why::UnknownUnit, None),
     }
 }
 
@@ -68,14 +68,14 @@ fn record_reply(
         IfOk result (λ r. r ≡ of.record_reply by events (record_of wagon events) unknown unseen) }
 {
     let Some(found) = tables.wagon(wagon) else {
-        return Ok(refusal_reply(refusals.unknown, refusals.wagon));
+        return refusal_reply(alloc, refusals.unknown, refusals.wagon);
     };
     if wimo::may_see(found.track(), by) {
         let shown = wimo::record_with(alloc, found.track(), &found.estimates())?;
         Ok(Reply::One(Shared::new(alloc, shown)?))
     } else {
         has_record(found);
-        Ok(refusal_reply(Why::NotYours, refusals.wagon))
+        refusal_reply(alloc, Why::NotYours, refusals.wagon)
     }
 }
 
@@ -88,13 +88,18 @@ fn has_record(wagon: &Wagon)
 }
 
 /// The refusal of a question.
-pub(crate) fn refusal_reply(why: Why, wagon: Option<WagonNumber>) -> Reply
-    ensures { result ≡ of.refusal_reply why wagon }
+pub(crate) fn refusal_reply(
+    alloc: Global,
+    why: Why,
+    wagon: Option<WagonNumber>,
+) -> Result<Reply, Memory>
+    ensures { IfOk result (λ r. r ≡ of.refusal_reply why wagon) }
 {
-    Reply::Refused {
+    let refusal = Refusal {
         no: None,
         why,
         wagon,
         last: None,
-    }
+    };
+    Ok(Reply::Refused(Shared::new(alloc, refusal)?))
 }

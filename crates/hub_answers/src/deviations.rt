@@ -28,13 +28,13 @@ pub fn deviation(
         IfOk result (λ r. r ≡ of.deviation_reply s by (s.plan_of consignment)) }
 {
     let Some(plan) = tables.plan(consignment) else {
-        return Ok(refusal_reply(Why::UnknownConsignment, None));
+        return refusal_reply(alloc, Why::UnknownConsignment, None);
     };
     if plan.lead() == by {
         let late = deviating_records(alloc, tables, plan)?;
         Ok(Reply::Many(Shared::new(alloc, Listed::from_vec(late))?))
     } else {
-        Ok(refusal_reply(Why::NotYours, None))
+        refusal_reply(alloc, Why::NotYours, None)
     }
 }
 

@@ -1,5 +1,5 @@
 -- What an acknowledgement changes.
-use Rattle.hub_core.proofs.Common.{◌≡◌, ℕ, ◌<◌, ◌≤◌, Bool, true, false, cond, length, List, [], ◌∷◌, ◌++◌, Option, Some, None, refl, ap, ◌∙◌, sym, subst, leb, inl, inr, Result, Ok, Err, IsOk, IfOk, IfErr, OnOk, OnErr, ◌↔◌, max, bytes_eq, le-ltb, lt-ltb, leb-true, leb-false, cases_Bool, false≢true, Railway, texts, Ack, Reply, Acknowledged, Refused, ItemBody, AckAhead, BoxState, OutboxState, outbox_state_of, last_of, acknowledged_up_to, Keeps, LastCounts, Acknowledges, Entry, HubState, after_call, with_acknowledgement, answer, state_of, Represents, ack_outcome_reply}
+use Rattle.hub_core.proofs.Common.{◌≡◌, ℕ, ◌<◌, ◌≤◌, Bool, true, false, cond, length, List, [], ◌∷◌, ◌++◌, Option, Some, None, refl, ap, ◌∙◌, sym, subst, leb, inl, inr, Result, Ok, Err, IsOk, IfOk, IfErr, OnOk, OnErr, ◌↔◌, max, bytes_eq, le-ltb, lt-ltb, leb-true, leb-false, cases_Bool, false≢true, Railway, texts, Ack, Reply, Acknowledged, refused, ItemBody, AckAhead, BoxState, OutboxState, outbox_state_of, last_of, acknowledged_up_to, Keeps, LastCounts, Acknowledges, Entry, HubState, after_call, with_acknowledgement, answer, state_of, Represents, ack_outcome_reply}
 use Rattle.taf_messages.specs.declared.reply.Why.TheVariants.{AckAhead as Ahead}
 use Rattle.hub_core.proofs.HistoryLemmas.{kept_more, kept_entered, leads_on}
 
@@ -30,11 +30,11 @@ module _ (count : LastCounts) (acks : Acknowledges) (history : List Entry) (by :
   ack_answer (Ok stands) when is ahead =
       let within : n ≤ length (s.outbox by) = subst (λ (k : ℕ). n ≤ k) counted (when.0 refl) in
       ap Acknowledged (is ∙ ap (λ (a : ℕ). max a n) (kept.boxes by).number) ∙
-      ap (λ (b : Bool). cond b (Refused None Ahead None (Some (length (s.outbox by)))) (Acknowledged (max (s.acknowledged by) n))) (sym (le-ltb (length (s.outbox by)) n within))
+      ap (λ (b : Bool). cond b (refused None Ahead None (Some (length (s.outbox by)))) (Acknowledged (max (s.acknowledged by) n))) (sym (le-ltb (length (s.outbox by)) n within))
   ack_answer (Err x) when is ahead =
       let past : length (s.outbox by) < n = subst (λ (k : ℕ). k < n) counted (is_past n (last_of (outbox_state_of old by)) when.1) in
-      ap (λ (k : ℕ). Refused None Ahead None (Some k)) (ahead ∙ counted) ∙
-      ap (λ (b : Bool). cond b (Refused None Ahead None (Some (length (s.outbox by)))) (Acknowledged (max (s.acknowledged by) n))) (sym (lt-ltb (length (s.outbox by)) n past))
+      ap (λ (k : ℕ). refused None Ahead None (Some k)) (ahead ∙ counted) ∙
+      ap (λ (b : Bool). cond b (refused None Ahead None (Some (length (s.outbox by)))) (Acknowledged (max (s.acknowledged by) n))) (sym (lt-ltb (length (s.outbox by)) n past))
 
   pub kept_ack : (o : Result ℕ AckAhead) → (IsOk o ↔ (n ≤ last_of (outbox_state_of old by))) → IfOk o (λ stands. stands ≡ max (outbox_state_of old by).acknowledged n) → IfErr o (λ x. x.last ≡ last_of (outbox_state_of old by)) →
       OnOk o ((r : Railway) → outbox_state_of new r ≡ cond (bytes_eq by r) (acknowledged_up_to (outbox_state_of old r) n) (outbox_state_of old r)) → OnErr o (new ≡ old) →

@@ -18,7 +18,8 @@ pub use Rattle.taf_messages.specs.declared.message.Body.{Body}
 pub use Rattle.taf_messages.specs.declared.message.Message.{Message}
 pub use Rattle.taf_messages.specs.declared.message.TrainAnswer.{TrainAnswer}
 pub use Rattle.taf_messages.specs.declared.reply.Reply.{Reply}
-pub use Rattle.taf_messages.specs.declared.reply.Reply.TheVariants.{Accepted, Acknowledged, Refused, Items}
+pub use Rattle.taf_messages.specs.declared.reply.Reply.TheVariants.{Accepted, Acknowledged, Items}
+pub use Rattle.taf_messages.specs.Refusals.{refused}
 pub use Rattle.taf_messages.specs.declared.reply.Why.{Why}
 pub use Rattle.taf_messages.specs.declared.reply.Why.TheVariants.{UnknownWagon}
 pub use Rattle.history_pages.specs.Paged.{Paged}

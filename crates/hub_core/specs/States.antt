@@ -6,7 +6,8 @@ use Rattle.taf_messages.specs.declared.call.Call.{Call}
 use Rattle.taf_messages.specs.declared.call.Call.TheVariants.{Send}
 use Rattle.taf_messages.specs.declared.message.Message.{Message}
 use Rattle.taf_messages.specs.declared.reply.Reply.{Reply}
-use Rattle.taf_messages.specs.declared.reply.Reply.TheVariants.{Acknowledged, Refused}
+use Rattle.taf_messages.specs.declared.reply.Reply.TheVariants.{Acknowledged}
+use Rattle.taf_messages.specs.Refusals.{refused}
 use Rattle.taf_messages.specs.declared.reply.Why.TheVariants as why
 use Rattle.outbox.specs.declared.fault.AckAhead.{AckAhead}
 use Rattle.outbox.specs.OutboxStates.{OutboxState, outbox_state_of}
@@ -73,4 +74,4 @@ pub record Applies (old new : State) (call : Call) (result : Result Reply Memory
 -- the reply to an acknowledgement that stands, or is ahead
 abbrev pub ack_outcome_reply : Result ℕ AckAhead → Reply
 ack_outcome_reply (Ok stands) = Acknowledged stands
-ack_outcome_reply (Err ahead) = Refused None why.AckAhead None (Some ahead.last)
+ack_outcome_reply (Err ahead) = refused None why.AckAhead None (Some ahead.last)

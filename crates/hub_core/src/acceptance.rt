@@ -9,7 +9,7 @@ ghost use Rattle.hub_core.specs.Delivery.{AreReady};
 
 use crate::delivery::{deliver, make_room_for};
 use crate::state::State;
-use crate::verdicts::{entry_of, verdict};
+use crate::verdicts::entry_of;
 use hub_items::put_items;
 use hub_model::items_and_events_are_bounded;
 use hub_tables::NextEvents;
@@ -63,6 +63,6 @@ pub(crate) fn accept(
     state.seen.note_reserved(by, no, position);
     state
         .history
-        .push_reserved(entry_of(message, verdict(no, None)));
-    Ok(verdict(no, None))
+        .push_reserved(entry_of(message, Reply::Accepted { no }));
+    Ok(Reply::Accepted { no })
 }

@@ -1,40 +1,47 @@
 //! Acknowledgements.
-ghost use Rattle.std.specs.Prelude.{◌≡◌};
+ghost use Rattle.std.specs.Prelude.{◌≡◌, Err, IfOk};
 ghost use Rattle.taf_messages.specs.declared.call.Call.TheVariants as call;
 ghost use Rattle.hub_core.specs.States.{Applies, MayTake, ack_outcome_reply};
 
-use crate::state::State;
+use crate::state::{State, append_entry};
 use hub_model::Entry;
 use outbox::{AckAhead, boxes_keep_the_lists};
+use std::alloc::Global;
 use taf_codes::{Memory, Railway};
-use taf_messages::{Call, ItemNumber, Reply, Why};
+use taf_messages::{Call, ItemNumber, Refusal, Reply, Shared, Why};
 
-// The reply to an acknowledgement that stands, or is ahead.
-fn reply_of(outcome: Result<u64, AckAhead>) -> Reply
-    ensures { result ≡ ack_outcome_reply outcome }
+// The reply to an acknowledgement that is ahead.
+fn refusal_of_ack(alloc: Global, ahead: AckAhead) -> Result<Reply, Memory>
+    ensures { IfOk result (λ r. r ≡ ack_outcome_reply (Err ahead)) }
 {
-    match outcome {
-        Ok(stands) => Reply::Acknowledged(stands),
-        Err(ahead) => Reply::Refused {
-            no: None,
-            why: Why::AckAhead,
-            wagon: None,
-            last: Some(ahead.last),
-        },
-    }
+    let refusal = Refusal {
+        no: None,
+        why: Why::AckAhead,
+        wagon: None,
+        last: Some(ahead.last),
+    };
+    Ok(Reply::Refused(Shared::new(alloc, refusal)?))
 }
 
 /// Takes an acknowledgement. The items up to its number are dropped.
-pub(crate) fn apply_ack(state: &mut State, by: Railway, item: ItemNumber) -> Result<Reply, Memory>
+pub(crate) fn apply_ack(
+    alloc: Global,
+    state: &mut State,
+    by: Railway,
+    item: ItemNumber,
+) -> Result<Reply, Memory>
     requires ready { MayTake state.old }
     ensures { Applies state.old state.new (call.Ack by item) result }
 {
     boxes_keep_the_lists();
     state.history.reserve()?;
-    let outcome = state.outboxes.ack(by, item.get());
-    state.history.push_reserved(Entry {
-        call: Call::Ack { by, item },
-        reply: reply_of(outcome),
-    });
-    Ok(reply_of(outcome))
+    let call = Call::Ack { by, item };
+    match state.outboxes.ack(by, item.get()) {
+        Ok(stands) => {
+            let reply = Reply::Acknowledged(stands);
+            state.history.push_reserved(Entry { call, reply });
+            Ok(Reply::Acknowledged(stands))
+        }
+        Err(ahead) => append_entry(state, call, refusal_of_ack(alloc, ahead)?),
+    }
 }

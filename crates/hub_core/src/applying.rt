@@ -16,7 +16,7 @@ pub(crate) fn apply_call(alloc: Global, state: &mut State, call: Call) -> Result
 {
     match call {
         Call::Send(message) => apply_send(alloc, state, message),
-        Call::Ack { by, item } => apply_ack(state, by, item),
+        Call::Ack { by, item } => apply_ack(alloc, state, by, item),
         Call::Ask { .. } | Call::AskUnit { .. } | Call::Deviation { .. } | Call::Fetch { .. } => {
             apply_question(alloc, state, call)
         }

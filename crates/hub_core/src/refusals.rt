@@ -6,14 +6,16 @@ ghost use Rattle.hub_tables.specs.TableStates.{table_state};
 ghost use Rattle.hub_core.specs.States.{Applies, IsNew, MayTake};
 
 use crate::state::State;
-use crate::verdicts::{entry_of, verdict};
+use crate::verdicts::{entry_of, refusal_of};
 use hub_model::Fault;
+use std::alloc::Global;
 use taf_codes::Memory;
 use taf_messages::{Message, Reply, Shared, copy_reply};
 
 /// Takes a new message that has a fault.
 #[inline(never)]
 pub(crate) fn refuse(
+    alloc: Global,
     state: &mut State,
     message: Shared<Message>,
     found: Fault,
@@ -26,7 +28,7 @@ pub(crate) fn refuse(
     let content = message.get().content();
     let by = content.by;
     let no = content.no;
-    let reply = verdict(no, Some(found));
+    let reply = refusal_of(alloc, no, found)?;
     let reply_copy = copy_reply(&reply)?;
     state.history.reserve()?;
     let position = state.history.len() as u64;

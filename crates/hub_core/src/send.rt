@@ -52,7 +52,7 @@ fn apply_new(alloc: Global, state: &mut State, message: Shared<Message>) -> Resu
     estimates_fit();
     offers_are_in_order();
     match check(alloc, &state.tables, message.get())? {
-        Checked::Refused(found) => refuse(state, message, found),
+        Checked::Refused(found) => refuse(alloc, state, message, found),
         Checked::Accepted(events) => accept(alloc, state, message, events),
     }
 }
@@ -70,7 +70,7 @@ pub(crate) fn apply_send(
     note_moment(sent);
     note_lists(sent);
     match state.seen.find_or_make_room(sent.by(), sent.no())? {
-        Some(position) => apply_repeat(state, position, message),
+        Some(position) => apply_repeat(alloc, state, position, message),
         None => apply_new(alloc, state, message),
     }
 }

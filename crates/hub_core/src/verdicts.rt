@@ -1,24 +1,24 @@
-//! Verdicts: the reply to a new message, and the entry of a send.
-ghost use Rattle.std.specs.Prelude.{◌≡◌};
+//! Verdicts: the reply to a new message that is refused, and the entry of a send.
+ghost use Rattle.std.specs.Prelude.{◌≡◌, IfOk, Some};
 ghost use Rattle.taf_messages.specs.declared.call.Call.TheVariants as call;
 ghost use Rattle.hub_model.specs.Replies.{verdict};
 
 use hub_model::{Entry, Fault};
-use taf_messages::{Call, Message, MessageNumber, Reply, Shared};
+use std::alloc::Global;
+use taf_codes::Memory;
+use taf_messages::{Call, Message, MessageNumber, Refusal, Reply, Shared};
 
-/// The reply to a new message.
-pub(crate) fn verdict(no: MessageNumber, fault: Option<Fault>) -> Reply
-    ensures { result ≡ verdict no fault }
+/// The reply to a new message that has a fault.
+pub(crate) fn refusal_of(alloc: Global, no: MessageNumber, fault: Fault) -> Result<Reply, Memory>
+    ensures { IfOk result (λ r. r ≡ verdict no (Some fault)) }
 {
-    match fault {
-        None => Reply::Accepted { no },
-        Some(fault) => Reply::Refused {
-            no: Some(no),
-            why: fault.why,
-            wagon: fault.wagon,
-            last: None,
-        },
-    }
+    let refusal = Refusal {
+        no: Some(no),
+        why: fault.why,
+        wagon: fault.wagon,
+        last: None,
+    };
+    Ok(Reply::Refused(Shared::new(alloc, refusal)?))
 }
 
 /// The entry of a send.

@@ -1,5 +1,5 @@
 //! The items of an accepted message.
-ghost use Rattle.std.specs.Prelude.{◌≡◌, ◌++◌, OnOk, true, false, not, filter, map, option_to_list, bytes_eq};
+ghost use Rattle.std.specs.Prelude.{◌≡◌, ◌++◌, OnOk, false, not, filter, map, option_to_list, bytes_eq};
 ghost use Rattle.taf_messages.specs.declared.message.Body.TheVariants as body;
 ghost use Rattle.hub_model.specs.Items as of;
 ghost use Rattle.hub_tables.specs.TableStates.{AreNextEvents, IsAcceptable, table_state};

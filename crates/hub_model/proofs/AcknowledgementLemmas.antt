@@ -1,6 +1,6 @@
 -- What a railway acknowledged is in its outbox.
 use native.Mathlib.Omega.{arith}
-use Rattle.hub_model.proofs.Common.{◌≡◌, ℕ, ◌≤◌, Bool, true, false, cond, List, [], ◌∷◌, length, Some, None, refl, sym, subst, map, max, nat_lt, bytes_eq, fold, ltb-false, length-append, bytes_eq-Decides, Railway, Call, Send, Ask, AskUnit, Deviation, Fetch, Ack, Refused, Acknowledged, AckAhead, HubState, new_state, after_call, step, AcknowledgedAreThere}
+use Rattle.hub_model.proofs.Common.{◌≡◌, ℕ, ◌≤◌, Bool, true, false, cond, List, [], ◌∷◌, length, Some, None, refl, sym, subst, map, max, nat_lt, bytes_eq, fold, ltb-false, length-append, bytes_eq-Decides, Railway, Call, Send, Ask, AskUnit, Deviation, Fetch, Ack, refused, Acknowledged, AckAhead, HubState, new_state, after_call, step, AcknowledgedAreThere}
 use Rattle.hub_model.proofs.HistoryLemmas.{known_by_the_calls}
 use Rattle.hub_model.proofs.StepLemmas.{added, step-outbox, step-acknowledged}
 
@@ -8,8 +8,8 @@ abbrev AreThere : HubState → Type 0
 AreThere s = (r : Railway) → s.acknowledged r ≤ length (s.outbox r)
 
 acked_there : (s : HubState) (there : AreThere s) (by r : Railway) (n : ℕ) (ahead same : Bool) → ahead ≡ nat_lt (length (s.outbox by)) n → same ≡ bytes_eq by r →
-    (after_call s (Ack by n) (cond ahead (Refused None AckAhead None (Some (length (s.outbox by)))) (Acknowledged (max (s.acknowledged by) n)))).acknowledged r ≤
-    length ((after_call s (Ack by n) (cond ahead (Refused None AckAhead None (Some (length (s.outbox by)))) (Acknowledged (max (s.acknowledged by) n)))).outbox r)
+    (after_call s (Ack by n) (cond ahead (refused None AckAhead None (Some (length (s.outbox by)))) (Acknowledged (max (s.acknowledged by) n)))).acknowledged r ≤
+    length ((after_call s (Ack by n) (cond ahead (refused None AckAhead None (Some (length (s.outbox by)))) (Acknowledged (max (s.acknowledged by) n)))).outbox r)
 acked_there s there by r n true same a e = there r
 acked_there s there by r n false true a e =
     let one = (bytes_eq-Decides by r).0 (sym e) in

@@ -65,7 +65,7 @@ alike_acked s t a by k (Acknowledged n) = record {
   outbox = a.outbox;
 }
 alike_acked s t a by k (Accepted n) = a
-alike_acked s t a by k (Refused n why w last) = a
+alike_acked s t a by k (Refused r) = a
 alike_acked s t a by k (One r) = a
 alike_acked s t a by k (Many rs) = a
 alike_acked s t a by k (Items is) = a

@@ -37,7 +37,7 @@ pub use Rattle.wimo.specs.Records.{record_in}
 pub use Rattle.hub_model.specs.AcceptedMessages.{accepts, accepted_in, offers_in, is_open_in, events_from, accepted_message, accepted_from, items_from, LookupsAreTheLists, makes_offer, closes_offer, is_offer_made, is_offer_closed, send_of_name, event_if_named, entries_from, acknowledged_by, acknowledged_from, greatest}
 pub use Rattle.hub_model.specs.Bounds.{AcknowledgedAreThere, JourneysAreBounded, HasFewLegs, HasFewWagons, IsWithinLimits, AreWithinLimits, ItemsAreFew, OutboxesAreBounded, IsOnLeg, AlwaysOnLeg, StandsAt, FirstSendsStand}
 pub use Rattle.hub_model.specs.Changes.{is_change, AreUnchanged, OthersChangeNothing, TakenOnce, AnsweredAsAtFirst, JudgedByTheAccepted}
-pub use Rattle.hub_model.specs.Common.{Railway, Call, Send, Ask, AskUnit, Deviation, Fetch, Ack, Refused, Acknowledged, Accepted, One, Many, Items, AckAhead, BeyondCalendar, WagonBusy, NumberReused, UnknownWagon, UnknownUnit, UnknownConsignment, NotYours, UnknownOffer, ConsignmentTaken, UnitCode, Message, Reply, is_delivered, leg_index, is_delivery, is_plan, responsible, stage, plan, is_departure, is_on_its_way, UnitLoad, has, loads, Body, wagons_of, asked_by, matches, same_name, Trip, Event, Planned, Rerouted, Moved, EstimateAsked, LegTimed, Offered, Answered, Withdrawn, fits, is_calendar_checked, estimate, estimates, late_by, legs, lead_of, current_leg, runner_of, moment_in, TrainAnswer, ConsignmentId, Leg, MovementKind, Release, Estimate, Record, newest, from_last, oldest, EstimateAt, ItemBody, Offer, refusal, EventBody, last_minute, is_text, first_of, Why, same_message, record_of, may_see, is_ahead}
+pub use Rattle.hub_model.specs.Common.{Railway, Call, Send, Ask, AskUnit, Deviation, Fetch, Ack, Refused, refused, Acknowledged, Accepted, One, Many, Items, AckAhead, BeyondCalendar, WagonBusy, NumberReused, UnknownWagon, UnknownUnit, UnknownConsignment, NotYours, UnknownOffer, ConsignmentTaken, UnitCode, Message, Reply, is_delivered, leg_index, is_delivery, is_plan, responsible, stage, plan, is_departure, is_on_its_way, UnitLoad, has, loads, Body, wagons_of, asked_by, matches, same_name, Trip, Event, Planned, Rerouted, Moved, EstimateAsked, LegTimed, Offered, Answered, Withdrawn, fits, is_calendar_checked, estimate, estimates, late_by, legs, lead_of, current_leg, runner_of, moment_in, TrainAnswer, ConsignmentId, Leg, MovementKind, Release, Estimate, Record, newest, from_last, oldest, EstimateAt, ItemBody, Offer, refusal, EventBody, last_minute, is_text, first_of, Why, same_message, record_of, may_see, is_ahead}
 pub use Rattle.hub_model.specs.Consent.{IsAcceptedSend, delivers, ReceivesFrom, IsByConsent, CallsByConsent, EntriesByConsent}
 pub use Rattle.hub_model.specs.Faults.{fault, calendar_fault, whole_checks, whole_fault, wagon_fault, known_fault, is_busy, first_fault, unit_fault, is_unknown}
 pub use Rattle.hub_model.specs.Histories.{step, state_after, answer, state_of, run, IsLegalFrom, replies_from, IsLegal}

@@ -1,5 +1,5 @@
 -- Worked histories, computed.
-use Rattle.hub_model.proofs.Common.{◌≡◌, List, [], ◌∷◌, ◌++◌, length, Some, None, codes, refl, Call, Ack, Accepted, Refused, Release, Departure, YardArrival, Exception, Estimate, responsible, eta, reply_to, run, state_after}
+use Rattle.hub_model.proofs.Common.{◌≡◌, List, [], ◌∷◌, ◌++◌, length, Some, None, codes, refl, Call, Ack, Accepted, refused, Release, Departure, YardArrival, Exception, Estimate, responsible, eta, reply_to, run, state_after}
 use Rattle.taf_messages.specs.declared.reply.Why.TheVariants as why
 use Rattle.taf_messages.specs.declared.item.ItemBody.TheVariants as item
 use Rattle.taf_messages.specs.declared.message.Body.TheVariants as body
@@ -17,7 +17,7 @@ departed_next = refl
 repeats_replies : run (
     send r100 1 (body.Plan trip) ∷ send r101 1 (moved w1 360 Departure) ∷ send r100 2 (moved w1 330 Release) ∷
     send r101 1 (moved w1 360 Departure) ∷ send r101 2 (moved w1 360 Departure) ∷ [])
-    ≡ Accepted 1 ∷ Refused (Some 1) why.WrongStage (Some w1) None ∷ Accepted 2 ∷ Refused (Some 1) why.WrongStage (Some w1) None ∷ Accepted 2 ∷ []
+    ≡ Accepted 1 ∷ refused (Some 1) why.WrongStage (Some w1) None ∷ Accepted 2 ∷ refused (Some 1) why.WrongStage (Some w1) None ∷ Accepted 2 ∷ []
 repeats_replies = refl
 
 abbrev exception : Call
@@ -34,13 +34,13 @@ delayed_lead : (state_after delayed).outbox r100 ≡
     item.Notice (record { by = r101; no = 2; body = moved w1 420 (Exception 45) }) ∷ item.Eta w1 945 ∷ item.AlertBegins w1 15 ∷ []
 delayed_lead = refl
 
-reuse_reuse : reply_to (state_after delayed) (send r101 2 (moved w1 420 (Exception 46))) ≡ Refused (Some 2) why.NumberReused None None
+reuse_reuse : reply_to (state_after delayed) (send r101 2 (moved w1 420 (Exception 46))) ≡ refused (Some 2) why.NumberReused None None
 reuse_reuse = refl
 
-reuse_kind : reply_to (state_after delayed) (send r101 1 (moved w1 360 Estimate)) ≡ Refused (Some 1) why.NumberReused None None
+reuse_kind : reply_to (state_after delayed) (send r101 1 (moved w1 360 Estimate)) ≡ refused (Some 1) why.NumberReused None None
 reuse_kind = refl
 
-items_ahead : reply_to (state_after delayed) (Ack r100 99) ≡ Refused None why.AckAhead None (Some 5)
+items_ahead : reply_to (state_after delayed) (Ack r100 99) ≡ refused None why.AckAhead None (Some 5)
 items_ahead = refl
 
 abbrev pub unready : List Call
@@ -56,7 +56,7 @@ answered = offered ++
     send r102 1 (body.Answer (record { at = 670; offerer = r101; offer = 6; received = w1 ∷ []; refused = w2 ∷ []; manager = Some (codes "I300") })) ∷ []
 
 answered_replies : run answered ≡ Accepted 1 ∷ Accepted 2 ∷ Accepted 1 ∷ Accepted 2 ∷ Accepted 3 ∷ Accepted 3 ∷
-    Refused (Some 4) why.WrongStage (Some w2) None ∷ Accepted 5 ∷ Accepted 6 ∷ Accepted 1 ∷ []
+    refused (Some 4) why.WrongStage (Some w2) None ∷ Accepted 5 ∷ Accepted 6 ∷ Accepted 1 ∷ []
 answered_replies = refl
 
 answered_received : responsible ((state_after answered).journey w1) ≡ Some r102
@@ -84,5 +84,5 @@ reported_lead : (state_after reported).outbox r100 ≡ (state_after delayed).out
     item.Eta w1 910 ∷ item.AlertEnds w1 ∷ item.Notice (record { by = r101; no = 4; body = moved w1 660 (Exception 5) }) ∷ item.Eta w1 915 ∷ []
 reported_lead = refl
 
-delivered_again : reply_to (state_after answered) (send r100 4 (body.Plan trip)) ≡ Refused (Some 4) why.ConsignmentTaken None None
+delivered_again : reply_to (state_after answered) (send r100 4 (body.Plan trip)) ≡ refused (Some 4) why.ConsignmentTaken None None
 delivered_again = refl

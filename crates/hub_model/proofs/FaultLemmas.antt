@@ -1,5 +1,5 @@
 -- What a call changes, and what it goes by.
-use Rattle.hub_model.proofs.Common.{◌≡◌, ℕ, false, cond, not, subst, List, Option, Some, None, refl, ap, ◌∙◌, sym, option_map_or, option_and_then, true≢false, Railway, UnitCode, Call, Send, Ask, AskUnit, Deviation, Fetch, Ack, Reply, Accepted, Refused, One, Many, Items, Acknowledged, NumberReused, Message, newest, from_last, is_plan, is_delivered, Fault, HubState, FirstSend, wagon_by, loaded_on, is_unit_busy, fault, reply_to, send_reply, verdict, after_call, plan_given, unit_plan_given, state_after, accepted_in, offers_in, is_open_in, events_from, is_change, AreUnchanged, OthersChangeNothing, TakenOnce, AnsweredAsAtFirst, JudgedByTheAccepted}
+use Rattle.hub_model.proofs.Common.{◌≡◌, ℕ, false, cond, not, subst, List, Option, Some, None, refl, ap, ◌∙◌, sym, option_map_or, option_and_then, true≢false, Railway, UnitCode, Call, Send, Ask, AskUnit, Deviation, Fetch, Ack, Reply, Accepted, Refused, refused, One, Many, Items, Acknowledged, NumberReused, Message, newest, from_last, is_plan, is_delivered, Fault, HubState, FirstSend, wagon_by, loaded_on, is_unit_busy, fault, reply_to, send_reply, verdict, after_call, plan_given, unit_plan_given, state_after, accepted_in, offers_in, is_open_in, events_from, is_change, AreUnchanged, OthersChangeNothing, TakenOnce, AnsweredAsAtFirst, JudgedByTheAccepted}
 use Rattle.hub_model.proofs.StepLemmas.{sent, step-send}
 use Rattle.hub_model.proofs.DependencyLemmas.{AreSameAt, reads_alike, fault-same, items_of-same}
 use Rattle.hub_model.proofs.LookupLemmas.{lookups_are_the_lists}
@@ -34,7 +34,7 @@ unchanged_sent s m None None h e = absurd (true≢false (ap (λ g. is_change (ve
 unchanged_ack : (s : HubState) (by : Railway) (k : ℕ) (reply : Reply) → is_change reply ≡ false → AreUnchanged s (after_call s (Ack by k) reply)
 unchanged_ack s by k (Acknowledged n) h = absurd (true≢false h)
 unchanged_ack s by k (Accepted n) h = same s
-unchanged_ack s by k (Refused n why w last) h = same s
+unchanged_ack s by k (Refused r) h = same s
 unchanged_ack s by k (One r) h = same s
 unchanged_ack s by k (Many rs) h = same s
 unchanged_ack s by k (Items is) h = same s
@@ -51,7 +51,7 @@ pub taken_once : TakenOnce
 taken_once s m first h = step-send s m ∙ ap (λ o. sent s m o (fault s m)) h
 
 pub answered_as_at_first : AnsweredAsAtFirst
-answered_as_at_first s m first h same = ap (send_reply s m) h ∙ ap (λ b. cond b first.reply (Refused (Some m.no) NumberReused None None)) same
+answered_as_at_first s m first h same = ap (send_reply s m) h ∙ ap (λ b. cond b first.reply (refused (Some m.no) NumberReused None None)) same
 
 -- lists with the same accepted messages look the same up
 same_unit : (s t : HubState) (u : UnitCode) → s.journey ≡ t.journey → s.unit_plan u ≡ t.unit_plan u → is_unit_busy s u ≡ is_unit_busy t u

@@ -1,5 +1,5 @@
 -- A worked journey of an empty wagon over one leg, computed to its delivery.
-use Rattle.hub_model.proofs.Common.{◌≡◌, ℕ, List, [], ◌∷◌, map, Some, None, false, codes, refl, Empty, Trip, Call, Ask, Accepted, Refused, Release, Departure, YardArrival, YardDeparture, Exception, Arrival, Delivery, reply_to, run, state_after, accepted_in, last_receiver}
+use Rattle.hub_model.proofs.Common.{◌≡◌, ℕ, List, [], ◌∷◌, map, Some, None, false, codes, refl, Empty, Trip, Call, Ask, Accepted, refused, Release, Departure, YardArrival, YardDeparture, Exception, Arrival, Delivery, reply_to, run, state_after, accepted_in, last_receiver}
 use Rattle.taf_messages.specs.declared.reply.Reply.TheVariants as reply_is
 use Rattle.taf_messages.specs.declared.reply.Why.TheVariants as why
 use Rattle.taf_messages.specs.declared.event.RecordEventKind.TheVariants as shown_as
@@ -41,8 +41,8 @@ whole =
     send r201 7 (moved w2 680 Delivery) ∷
     send r201 8 (moved w2 680 Delivery) ∷ []
 
-whole_replies : run whole ≡ Accepted 1 ∷ Accepted 2 ∷ Accepted 1 ∷ Accepted 2 ∷ Refused (Some 3) why.WrongPlace (Some w2) None ∷
-    Accepted 4 ∷ Accepted 5 ∷ Accepted 6 ∷ Accepted 7 ∷ Refused (Some 8) why.WrongStage (Some w2) None ∷ []
+whole_replies : run whole ≡ Accepted 1 ∷ Accepted 2 ∷ Accepted 1 ∷ Accepted 2 ∷ refused (Some 3) why.WrongPlace (Some w2) None ∷
+    Accepted 4 ∷ Accepted 5 ∷ Accepted 6 ∷ Accepted 7 ∷ refused (Some 8) why.WrongStage (Some w2) None ∷ []
 whole_replies = refl
 
 whole_record : reply_to (state_after whole) (Ask r200 w2) ≡ reply_is.One (record {
@@ -81,5 +81,5 @@ whole_receiver : last_receiver (accepted_in whole) w2 ≡ Some r201
 whole_receiver = refl
 
 -- an arrival belongs to the last leg
-early_arrival : reply_to (state_after departed) (send r101 2 (moved w1 600 Arrival)) ≡ Refused (Some 2) why.NotLastLeg (Some w1) None
+early_arrival : reply_to (state_after departed) (send r101 2 (moved w1 600 Arrival)) ≡ refused (Some 2) why.NotLastLeg (Some w1) None
 early_arrival = refl

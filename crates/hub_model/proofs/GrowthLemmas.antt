@@ -1,6 +1,6 @@
 -- What each accepted message makes larger by so much at most is bounded by the length of the history.
 use native.Mathlib.Omega.{arith}
-use Rattle.hub_model.proofs.Common.{◌≡◌, ℕ, ◌+◌, ◌*◌, ◌≤◌, cond, suc, List, [], ◌∷◌, ◌++◌, length, mul-suc, Option, Some, None, refl, true, false, Bool, is_some, fold, length-append, cond_both, has, Event, is_plan, Railway, Call, Send, Ask, AskUnit, Deviation, Fetch, Ack, Reply, Accepted, Refused, One, Many, Items, Acknowledged, Message, Entry, Fault, HubState, FirstSend, new_state, named_wagons, event_for, with_event, journey_after, fault, reply_to, send_reply, verdict, after_acceptance, with_first_send, with_acknowledgement, after_new, after_call, after, is_accepted, IsLegalFrom, IsSend, EachSend, JourneysAreBounded}
+use Rattle.hub_model.proofs.Common.{◌≡◌, ℕ, ◌+◌, ◌*◌, ◌≤◌, cond, suc, List, [], ◌∷◌, ◌++◌, length, mul-suc, Option, Some, None, refl, true, false, Bool, is_some, fold, length-append, cond_both, has, Event, is_plan, Railway, Call, Send, Ask, AskUnit, Deviation, Fetch, Ack, Reply, Accepted, Refused, refused, One, Many, Items, Acknowledged, Message, Entry, Fault, HubState, FirstSend, new_state, named_wagons, event_for, with_event, journey_after, fault, reply_to, send_reply, verdict, after_acceptance, with_first_send, with_acknowledgement, after_new, after_call, after, is_accepted, IsLegalFrom, IsSend, EachSend, JourneysAreBounded}
 use Rattle.hub_model.proofs.JourneyLengthLemmas.{IsTrackState, kept_after}
 
 one_more : (a b c k n : ℕ) → a ≤ b + k → c ≤ a + k * n → c ≤ b + k * suc n
@@ -13,7 +13,7 @@ module _ (D : Message → Type 0) (P : HubState → Type 0) (kept : IsTrackState
     (acks : (s : HubState) (by : Railway) (n : ℕ) → size (with_acknowledgement s by n) ≡ size s) where
   grown_new : (s : HubState) (m : Message) (f : Option Fault) → D m → fault s m ≡ f → P s → size (after_new s m (verdict m.no f)) ≤ size s + k
   grown_new s m None d e p = rw (notes (after_acceptance s m) m (Accepted m.no)) (accepts s m d e p)
-  grown_new s m (Some f) d e p = rw (notes s m (Refused (Some m.no) f.why f.wagon None)) (omega arith)
+  grown_new s m (Some f) d e p = rw (notes s m (refused (Some m.no) f.why f.wagon None)) (omega arith)
 
   grown_send : (s : HubState) (m : Message) (reply : Reply) (first : Option FirstSend) → D m → reply ≡ send_reply s m first → P s → size (cond (is_some first) s (after_new s m reply)) ≤ size s + k
   grown_send s m reply (Some first) d e p = omega arith
@@ -23,7 +23,7 @@ module _ (D : Message → Type 0) (P : HubState → Type 0) (kept : IsTrackState
   grown_after s (Send m) reply d e p = grown_send s m reply (s.first_send m.by m.no) d e p
   grown_after s (Ack by i) (Acknowledged n) d e p = rw (acks s by n) (omega arith)
   grown_after s (Ack by i) (Accepted n) d e p = omega arith
-  grown_after s (Ack by i) (Refused n why w last) d e p = omega arith
+  grown_after s (Ack by i) (Refused r) d e p = omega arith
   grown_after s (Ack by i) (One r) d e p = omega arith
   grown_after s (Ack by i) (Many rs) d e p = omega arith
   grown_after s (Ack by i) (Items is) d e p = omega arith

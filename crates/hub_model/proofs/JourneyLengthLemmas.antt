@@ -1,5 +1,5 @@
 -- What every accepted message keeps holds after every legal history.
-use Rattle.hub_model.proofs.Common.{◌≡◌, ℕ, cond, List, [], ◌∷◌, Option, Some, None, refl, is_some, fold, Railway, Call, Send, Ask, AskUnit, Deviation, Fetch, Ack, Reply, Accepted, Refused, One, Many, Items, Acknowledged, Message, Entry, HubState, FirstSend, Fault, fault, reply_to, send_reply, verdict, after_acceptance, with_first_send, with_acknowledgement, after_new, after_call, after, IsLegalFrom, IsSend, EachSend}
+use Rattle.hub_model.proofs.Common.{◌≡◌, ℕ, cond, List, [], ◌∷◌, Option, Some, None, refl, is_some, fold, Railway, Call, Send, Ask, AskUnit, Deviation, Fetch, Ack, Reply, Accepted, Refused, refused, One, Many, Items, Acknowledged, Message, Entry, HubState, FirstSend, Fault, fault, reply_to, send_reply, verdict, after_acceptance, with_first_send, with_acknowledgement, after_new, after_call, after, IsLegalFrom, IsSend, EachSend}
 
 -- a property that each accepted message of this sort keeps, and that speaks of neither sends nor acknowledgements
 pub record IsTrackState (D : Message → Type 0) (P : HubState → Type 0) : Type 0 where
@@ -10,7 +10,7 @@ pub record IsTrackState (D : Message → Type 0) (P : HubState → Type 0) : Typ
 module _ (D : Message → Type 0) (P : HubState → Type 0) (kept : IsTrackState D P) where
   kept_new : (s : HubState) (m : Message) (f : Option Fault) → D m → fault s m ≡ f → P s → P (after_new s m (verdict m.no f))
   kept_new s m None d e p = kept.notes (after_acceptance s m) m (Accepted m.no) (kept.accepts s m d e p)
-  kept_new s m (Some f) d e p = kept.notes s m (Refused (Some m.no) f.why f.wagon None) p
+  kept_new s m (Some f) d e p = kept.notes s m (refused (Some m.no) f.why f.wagon None) p
 
   kept_send : (s : HubState) (m : Message) (reply : Reply) (first : Option FirstSend) → D m → reply ≡ send_reply s m first → P s → P (cond (is_some first) s (after_new s m reply))
   kept_send s m reply (Some first) d e p = p
@@ -20,7 +20,7 @@ module _ (D : Message → Type 0) (P : HubState → Type 0) (kept : IsTrackState
   kept_after s (Send m) reply d e p = kept_send s m reply (s.first_send m.by m.no) d e p
   kept_after s (Ack by k) (Acknowledged n) d e p = kept.acks s by n p
   kept_after s (Ack by k) (Accepted n) d e p = p
-  kept_after s (Ack by k) (Refused n why w last) d e p = p
+  kept_after s (Ack by k) (Refused r) d e p = p
   kept_after s (Ack by k) (One r) d e p = p
   kept_after s (Ack by k) (Many rs) d e p = p
   kept_after s (Ack by k) (Items is) d e p = p

@@ -1,5 +1,5 @@
 -- Worked histories, computed: lists, items, late reports and the end of a journey.
-use Rattle.hub_model.proofs.Common.{◌≡◌, List, [], ◌∷◌, ◌++◌, map, length, Some, None, true, false, codes, refl, last_minute, Loaded, Call, Ask, Deviation, Fetch, Ack, Accepted, Refused, Acknowledged, Release, Departure, YardDeparture, Exception, Estimate, Arrival, Delivery, stage, responsible, place, eta, reply_to, view, run, state_after, is_apart}
+use Rattle.hub_model.proofs.Common.{◌≡◌, List, [], ◌∷◌, ◌++◌, map, length, Some, None, true, false, codes, refl, last_minute, Loaded, Call, Ask, Deviation, Fetch, Ack, Accepted, refused, Acknowledged, Release, Departure, YardDeparture, Exception, Estimate, Arrival, Delivery, stage, responsible, place, eta, reply_to, view, run, state_after, is_apart}
 use Rattle.taf_messages.specs.declared.reply.Reply.TheVariants as reply_is
 use Rattle.taf_messages.specs.declared.reply.Why.TheVariants as why
 use Rattle.taf_messages.specs.declared.event.RecordEventKind.TheVariants as shown_as
@@ -23,8 +23,8 @@ lists_replies : run (offered ++
     send r102 1 (body.Answer (record { at = 670; offerer = r101; offer = 6; received = w1 ∷ w2 ∷ []; refused = w2 ∷ []; manager = None })) ∷
     send r102 2 (body.Answer (record { at = 670; offerer = r101; offer = 6; received = w1 ∷ []; refused = []; manager = None })) ∷
     send r102 3 (body.Answer (record { at = 670; offerer = r101; offer = 6; received = w1 ∷ w2 ∷ []; refused = []; manager = None })) ∷ [])
-    ≡ Accepted 1 ∷ Accepted 2 ∷ Accepted 1 ∷ Accepted 2 ∷ Accepted 3 ∷ Accepted 3 ∷ Refused (Some 4) why.WrongStage (Some w2) None ∷ Accepted 5 ∷ Accepted 6 ∷
-    Refused (Some 1) why.ListsDiffer None None ∷ Refused (Some 2) why.ListsDiffer None None ∷ Accepted 3 ∷ []
+    ≡ Accepted 1 ∷ Accepted 2 ∷ Accepted 1 ∷ Accepted 2 ∷ Accepted 3 ∷ Accepted 3 ∷ refused (Some 4) why.WrongStage (Some w2) None ∷ Accepted 5 ∷ Accepted 6 ∷
+    refused (Some 1) why.ListsDiffer None None ∷ refused (Some 2) why.ListsDiffer None None ∷ Accepted 3 ∷ []
 lists_replies = refl
 
 items_fetch : reply_to (state_after (delayed ++ Ack r100 1 ∷ [])) (Fetch r100 2) ≡
@@ -32,7 +32,7 @@ items_fetch : reply_to (state_after (delayed ++ Ack r100 1 ∷ [])) (Fetch r100 
 items_fetch = refl
 
 items_ack : run (delayed ++ Ack r100 1 ∷ Ack r100 99 ∷ Ack r100 0 ∷ []) ≡ Accepted 1 ∷ Accepted 2 ∷ Accepted 1 ∷ Accepted 2 ∷ Accepted 2 ∷ Accepted 2 ∷
-    Acknowledged 1 ∷ Refused None why.AckAhead None (Some 5) ∷ Acknowledged 1 ∷ []
+    Acknowledged 1 ∷ refused None why.AckAhead None (Some 5) ∷ Acknowledged 1 ∷ []
 items_ack = refl
 
 abbrev late_reports : List Call
@@ -42,7 +42,7 @@ late_reports_lead : (state_after late_reports).outbox r100 ≡ (state_after depa
     item.Eta w1 930 ∷ item.Eta w1 931 ∷ item.AlertBegins w1 1 ∷ item.Eta w1 932 ∷ []
 late_reports_lead = refl
 
-calendar_early : reply_to (state_after departed) (send r101 2 (moved w1 last_minute Estimate)) ≡ Refused (Some 2) why.BeyondCalendar (Some w1) None
+calendar_early : reply_to (state_after departed) (send r101 2 (moved w1 last_minute Estimate)) ≡ refused (Some 2) why.BeyondCalendar (Some w1) None
 calendar_early = refl
 
 calendar_late : reply_to (state_after answered) (send r102 3 (moved w1 last_minute Estimate)) ≡ Accepted 3
@@ -52,7 +52,7 @@ abbrev pub delivered : List Call
 delivered = answered ++ send r102 3 (moved w1 690 (YardDeparture (codes "AT00009"))) ∷ send r102 4 (moved w1 690 (YardDeparture border)) ∷
     send r102 5 (moved w1 900 Arrival) ∷ send r102 6 (moved w1 920 Delivery) ∷ []
 
-delivered_replies : reply_to (state_after answered) (send r102 3 (moved w1 690 (YardDeparture (codes "AT00009")))) ≡ Refused (Some 3) why.WrongPlace (Some w1) None
+delivered_replies : reply_to (state_after answered) (send r102 3 (moved w1 690 (YardDeparture (codes "AT00009")))) ≡ refused (Some 3) why.WrongPlace (Some w1) None
 delivered_replies = refl
 
 delivered_stage : stage ((state_after delivered).journey w1) ≡ Some stage_is.Delivered
@@ -67,7 +67,7 @@ delivered_responsible = refl
 delivered_eta : eta ((state_after delivered).journey w1) ≡ Some 920
 delivered_eta = refl
 
-delivered_busy : reply_to (state_after delivered) (send r100 5 (body.Plan (trip_of (codes "C-2") (w2 ∷ [])))) ≡ Refused (Some 5) why.WagonBusy (Some w2) None
+delivered_busy : reply_to (state_after delivered) (send r100 5 (body.Plan (trip_of (codes "C-2") (w2 ∷ [])))) ≡ refused (Some 5) why.WagonBusy (Some w2) None
 delivered_busy = refl
 
 delivered_anew : length ((state_after (delivered ++ send r100 6 (body.Plan (trip_of (codes "C-2") (w1 ∷ []))) ∷ [])).journey w1) ≡ 1
@@ -76,22 +76,22 @@ delivered_anew = refl
 deviation_one : length (many (reply_to (state_after delayed) (Deviation r100 (codes "C-1")))) ≡ 1
 deviation_one = refl
 
-deviation_not_yours : reply_to (state_after delayed) (Deviation r101 (codes "C-1")) ≡ Refused None why.NotYours None None
+deviation_not_yours : reply_to (state_after delayed) (Deviation r101 (codes "C-1")) ≡ refused None why.NotYours None None
 deviation_not_yours = refl
 
-deviation_unknown : reply_to (state_after delayed) (Deviation r100 (codes "C-9")) ≡ Refused None why.UnknownConsignment None None
+deviation_unknown : reply_to (state_after delayed) (Deviation r100 (codes "C-9")) ≡ refused None why.UnknownConsignment None None
 deviation_unknown = refl
 
-deviation_ask : reply_to (state_after delayed) (Ask (codes "R999") w1) ≡ Refused None why.NotYours (Some w1) None
+deviation_ask : reply_to (state_after delayed) (Ask (codes "R999") w1) ≡ refused None why.NotYours (Some w1) None
 deviation_ask = refl
 
 leg_time_time : eta ((state_after (departed ++ send r102 1 (body.LegTime w1 1 200) ∷ [])).journey w1) ≡ Some 860
 leg_time_time = refl
 
-leg_time_started : reply_to (state_after departed) (send r101 2 (body.LegTime w1 0 200)) ≡ Refused (Some 2) why.LegStarted (Some w1) None
+leg_time_started : reply_to (state_after departed) (send r101 2 (body.LegTime w1 0 200)) ≡ refused (Some 2) why.LegStarted (Some w1) None
 leg_time_started = refl
 
-leg_time_none : reply_to (state_after departed) (send r101 3 (body.LegTime w1 5 200)) ≡ Refused (Some 3) why.NoSuchLeg (Some w1) None
+leg_time_none : reply_to (state_after departed) (send r101 3 (body.LegTime w1 5 200)) ≡ refused (Some 3) why.NoSuchLeg (Some w1) None
 leg_time_none = refl
 
 abbrev pub withdrawn : List Call
@@ -103,13 +103,13 @@ withdrawn_withdrawn = refl
 withdrawn_in_yard : stage ((state_after withdrawn).journey w2) ≡ Some stage_is.InYard
 withdrawn_in_yard = refl
 
-withdrawn_closed : reply_to (state_after withdrawn) (send r101 8 (body.Withdraw 660 6)) ≡ Refused (Some 8) why.OfferClosed None None
+withdrawn_closed : reply_to (state_after withdrawn) (send r101 8 (body.Withdraw 660 6)) ≡ refused (Some 8) why.OfferClosed None None
 withdrawn_closed = refl
 
-withdrawn_unknown : reply_to (state_after withdrawn) (send r101 9 (body.Withdraw 660 99)) ≡ Refused (Some 9) why.UnknownOffer None None
+withdrawn_unknown : reply_to (state_after withdrawn) (send r101 9 (body.Withdraw 660 99)) ≡ refused (Some 9) why.UnknownOffer None None
 withdrawn_unknown = refl
 
-withdrawn_answer : reply_to (state_after withdrawn) (send r102 1 (body.Answer (record { at = 670; offerer = r101; offer = 6; received = w1 ∷ w2 ∷ []; refused = []; manager = None }))) ≡ Refused (Some 1) why.OfferClosed None None
+withdrawn_answer : reply_to (state_after withdrawn) (send r102 1 (body.Answer (record { at = 670; offerer = r101; offer = 6; received = w1 ∷ w2 ∷ []; refused = []; manager = None }))) ≡ refused (Some 1) why.OfferClosed None None
 withdrawn_answer = refl
 
 departed_record : reply_to (state_after departed) (Ask r102 w1) ≡ reply_is.One (record {

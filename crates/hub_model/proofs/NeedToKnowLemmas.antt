@@ -1,5 +1,5 @@
 -- Records, items and replies reach railways that they concern.
-use Rattle.hub_model.proofs.Common.{◌≡◌, ℕ, ◌+◌, Bool, true, false, cond, not, List, [], ◌∷◌, ◌++◌, length, drop, get_or, Option, Some, None, refl, ap, ◌∙◌, sym, subst, inl, inr, eqb, append_assoc, ◌&&◌, is_some, is_none, map, filter, flat_map, filter_map, slice_get, option_map, option_to_list, option_and_then, bytes_eq, All, Contains, cons_option, fold, list_any, false≢true, or_cases, or_right, cond_both, false_from_ne_true, none-some, same_Some, slice_get-map, slice_get_within, get_or_from_slice_get, slice_get-get_or, All-nil, All-cons, All-head, All-tail, All-append, All-map, All-filter, All-drop, All-weaker, All-contains_itself, Contains-append_right, bytes_eq-Decides, Railway, is_text, Leg, Trip, has, Call, Send, Ask, AskUnit, Deviation, Fetch, Ack, Reply, Refused, One, Many, Acknowledged, Why, UnknownWagon, UnknownUnit, UnknownConsignment, NotYours, NumberReused, same_message, ItemBody, Message, Body, MovementKind, Release, Departure, YardArrival, YardDeparture, Exception, Estimate, Arrival, Delivery, EstimateAt, Record, Stage, Event, leg_index, responsible, plan, stage, legs, lead_of, runner_of, current_leg, asked_by, estimates, record_in, record_of, may_see, AddressedItem, Fault, fault, same_name, HubState, FirstSend, new_state, named_wagons, journey_after, unit_wagon, each_once, runners, movement_receivers, route_receivers, notice_receivers, sub_item, sub_items, notices, estimate_item, is_news, estimate_items, alert, alert_receivers, alert_items, items_of, items_to, reply_to, refusal_reply, verdict, send_reply, record_reply, unit_reply, deviating_records, deviation_reply, after_call, step, state_after, accepts, accepted_message, items_from, IsOfTrip, RecordsAreForTheTrip, is_verdict, MessagesGetVerdicts, Concerns, ItemsGoToTheConcerned, HasSource, ItemsHaveSources, OutsidersLearnWhetherKnown}
+use Rattle.hub_model.proofs.Common.{◌≡◌, ℕ, ◌+◌, Bool, true, false, cond, not, List, [], ◌∷◌, ◌++◌, length, drop, get_or, Option, Some, None, refl, ap, ◌∙◌, sym, subst, inl, inr, eqb, append_assoc, ◌&&◌, is_some, is_none, map, filter, flat_map, filter_map, slice_get, option_map, option_to_list, option_and_then, bytes_eq, All, Contains, cons_option, fold, list_any, false≢true, or_cases, or_right, cond_both, false_from_ne_true, none-some, same_Some, slice_get-map, slice_get_within, get_or_from_slice_get, slice_get-get_or, All-nil, All-cons, All-head, All-tail, All-append, All-map, All-filter, All-drop, All-weaker, All-contains_itself, Contains-append_right, bytes_eq-Decides, Railway, is_text, Leg, Trip, has, Call, Send, Ask, AskUnit, Deviation, Fetch, Ack, Reply, refused, One, Many, Acknowledged, Why, UnknownWagon, UnknownUnit, UnknownConsignment, NotYours, NumberReused, same_message, ItemBody, Message, Body, MovementKind, Release, Departure, YardArrival, YardDeparture, Exception, Estimate, Arrival, Delivery, EstimateAt, Record, Stage, Event, leg_index, responsible, plan, stage, legs, lead_of, runner_of, current_leg, asked_by, estimates, record_in, record_of, may_see, AddressedItem, Fault, fault, same_name, HubState, FirstSend, new_state, named_wagons, journey_after, unit_wagon, each_once, runners, movement_receivers, route_receivers, notice_receivers, sub_item, sub_items, notices, estimate_item, is_news, estimate_items, alert, alert_receivers, alert_items, items_of, items_to, reply_to, refusal_reply, verdict, send_reply, record_reply, unit_reply, deviating_records, deviation_reply, after_call, step, state_after, accepts, accepted_message, items_from, IsOfTrip, RecordsAreForTheTrip, is_verdict, MessagesGetVerdicts, Concerns, ItemsGoToTheConcerned, HasSource, ItemsHaveSources, OutsidersLearnWhetherKnown}
 use Rattle.taf_messages.specs.declared.item.ItemBody.TheVariants as item
 use Rattle.taf_messages.specs.declared.message.Body.TheVariants as body
 use Rattle.hub_model.proofs.ListLemmas.{outbox_list}
@@ -106,7 +106,7 @@ verdicts_all : (s : HubState) → FirstVerdicts s → (calls : List Call) → Fi
 verdicts_all s v [] = v
 verdicts_all s v (call ∷ calls) = verdicts_all (step s call) (verdicts_step s v call) calls
 
-repeated : (m : Message) (first : FirstSend) (b : Bool) → is_verdict first.reply ≡ true → is_verdict (cond b first.reply (Refused (Some m.no) NumberReused None None)) ≡ true
+repeated : (m : Message) (first : FirstSend) (b : Bool) → is_verdict first.reply ≡ true → is_verdict (cond b first.reply (refused (Some m.no) NumberReused None None)) ≡ true
 repeated m first true h = h
 repeated m first false h = refl
 

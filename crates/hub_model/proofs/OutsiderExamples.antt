@@ -1,5 +1,5 @@
 -- What the refusals of its messages tell an outsider, computed.
-use Rattle.hub_model.proofs.Common.{◌≡◌, ℕ, List, [], ◌∷◌, ◌++◌, map, Some, None, codes, refl, Call, Reply, Refused, Why, UnknownWagon, UnknownOffer, ConsignmentTaken, WagonBusy, WrongStage, NotYours, NoSuchLeg, Body, Release, Departure, YardArrival, YardDeparture, Exception, Estimate, Arrival, Delivery, reply_to, state_after}
+use Rattle.hub_model.proofs.Common.{◌≡◌, ℕ, List, [], ◌∷◌, ◌++◌, map, Some, None, codes, refl, Call, Reply, refused, Why, UnknownWagon, UnknownOffer, ConsignmentTaken, WagonBusy, WrongStage, NotYours, NoSuchLeg, Body, Release, Departure, YardArrival, YardDeparture, Exception, Estimate, Arrival, Delivery, reply_to, state_after}
 use Rattle.taf_messages.specs.declared.message.Body.TheVariants as body
 use Rattle.hub_model.proofs.ExampleWords.{w1, w2, w3, r100, r101, r102, border, send, moved, leg, trip, trip_of, departed}
 use Rattle.hub_model.proofs.Examples.{offered, answered}
@@ -20,7 +20,7 @@ tries =
     body.Offer (record { at = 930; train = codes "T-77"; place = border; to = r102; wagons = w1 ∷ w2 ∷ [] }) ∷ []
 
 abbrev refused_at : Why → Reply
-refused_at why = Refused (Some 1) why (Some w1) None
+refused_at why = refused (Some 1) why (Some w1) None
 
 -- it may come in the wagon's stage, or may not
 abbrev told_yes : Reply
@@ -64,18 +64,18 @@ abbrev answer : ℕ → Body
 answer n = body.Answer (record { at = 670; offerer = r101; offer = n; received = w1 ∷ w2 ∷ []; refused = []; manager = None })
 
 -- which offers there are, open or not
-offers_told : map (λ n. replied offered (answer n)) (6 ∷ 7 ∷ []) ≡ Refused (Some 1) NotYours None None ∷ Refused (Some 1) UnknownOffer None None ∷ []
+offers_told : map (λ n. replied offered (answer n)) (6 ∷ 7 ∷ []) ≡ refused (Some 1) NotYours None None ∷ refused (Some 1) UnknownOffer None None ∷ []
 offers_told = refl
 
-closed_told : replied answered (answer 6) ≡ Refused (Some 1) NotYours None None
+closed_told : replied answered (answer 6) ≡ refused (Some 1) NotYours None None
 closed_told = refl
 
-withdrawal_tells : replied offered (body.Withdraw 670 6) ≡ Refused (Some 1) UnknownOffer None None
+withdrawal_tells : replied offered (body.Withdraw 670 6) ≡ refused (Some 1) UnknownOffer None None
 withdrawal_tells = refl
 
 -- which consignments were planned, and which wagons are busy
-consignment_told : replied departed (body.Plan (trip_of (codes "C-1") (w3 ∷ []))) ≡ Refused (Some 1) ConsignmentTaken None None
+consignment_told : replied departed (body.Plan (trip_of (codes "C-1") (w3 ∷ []))) ≡ refused (Some 1) ConsignmentTaken None None
 consignment_told = refl
 
-busy_told : replied departed (body.Plan (trip_of (codes "C-9") (w3 ∷ w2 ∷ w1 ∷ []))) ≡ Refused (Some 1) WagonBusy (Some w2) None
+busy_told : replied departed (body.Plan (trip_of (codes "C-9") (w3 ∷ w2 ∷ w1 ∷ []))) ≡ refused (Some 1) WagonBusy (Some w2) None
 busy_told = refl

@@ -1,5 +1,5 @@
 -- Worked histories, computed: what is fetched, shown and replied along the way.
-use Rattle.hub_model.proofs.Common.{◌≡◌, ℕ, List, [], ◌∷◌, ◌++◌, map, length, Bool, Option, Some, None, true, false, codes, refl, last_minute, Ask, Deviation, Fetch, Accepted, Refused, Acknowledged, Body, Release, Departure, YardDeparture, Exception, Estimate, Arrival, Delivery, Railway, Place, Stage, Status, stage, leg_index, responsible, place, estimates, eta, late_by, accepted_in, last_receiver, reply_to, view, run, state_after, is_apart}
+use Rattle.hub_model.proofs.Common.{◌≡◌, ℕ, List, [], ◌∷◌, ◌++◌, map, length, Bool, Option, Some, None, true, false, codes, refl, last_minute, Ask, Deviation, Fetch, Accepted, refused, Body, Release, Departure, YardDeparture, Exception, Estimate, Arrival, Delivery, Railway, Place, Stage, Status, stage, leg_index, responsible, place, estimates, eta, late_by, accepted_in, last_receiver, reply_to, view, run, state_after, is_apart}
 use Rattle.taf_messages.specs.declared.reply.Reply.TheVariants as reply_is
 use Rattle.taf_messages.specs.declared.reply.Why.TheVariants as why
 use Rattle.taf_messages.specs.declared.item.ItemBody.TheVariants as item
@@ -11,7 +11,7 @@ use Rattle.hub_model.proofs.Examples.{unready, offered, answered, delayed}
 use Rattle.hub_model.proofs.MoreExamples.{delivered, withdrawn}
 
 -- a wagon that no plan names
-unknown : reply_to (state_after []) (Ask r100 w3) ≡ Refused None why.UnknownWagon (Some w3) None
+unknown : reply_to (state_after []) (Ask r100 w3) ≡ refused None why.UnknownWagon (Some w3) None
 unknown = refl
 
 -- planned, released and departed: the lead's and the next railway's items, and the records of both wagons
@@ -40,7 +40,7 @@ delayed_estimates = refl
 delayed_reuses : run (delayed ++
     send r101 2 (moved w1 420 (Exception 46)) ∷ send r101 1 (moved w1 360 Estimate) ∷ send r101 2 (moved w1 420 (Exception 45)) ∷ [])
     ≡ Accepted 1 ∷ Accepted 2 ∷ Accepted 1 ∷ Accepted 2 ∷ Accepted 2 ∷ Accepted 2 ∷
-    Refused (Some 2) why.NumberReused None None ∷ Refused (Some 1) why.NumberReused None None ∷ Accepted 2 ∷ []
+    refused (Some 2) why.NumberReused None None ∷ refused (Some 1) why.NumberReused None None ∷ Accepted 2 ∷ []
 delayed_reuses = refl
 
 delayed_items : length ((state_after (delayed ++ send r101 2 (moved w1 420 (Exception 46)) ∷ send r101 2 (moved w1 420 (Exception 45)) ∷ [])).outbox r100) ≡ 5
@@ -86,7 +86,7 @@ answered_kept = refl
 abbrev again : Body
 again = body.Answer (record { at = 670; offerer = r101; offer = 6; received = w1 ∷ []; refused = w2 ∷ []; manager = Some (codes "I300") })
 
-answered_again : reply_to (state_after answered) (send r102 2 again) ≡ Refused (Some 2) why.OfferClosed None None
+answered_again : reply_to (state_after answered) (send r102 2 again) ≡ refused (Some 2) why.OfferClosed None None
 answered_again = refl
 
 answered_fetch : reply_to (state_after answered) (Fetch (codes "I300") 5) ≡
@@ -107,10 +107,10 @@ calendar_eta = refl
 abbrev at_the_end : List ℕ → List ℕ → Body
 at_the_end received refused = body.Answer (record { at = last_minute; offerer = r101; offer = 6; received = received; refused = refused; manager = None })
 
-calendar_received : reply_to (state_after offered) (send r102 1 (at_the_end (w1 ∷ w2 ∷ []) [])) ≡ Refused (Some 1) why.BeyondCalendar (Some w1) None
+calendar_received : reply_to (state_after offered) (send r102 1 (at_the_end (w1 ∷ w2 ∷ []) [])) ≡ refused (Some 1) why.BeyondCalendar (Some w1) None
 calendar_received = refl
 
-calendar_received_one : reply_to (state_after offered) (send r102 1 (at_the_end (w2 ∷ []) (w1 ∷ []))) ≡ Refused (Some 1) why.BeyondCalendar (Some w2) None
+calendar_received_one : reply_to (state_after offered) (send r102 1 (at_the_end (w2 ∷ []) (w1 ∷ []))) ≡ refused (Some 1) why.BeyondCalendar (Some w2) None
 calendar_received_one = refl
 
 calendar_refused : reply_to (state_after offered) (send r102 1 (at_the_end [] (w1 ∷ w2 ∷ []))) ≡ Accepted 1
@@ -134,9 +134,9 @@ reported_late = refl
 delivered_ways : run (answered ++ send r102 3 (moved w1 690 (YardDeparture (codes "AT00009"))) ∷ send r102 4 (moved w1 690 (YardDeparture border)) ∷
     send r102 5 (moved w1 900 Arrival) ∷ send r102 6 (moved w1 920 Delivery) ∷
     send r100 4 (body.Plan (trip_of (codes "C-1") (w1 ∷ []))) ∷ send r100 5 (body.Plan (trip_of (codes "C-2") (w2 ∷ []))) ∷ send r100 6 (body.Plan (trip_of (codes "C-2") (w1 ∷ []))) ∷ [])
-    ≡ Accepted 1 ∷ Accepted 2 ∷ Accepted 1 ∷ Accepted 2 ∷ Accepted 3 ∷ Accepted 3 ∷ Refused (Some 4) why.WrongStage (Some w2) None ∷ Accepted 5 ∷ Accepted 6 ∷ Accepted 1 ∷
-    Refused (Some 3) why.WrongPlace (Some w1) None ∷ Accepted 4 ∷ Accepted 5 ∷ Accepted 6 ∷
-    Refused (Some 4) why.ConsignmentTaken None None ∷ Refused (Some 5) why.WagonBusy (Some w2) None ∷ Accepted 6 ∷ []
+    ≡ Accepted 1 ∷ Accepted 2 ∷ Accepted 1 ∷ Accepted 2 ∷ Accepted 3 ∷ Accepted 3 ∷ refused (Some 4) why.WrongStage (Some w2) None ∷ Accepted 5 ∷ Accepted 6 ∷ Accepted 1 ∷
+    refused (Some 3) why.WrongPlace (Some w1) None ∷ Accepted 4 ∷ Accepted 5 ∷ Accepted 6 ∷
+    refused (Some 4) why.ConsignmentTaken None None ∷ refused (Some 5) why.WagonBusy (Some w2) None ∷ Accepted 6 ∷ []
 delivered_ways = refl
 
 delivered_status : map {B = ℕ × Status} (λ r. (r.wagon, r.status)) (view (state_after delivered)) ≡ (w1, status_is.Unloading) ∷ (w2, status_is.LoadedOnJourney) ∷ []

@@ -1,5 +1,5 @@
 -- Worked reroutes, computed.
-use Rattle.hub_model.proofs.Common.{◌≡◌, ℕ, List, [], ◌∷◌, ◌++◌, length, Some, None, codes, refl, Call, Ask, Accepted, Refused, eta, estimate, reply_to, state_after, Leg, Body}
+use Rattle.hub_model.proofs.Common.{◌≡◌, ℕ, List, [], ◌∷◌, ◌++◌, length, Some, None, codes, refl, Call, Ask, Accepted, refused, eta, estimate, reply_to, state_after, Leg, Body}
 use Rattle.taf_messages.specs.declared.reply.Why.TheVariants as why
 use Rattle.taf_messages.specs.declared.item.ItemBody.TheVariants as item
 use Rattle.taf_messages.specs.declared.message.Body.TheVariants as body
@@ -40,16 +40,16 @@ told_new = refl
 told_lead : (state_after rerouted).outbox r100 ≡ (state_after departed).outbox r100
 told_lead = refl
 
-old_railway : reply_to (state_after rerouted) (Ask r102 w1) ≡ Refused None why.NotYours (Some w1) None
+old_railway : reply_to (state_after rerouted) (Ask r102 w1) ≡ refused None why.NotYours (Some w1) None
 old_railway = refl
 
-same_railway : reply_to (state_after rerouted) (send r100 4 (to r101 border)) ≡ Refused (Some 4) why.WrongNext (Some w1) None
+same_railway : reply_to (state_after rerouted) (send r100 4 (to r101 border)) ≡ refused (Some 4) why.WrongNext (Some w1) None
 same_railway = refl
 
-elsewhere : reply_to (state_after rerouted) (send r100 5 (to r103 (codes "AT00009"))) ≡ Refused (Some 5) why.WrongPlace (Some w1) None
+elsewhere : reply_to (state_after rerouted) (send r100 5 (to r103 (codes "AT00009"))) ≡ refused (Some 5) why.WrongPlace (Some w1) None
 elsewhere = refl
 
-not_the_lead : reply_to (state_after rerouted) (send r101 2 (to r103 border)) ≡ Refused (Some 2) why.NotYours (Some w1) None
+not_the_lead : reply_to (state_after rerouted) (send r101 2 (to r103 border)) ≡ refused (Some 2) why.NotYours (Some w1) None
 not_the_lead = refl
 
 abbrev seven : List Leg
@@ -62,8 +62,8 @@ seven =
     leg (codes "R108") (codes "IT00008") (codes "IT00009") 60 ∷
     leg (codes "R109") (codes "IT00009") (codes "IT00010") 60 ∷ []
 
-too_many : reply_to (state_after answered) (send r100 4 (body.Reroute w1 seven)) ≡ Refused (Some 4) why.TooManyLegs (Some w1) None
+too_many : reply_to (state_after answered) (send r100 4 (body.Reroute w1 seven)) ≡ refused (Some 4) why.TooManyLegs (Some w1) None
 too_many = refl
 
-unknown : reply_to (state_after []) (send r100 4 (body.Reroute w1 seven)) ≡ Refused (Some 4) why.UnknownWagon (Some w1) None
+unknown : reply_to (state_after []) (send r100 4 (body.Reroute w1 seven)) ≡ refused (Some 4) why.UnknownWagon (Some w1) None
 unknown = refl

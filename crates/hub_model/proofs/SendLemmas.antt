@@ -1,5 +1,5 @@
 -- First sends and acknowledgements that are carried along are those of the calls.
-use Rattle.hub_model.proofs.Common.{◌≡◌, ℕ, Bool, true, false, cond, not, List, [], ◌∷◌, Option, Some, None, refl, ap, ◌∙◌, sym, ◌&&◌, max, is_none, bytes_eq, option_or, fold, bytes_eq-Decides, fold-append, Railway, Call, Send, Ask, AskUnit, Deviation, Fetch, Ack, Reply, Refused, Acknowledged, AckAhead, Message, oldest, is_ahead, same_name, HubState, FirstSend, new_state, fault, reply_to, send_reply, verdict, after_call, step, send_of_name, entries_from, acknowledged_by, acknowledged_from, greatest, option_or-none, option_or_assoc}
+use Rattle.hub_model.proofs.Common.{◌≡◌, ℕ, Bool, true, false, cond, not, List, [], ◌∷◌, Option, Some, None, refl, ap, ◌∙◌, sym, ◌&&◌, max, is_none, bytes_eq, option_or, fold, bytes_eq-Decides, fold-append, Railway, Call, Send, Ask, AskUnit, Deviation, Fetch, Ack, Reply, refused, Acknowledged, AckAhead, Message, oldest, is_ahead, same_name, HubState, FirstSend, new_state, fault, reply_to, send_reply, verdict, after_call, step, send_of_name, entries_from, acknowledged_by, acknowledged_from, greatest, option_or-none, option_or_assoc}
 use Rattle.hub_model.proofs.NamedWagonLemmas.{from_same_name}
 use Rattle.hub_model.proofs.StepLemmas.{step-first_send, step-acknowledged}
 
@@ -40,7 +40,7 @@ first_send_list by n calls = first_all new_state by n calls
 
 -- an acknowledgement counts where it is this railway's, and not ahead
 ack_cases : (s : HubState) (by r : Railway) (n : ℕ) (last : Option ℕ) (ahead same : Bool) → same ≡ bytes_eq by r →
-    (after_call s (Ack by n) (cond ahead (Refused None AckAhead None last) (Acknowledged (max (s.acknowledged by) n)))).acknowledged r ≡
+    (after_call s (Ack by n) (cond ahead (refused None AckAhead None last) (Acknowledged (max (s.acknowledged by) n)))).acknowledged r ≡
     fold max (s.acknowledged r) (cond (same && not ahead) (n ∷ []) [])
 ack_cases s by r n last true true e = refl
 ack_cases s by r n last true false e = refl

@@ -1,5 +1,5 @@
 -- Worked intermodal units, computed.
-use Rattle.hub_model.proofs.Common.{◌≡◌, ℕ, List, [], ◌∷◌, ◌++◌, Some, None, true, false, codes, refl, Loaded, Call, AskUnit, Accepted, Refused, Acknowledged, Release, Departure, Arrival, Delivery, reply_to, run, state_after, unit_wagon, is_apart, Trip, UnitLoad}
+use Rattle.hub_model.proofs.Common.{◌≡◌, ℕ, List, [], ◌∷◌, ◌++◌, Some, None, true, false, codes, refl, Loaded, Call, AskUnit, Accepted, refused, Release, Departure, Arrival, Delivery, reply_to, run, state_after, unit_wagon, is_apart, Trip, UnitLoad}
 use Rattle.taf_messages.specs.declared.reply.Reply.TheVariants as reply_is
 use Rattle.taf_messages.specs.declared.reply.Why.TheVariants as why
 use Rattle.taf_messages.specs.declared.event.RecordEventKind.TheVariants as shown_as
@@ -54,13 +54,13 @@ asked : reply_to (state_after planned) (AskUnit r102 unit) ≡ reply_is.One (rec
 })
 asked = refl
 
-busy : reply_to (state_after planned) (send (codes "R200") 1 (body.Plan other)) ≡ Refused (Some 1) why.UnitBusy (Some w3) None
+busy : reply_to (state_after planned) (send (codes "R200") 1 (body.Plan other)) ≡ refused (Some 1) why.UnitBusy (Some w3) None
 busy = refl
 
-unknown : reply_to (state_after planned) (AskUnit r100 (codes "AAAU0000060")) ≡ Refused None why.UnknownUnit None None
+unknown : reply_to (state_after planned) (AskUnit r100 (codes "AAAU0000060")) ≡ refused None why.UnknownUnit None None
 unknown = refl
 
-not_yours : reply_to (state_after planned) (AskUnit (codes "R999") unit) ≡ Refused None why.NotYours None None
+not_yours : reply_to (state_after planned) (AskUnit (codes "R999") unit) ≡ refused None why.NotYours None None
 not_yours = refl
 
 -- once its wagon is delivered, the unit may be loaded on another
@@ -78,7 +78,7 @@ loaded_elsewhere : unit_wagon (state_after (delivered ++ send r100 1 (body.Plan 
 loaded_elsewhere = refl
 
 -- and once its wagon is planned anew without it, it is nowhere
-nowhere : reply_to (state_after (delivered ++ send (codes "R200") 3 (body.Plan (record other { consignment = codes "C-3"; units = [] })) ∷ [])) (AskUnit (codes "R200") unit) ≡ Refused None why.UnknownUnit None None
+nowhere : reply_to (state_after (delivered ++ send (codes "R200") 3 (body.Plan (record other { consignment = codes "C-3"; units = [] })) ∷ [])) (AskUnit (codes "R200") unit) ≡ refused None why.UnknownUnit None None
 nowhere = refl
 
 -- a release of the unit's wagon is not apart from a plan that loads the unit, and a release of the other wagon is

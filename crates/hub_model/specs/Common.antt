@@ -23,6 +23,7 @@ pub use Rattle.taf_messages.specs.declared.record.EstimateAt.{EstimateAt}
 pub use Rattle.taf_messages.specs.declared.record.Record.{Record}
 pub use Rattle.taf_messages.specs.declared.reply.Reply.{Reply}
 pub use Rattle.taf_messages.specs.declared.reply.Reply.TheVariants.{Accepted, Acknowledged, Refused, One, Many, Items}
+pub use Rattle.taf_messages.specs.Refusals.{refused}
 pub use Rattle.taf_messages.specs.declared.reply.Why.{Why}
 pub use Rattle.taf_messages.specs.declared.reply.Why.TheVariants.{UnknownWagon, UnknownOffer, ConsignmentTaken, WagonBusy, UnitBusy, NotYours, OfferClosed, ListsDiffer, BeyondCalendar, UnknownConsignment, UnknownUnit, NumberReused, AckAhead}
 pub use Rattle.replay_numbers.specs.Names.{same_name}

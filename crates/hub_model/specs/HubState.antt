@@ -1,5 +1,5 @@
 -- What the hub has to look up, and what a message says of the wagons that it names (4.2.7, 4.2.8).
-use Rattle.std.specs.Prelude.{ℕ, Bool, false, if◌then◌else◌, List, [], ◌∷◌, ◌++◌, Option, Some, None}
+use Rattle.std.specs.Prelude.{ℕ, Bool, false, if◌then◌else◌, List, [], ◌∷◌, ◌++◌, Option, None}
 use Rattle.hub_model.specs.Common.{WagonNumber, Railway, UnitCode, ConsignmentId, Trip, has, Reply, ItemBody, Message, Body, moment_in, Event, EventBody, Planned, Moved, EstimateAsked, LegTimed, Offered, Answered, Withdrawn, Rerouted, is_plan, Offer, wagons_of, place_of}
 use Rattle.taf_messages.specs.declared.message.Body.TheVariants as body
 

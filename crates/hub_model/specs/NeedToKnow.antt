@@ -31,7 +31,7 @@ RecordsAreForTheTrip = (s : HubState) (by : Railway) → IsShownTo s by
 -- the reply accepts a message or refuses it, and shows nothing else
 abbrev pub is_verdict : Reply → Bool
 is_verdict (Accepted number) = true
-is_verdict (Refused number why wagon last) = true
+is_verdict (Refused r) = true
 is_verdict _ = false
 
 -- each message gets such a reply, the first time and again

@@ -1,6 +1,6 @@
 -- What the hub replies to each call (4.2.6, 4.2.7, 4.2.8, 4.2.11).
 use Rattle.std.specs.Prelude.{ℕ, max, ◌&&◌, if◌then◌else◌, List, length, filter, filter_map, Option, Some, None, bytes_eq}
-use Rattle.hub_model.specs.Common.{Railway, Trip, Call, Send, Ask, AskUnit, Deviation, Fetch, Ack, Reply, Accepted, Refused, One, Many, Items, Acknowledged, Why, UnknownWagon, UnknownConsignment, UnknownUnit, NotYours, NumberReused, AckAhead, Message, Record, same_message, Event, is_late, items_to_fetch, is_ahead, record_of, may_see}
+use Rattle.hub_model.specs.Common.{Railway, Trip, Call, Send, Ask, AskUnit, Deviation, Fetch, Ack, Reply, Accepted, refused, One, Many, Items, Acknowledged, Why, UnknownWagon, UnknownConsignment, UnknownUnit, NotYours, NumberReused, AckAhead, Message, Record, same_message, Event, is_late, items_to_fetch, is_ahead, record_of, may_see}
 use Rattle.hub_model.specs.HubState.{HubState, FirstSend}
 use Rattle.hub_model.specs.Units.{is_on_plan, unit_wagon}
 use Rattle.hub_model.specs.declared.fault.Fault.{Fault}
@@ -8,17 +8,17 @@ use Rattle.hub_model.specs.Faults.{fault}
 
 -- a call that is no send is refused
 abbrev pub refusal_reply : Why → Option ℕ → Reply
-refusal_reply why wagon = Refused None why wagon None
+refusal_reply why wagon = refused None why wagon None
 
 -- the reply to a new message
 abbrev pub verdict : ℕ → Option Fault → Reply
 verdict number None = Accepted number
-verdict number (Some f) = Refused (Some number) f.why f.wagon None
+verdict number (Some f) = refused (Some number) f.why f.wagon None
 
 -- the reply to a message whose number its sender used before, or did not
 abbrev pub send_reply : HubState → Message → Option FirstSend → Reply
 send_reply s m None = verdict m.no (fault s m)
-send_reply s m (Some first) = if same_message first.message m then first.reply else Refused (Some m.no) NumberReused None None
+send_reply s m (Some first) = if same_message first.message m then first.reply else refused (Some m.no) NumberReused None None
 
 -- the reply to one who asks for a record, which may not be there, and where it is may not be seen
 abbrev pub record_reply : Railway → List Event → Option Record → Reply → Reply → Reply
@@ -49,7 +49,7 @@ deviation_reply s by (Some p) = if bytes_eq p.lead by then Many (deviating_recor
 abbrev pub ack_reply : HubState → Railway → ℕ → Reply
 ack_reply s by n =
     if is_ahead (s.outbox by) n
-    then Refused None AckAhead None (Some (length (s.outbox by)))
+    then refused None AckAhead None (Some (length (s.outbox by)))
     else Acknowledged (max (s.acknowledged by) n)
 
 -- the reply to a call

@@ -1,8 +1,8 @@
 //! The lines of a chunk of the input.
-ghost use Rattle.std.specs.Prelude.{◌≡◌, ◌+◌, ◌*◌, ◌-◌, ◌<◌, ◌≤◌, ◌^◌, ◌++◌, ◌∷◌, [], ℕ, List, true, false, length, drop, take, slice_range, OnOk, OnErr, IfOk, IfErr, MatchOption};
+ghost use Rattle.std.specs.Prelude.{◌≡◌, ◌+◌, ◌*◌, ◌-◌, ◌<◌, ◌≤◌, ◌^◌, ◌++◌, [], ℕ, List, true, false, length, drop, slice_range, OnOk, OnErr, IfOk, MatchOption};
 ghost use Rattle.call_lines.specs.declared.parsed.ParsedLine.{ParsedLine};
 ghost use Rattle.call_lines.specs.Lines.{has_no_newline};
-ghost use Rattle.hub_replay.specs.Lines.{IsCut, IsTaken, parsed_lines, after_skipping, after_newline};
+ghost use Rattle.hub_replay.specs.Lines.{IsCut, IsTaken, parsed_lines, after_skipping};
 ghost use Rattle.hub_replay.specs.Batches.{IsScanned};
 ghost use Rattle.hub_replay.specs.Running.{Advances, AnswersLines, Blames, StopsWithin, line_total, run_state};
 

@@ -18,10 +18,10 @@ use std::thread::Threads;
 use taf_codes::{Sink, Source};
 
 // How many bytes are asked for at once.
-const CHUNK: usize = 4_194_304;
+const CHUNK: usize = 2_097_152;
 
 // The longest beginning of a line that is kept, and a chunk.
-const BUFFER: usize = 4_259_840;
+const BUFFER: usize = 2_162_688;
 
 /// How many bytes of a reader are read at most.
 pub const MAX_BYTES: u64 = 1 << 40;
@@ -118,9 +118,9 @@ fn read_chunk<R: Source>(
     kept_len: usize,
     most: u64,
 ) -> Result<usize, RunFault>
-    requires space { kept_len + 4194304 ≤ length buffer.old }
+    requires space { kept_len + 2097152 ≤ length buffer.old }
     requires some { 0 < most }
-    ensures bounds { IfOk result (λ n. (n ≤ 4194304) × (n ≤ most)) }
+    ensures bounds { IfOk result (λ n. (n ≤ 2097152) × (n ≤ most)) }
     ensures bytes { IfOk result (λ n. Consumes (R.remaining reader.old) (R.remaining reader.new)
         (slice_range buffer.new kept_len (kept_len + n))) }
     ensures end { IfOk result (λ n. n ≡ 0 → IsAtEnd (R.remaining reader.new)) }

@@ -16,16 +16,16 @@
 //! | withdrawal | the offer is known and open | |
 //! | any other | | it is known, its journey admits the event, no estimate passes the calendar |
 //!
-//! The wagons of an answer or a withdrawal are offered, so their journeys admit it, and only an answer can make an estimate pass
-//! the calendar. So one check serves every message that goes on with journeys (`both_asked` in `proofs/ContinuationLemmas.antt`).
+//! The wagons of an answer or a withdrawal are offered, so their journeys admit it, and of these two only an answer can make an
+//! estimate pass the calendar. So one check serves every message that goes on with journeys (`both_asked` in `proofs/ContinuationLemmas.antt`).
 //! It looks each wagon up once, and makes its event once; these events are given out with the answer, so that the items are made
 //! of them and the tables take them.
 //!
 //! [`Tables::accept`] takes a message that may be accepted (`IsAcceptable`), and what is known then is what `after_acceptance` of
 //! `hub_model` says. It is given the events of the message's wagons ([`NextEvents`]), each with its wagon's position in the fleet, so
-//! that no wagon is looked up again. Those of a message that may name several wagons are in memory of their own. First comes all that may be refused memory: copies of a plan, room in each table. Then come steps that
-//! cannot fail, or the one step of a single wagon's journey, which changes nothing where it fails. So where it answers
-//! [`Memory`](taf_codes::Memory), all is as it was.
+//! that no wagon is looked up again. Those of a message that may name several wagons are in memory of their own. First comes all
+//! that may be refused memory: copies of a plan, room in each table. Then come steps that cannot fail, or the one step of a single
+//! wagon's journey, which changes nothing where it fails. So where it answers [`Memory`](taf_codes::Memory), all is as it was.
 #![tactic(auto)]
 
 mod accept;

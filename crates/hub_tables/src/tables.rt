@@ -1,17 +1,16 @@
-ghost use Rattle.std.specs.Prelude.{◌≡◌, [], ◌∷◌, ◌++◌, IfSome, IfNone, OnOk, OnErr, IfOk, is_none, slice_get, Some, length, ◌≤◌};
+ghost use Rattle.std.specs.Prelude.{◌≡◌, [], IfSome, IfNone, is_none, slice_get, Some, length, ◌≤◌};
 ghost use Rattle.std.specs.Option.{option_copied};
 ghost use Rattle.hub_model.specs.HubState.{new_state};
 ghost use Rattle.hub_model.specs.Faults.{is_unknown};
-ghost use Rattle.hub_model.specs.Updates.{after_acceptance};
-ghost use Rattle.hub_tables.specs.TableStates.{IsAcceptable, table_state, table_part};
+ghost use Rattle.hub_tables.specs.TableStates.{table_state};
 
 use crate::wagon::Wagon;
 use indexmap::IndexMap;
 use interchange::{Offer, Offers};
 use std::alloc::Global;
 use std::marker::Model;
-use taf_codes::{ConsignmentId, Memory, Railway, UnitCode};
-use taf_messages::{Message, MessageNumber};
+use taf_codes::{ConsignmentId, Railway, UnitCode};
+use taf_messages::MessageNumber;
 use trip_plan::Plan;
 use wagon_number::WagonNumber;
 

@@ -348,7 +348,7 @@ fn each_flush_fails(rt: HostRuntime) -> Result<(), Fail> {
 }
 
 // The bytes that a run holds its input in.
-const HELD: usize = 4_259_840;
+const HELD: usize = 2_162_688;
 
 // What comes of a run where so many bytes are left, beside those that hold its input.
 fn ran_within(

@@ -12,7 +12,7 @@
 //! that it took.
 //!
 //! No contract says that a worker that waits is woken, nor what it answers: an `AnswerQueue` promises nothing of what it
-//! holds. No worker spins: one whose lane is empty sleeps until it is woken.
+//! holds. No worker spins: one whose lane stays empty sleeps until it is woken.
 //!
 //! | part | what it has |
 //! |---|---|

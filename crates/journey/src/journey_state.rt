@@ -72,7 +72,7 @@ impl JourneyState {
             EventBody::Moved(what) => self.move_on(event.by, *what),
             EventBody::EstimateAsked => {}
             EventBody::LegTimed { leg, minutes } => {
-                self.legs.time(leg.get() as usize, minutes.get() as u32);
+                self.legs.time(leg.get() as usize, minutes.get());
             }
             EventBody::Offered { place, to: _ } => self.stand(Stage::Offered, *place),
             EventBody::Answered { place, received } => {

@@ -22,8 +22,8 @@
 //! - [`JourneyState`] is what the events come to. A track keeps it beside them, so that no call but
 //!   [`Track::events`] leads to a walk: stage, leg index, legs, responsible railway, place and checks take no more
 //!   than a look at it.
-//! - [`Transition`] is a track with an event that it admits, and the state that both lead to. [`Track::transition`] makes it
-//!   once, for all that is asked of the event.
+//! - [`Transition`] is a track with an event that it admits, and the state that both lead to, by which the crates above ask what
+//!   the event changes. [`Track::transition`] makes it.
 //! - [`Legs`] are the one to eight legs of a wagon, kept in place.
 //!
 //! The legs are defined from event to event. [`legs_are_what_the_newest_event_sets`] is the law that they are what a

@@ -10,7 +10,7 @@ use std::alloc::Global;
 use std::fmt::Write;
 use std::test::Fail;
 use taf_codes::{ConsignmentId, Place, Railway};
-use taf_messages::{MovementKind, Record, Within};
+use taf_messages::{MovementKind, Record, Within, Within32};
 use taf_moment::Moment;
 use trip_plan::{Leg, Load, Plan, Route};
 use wagon_number::WagonNumber;
@@ -19,6 +19,14 @@ use wimo::record_with;
 // The number that a word says, within its limits.
 fn number<const LOW: u64, const HIGH: u64>(word: &str) -> Result<Within<LOW, HIGH>, Fail> {
     match Within::new(word.parse::<u64>()?) {
+        Some(number) => Ok(number),
+        None => Err(Fail::new("out of range")),
+    }
+}
+
+// The small number that a word says, within its limits.
+fn small_number<const LOW: u32, const HIGH: u32>(word: &str) -> Result<Within32<LOW, HIGH>, Fail> {
+    match Within32::new(word.parse::<u64>()?) {
         Some(number) => Ok(number),
         None => Err(Fail::new("out of range")),
     }
@@ -127,8 +135,8 @@ fn body(alloc: Global, kind: &str, fields: &str) -> Result<EventBody, Fail> {
 
 fn leg_time(fields: &str) -> Result<EventBody, Fail> {
     let (leg, minutes) = parts(fields, ' ')?;
-    let leg = number(leg)?;
-    let minutes = number(minutes)?;
+    let leg = small_number(leg)?;
+    let minutes = small_number(minutes)?;
     Ok(EventBody::LegTimed { leg, minutes })
 }
 
@@ -167,7 +175,7 @@ fn movement(kind: &str, field: &str) -> Result<MovementKind, Fail> {
 }
 
 fn exception(delay: &str) -> Result<MovementKind, Fail> {
-    let delay = number(delay)?;
+    let delay = small_number(delay)?;
     Ok(MovementKind::Exception { delay })
 }
 

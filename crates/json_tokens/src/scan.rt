@@ -1,5 +1,5 @@
 //! Records in the form in which they are written: no blanks, no escapes, no leading zeros.
-ghost use Rattle.std.specs.Prelude.{◌≡◌, ◌+◌, ◌≤◌, ◌<◌, ◌≢◌, ◌∷◌, [], ◌++◌, true, decimal, length, map, take, IfOk, IfSome};
+ghost use Rattle.std.specs.Prelude.{◌≡◌, ◌+◌, ◌≤◌, ◌<◌, ◌∷◌, [], ◌++◌, true, decimal, length, map, take, IfOk, IfSome};
 ghost use Rattle.std.specs.Simd.Lanes.{mask_l};
 ghost use Rattle.json.specs.Print.{print, quoted, token_text};
 ghost use Rattle.json.specs.Token as token;

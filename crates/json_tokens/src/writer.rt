@@ -3,7 +3,7 @@ ghost use Rattle.std.specs.Prelude.{◌≡◌, ◌&&◌, ◌∷◌, ◌++◌, []
 ghost use Rattle.json.specs.Print.{print, begins, ends, token_text};
 ghost use Rattle.json.specs.Reads.{token_of};
 ghost use Rattle.json.specs.Token as token;
-ghost use Rattle.json_tokens.specs.Texts.{AreSmall, IsSmallToken};
+ghost use Rattle.json_tokens.specs.Texts.{AreSmall};
 ghost use Rattle.json_tokens.specs.Writing.{is_plain, CanBePut, Writes};
 
 use crate::buffer::Buffer;

@@ -2,6 +2,7 @@
 use crate::checks::are_call;
 use crate::parts::{
     ONE, THREE, TWO, consignment, leg, moment, place, railway, send, wagon, wagons, within,
+    within32,
 };
 use std::alloc::Global;
 use std::test::Fail;
@@ -68,7 +69,7 @@ fn movements(rt: HostRuntime) -> Result<(), Fail> {
 // What a movement of this kind says of the first wagon, and more than the others.
 fn movement_that_says_more(alloc: Global, kind: &str) -> Result<Call, Fail> {
     let place = place("AT00002")?;
-    let delay = within(45)?;
+    let delay = within32(45)?;
     let (by, no, at, what) = match kind {
         "yard_in" => (
             "R101",
@@ -127,8 +128,8 @@ fn estimate_asked(alloc: Global) -> Result<Call, Fail> {
 fn leg_time(alloc: Global) -> Result<Call, Fail> {
     let body = Body::LegTime {
         wagon: wagon(ONE)?,
-        leg: within(1)?,
-        minutes: within(200)?,
+        leg: within32(1)?,
+        minutes: within32(200)?,
     };
     send(alloc, "R102", 1, body)
 }

@@ -1,7 +1,7 @@
 //! Texts of items: notices of each kind, and what else a railway is told.
 use crate::checks::{are_call, is_text};
 use crate::lines::messages;
-use crate::parts::{ONE, message, moment, railway, wagon, wagons, within};
+use crate::parts::{ONE, message, moment, railway, wagon, wagons, within, within32};
 use reply_writer::write_item;
 use std::alloc::Global;
 use std::test::Fail;
@@ -113,7 +113,7 @@ fn add_others(alloc: Global, items: &mut Vec<Item>, number: u64) -> Result<(), F
     let at = moment("2025-03-01T10:30Z")?;
     add(items, number, sub(alloc)?)?;
     for leg in 0..2 {
-        let leg = within(leg)?;
+        let leg = within32(leg)?;
         add(items, number, ItemBody::Eti { wagon, leg, at })?;
     }
     add(items, number, ItemBody::Eta { wagon, at })?;

@@ -3,7 +3,7 @@ use call_reader::read_call;
 use std::alloc::Global;
 use std::test::Fail;
 use taf_codes::{ConsignmentId, Place, Railway};
-use taf_messages::{Body, Call, Content, Message, Shared, Within};
+use taf_messages::{Body, Call, Content, Message, Shared, Within, Within32};
 use taf_moment::Moment;
 use trip_plan::Leg;
 use wagon_number::WagonNumber;
@@ -39,6 +39,15 @@ pub(crate) fn within<const LOW: u64, const HIGH: u64>(
     number: u64,
 ) -> Result<Within<LOW, HIGH>, Fail> {
     match Within::new(number) {
+        Some(number) => Ok(number),
+        None => Err(Fail::new("a number outside its limits")),
+    }
+}
+
+pub(crate) fn within32<const LOW: u32, const HIGH: u32>(
+    number: u64,
+) -> Result<Within32<LOW, HIGH>, Fail> {
+    match Within32::new(number) {
         Some(number) => Ok(number),
         None => Err(Fail::new("a number outside its limits")),
     }

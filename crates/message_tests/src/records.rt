@@ -1,6 +1,6 @@
 //! Texts of records.
 use crate::checks::{is_text, shown};
-use crate::parts::{ONE, consignment, moment, place, railway, wagon, within};
+use crate::parts::{ONE, consignment, moment, place, railway, wagon, within, within32};
 use reply_writer::write_record;
 use std::alloc::Global;
 use std::test::Fail;
@@ -15,7 +15,7 @@ use trip_plan::Load;
 fn estimates(alloc: Global, times: &[&str]) -> Result<EstimateList, Fail> {
     let mut estimates = Vec::new(alloc);
     for time in times {
-        let leg = within(estimates.len() as u64)?;
+        let leg = within32(estimates.len() as u64)?;
         let at = moment(time)?;
         estimates.push(EstimateAt { leg, at })?;
     }
@@ -44,7 +44,7 @@ fn bare(alloc: Global) -> Result<Record, Fail> {
     let lead = railway("R100")?;
     let consignment = consignment("C-1")?;
     let commit = moment("2025-03-01T15:30Z")?;
-    let leg = within(0)?;
+    let leg = within32(0)?;
     let place = Some(place("DE00001")?);
     Ok(Record {
         wagon,
@@ -76,7 +76,9 @@ fn planned_with(alloc: Global, events: &[RecordEvent]) -> Result<Record, Fail> {
 
 // The first events of the first wagon's journey: its plan, release and departure, and a delay.
 fn journey() -> Result<[RecordEvent; 4], Fail> {
-    let delay = MovementKind::Exception { delay: within(45)? };
+    let delay = MovementKind::Exception {
+        delay: within32(45)?,
+    };
     Ok([
         event("R100", 1, None, RecordEventKind::Planned)?,
         movement("R100", 2, "2025-03-01T05:30Z", MovementKind::Release)?,
@@ -164,7 +166,7 @@ const WITHOUT_A_FIELD: [RecordEventKind; 8] = [
 ];
 
 fn events_of_each_kind(alloc: Global) -> Result<Vec<RecordEvent>, Fail> {
-    let (leg, minutes, delay) = (within(1)?, within(200)?, within(45)?);
+    let (leg, minutes, delay) = (within32(1)?, within32(200)?, within32(45)?);
     let place = place("AT00002")?;
     let at = Some(moment("2025-03-01T11:10Z")?);
     let mut events = Vec::new(alloc);

@@ -5,7 +5,7 @@ use crate::parts::{ONE, THREE, wagon, within};
 use crate::records::{LATE, RUNNING, planned, running};
 use std::alloc::Global;
 use std::test::Fail;
-use taf_messages::{Item, Listed, Reply, Shared, Why};
+use taf_messages::{Item, Listed, Refusal, Reply, Shared, Why};
 
 fn add_acceptances(replies: &mut Vec<Reply>) -> Result<(), Fail> {
     for no in [1, 999_999_999_999] {
@@ -14,7 +14,7 @@ fn add_acceptances(replies: &mut Vec<Reply>) -> Result<(), Fail> {
     Ok(replies.push(Reply::Acknowledged(1))?)
 }
 
-fn add_refusals(replies: &mut Vec<Reply>) -> Result<(), Fail> {
+fn add_refusals(alloc: Global, replies: &mut Vec<Reply>) -> Result<(), Fail> {
     let one = Some(wagon(ONE)?);
     let three = Some(wagon(THREE)?);
     let two = Some(within(2)?);
@@ -25,12 +25,13 @@ fn add_refusals(replies: &mut Vec<Reply>) -> Result<(), Fail> {
         (two, Why::OfferClosed, None, None),
         (None, Why::AckAhead, None, Some(5)),
     ] {
-        replies.push(Reply::Refused {
+        let refusal = Refusal {
             no,
             why,
             wagon,
             last,
-        })?;
+        };
+        replies.push(Reply::Refused(Shared::new(alloc, refusal)?))?;
     }
     Ok(())
 }
@@ -59,14 +60,15 @@ static REASONS: [Why; 20] = [
     Why::AckAhead,
 ];
 
-fn add_reasons(replies: &mut Vec<Reply>) -> Result<(), Fail> {
+fn add_reasons(alloc: Global, replies: &mut Vec<Reply>) -> Result<(), Fail> {
     for why in &REASONS {
-        replies.push(Reply::Refused {
+        let refusal = Refusal {
             no: None,
             why: *why,
             wagon: None,
             last: None,
-        })?;
+        };
+        replies.push(Reply::Refused(Shared::new(alloc, refusal)?))?;
     }
     Ok(())
 }
@@ -80,8 +82,8 @@ fn add_items(alloc: Global, replies: &mut Vec<Reply>, items: Vec<Item>) -> Resul
 fn short_replies(alloc: Global) -> Result<Vec<Reply>, Fail> {
     let mut replies = Vec::new(alloc);
     add_acceptances(&mut replies)?;
-    add_refusals(&mut replies)?;
-    add_reasons(&mut replies)?;
+    add_refusals(alloc, &mut replies)?;
+    add_reasons(alloc, &mut replies)?;
     let none = Shared::new(alloc, Listed::from_vec(Vec::new(alloc)))?;
     replies.push(Reply::Many(none))?;
     add_items(alloc, &mut replies, Vec::new(alloc))?;

@@ -67,6 +67,8 @@ pub use Rattle.taf_messages.specs.declared.record.Record.{Record}
 pub use Rattle.taf_messages.specs.declared.record.Stage.{Stage}
 pub use Rattle.taf_messages.specs.declared.record.Status.{Status}
 pub use Rattle.taf_messages.specs.declared.reply.Reply.{Reply}
+pub use Rattle.taf_messages.specs.declared.reply.Why.{Why}
+pub use Rattle.taf_messages.specs.Refusals.{refused}
 pub use Rattle.taf_messages.specs.declared.reply.Reply.TheVariants.{Accepted, Refused, One, Many, Items, Acknowledged}
 pub use Rattle.taf_messages.specs.declared.reply.Why.{Why}
 pub use Rattle.call_reader.specs.Reading.{field_of, value_or_fault, call_read}

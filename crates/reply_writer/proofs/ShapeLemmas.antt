@@ -1,5 +1,5 @@
 -- The trees that are written have rising keys, and nest seven deep at most.
-use Rattle.reply_writer.proofs.Common.{◌≡◌, ℕ, suc, List, [], ◌∷◌, true, Option, Some, None, refl, Data, Leg, UnitLoad, fields, or_null, text, at_text, wagon_text, leg_fields, leg_data, unit_fields, unit_data, body_fields, message_data, first_plan_fields, last_plan_fields, movement_fields, offer_fields, answer_fields, leg_time_fields, event_fields, event_data, estimate_fields, estimate_data, first_record_fields, middle_record_fields, last_record_fields, record_data, sub_fields, eti_fields, item_fields, item_data, reply_fields, reply_data, fault_fields, fault_data, Trip, MovementKind, Release, Departure, YardArrival, YardDeparture, Exception, Estimate, Arrival, Delivery, Message, TrainAnswer, Body, RecordEventKind, RecordEvent, Record, EstimateAt, Item, ItemBody, Notice, Sub, Eti, Eta, AlertBegins, AlertEnds, Reply, Accepted, Refused, One, Many, Items, Acknowledged, RecordFault, BadJson, BadKind, MissingField, BadField, BadPlan, Memory, is_ordered, items_are_ordered-map}
+use Rattle.reply_writer.proofs.Common.{◌≡◌, ℕ, suc, List, [], ◌∷◌, true, Option, Some, None, refl, Data, Leg, UnitLoad, fields, or_null, text, at_text, wagon_text, leg_fields, leg_data, unit_fields, unit_data, body_fields, message_data, first_plan_fields, last_plan_fields, movement_fields, offer_fields, answer_fields, leg_time_fields, event_fields, event_data, estimate_fields, estimate_data, first_record_fields, middle_record_fields, last_record_fields, record_data, sub_fields, eti_fields, item_fields, item_data, reply_fields, reply_data, fault_fields, fault_data, Trip, MovementKind, Release, Departure, YardArrival, YardDeparture, Exception, Estimate, Arrival, Delivery, Message, TrainAnswer, Body, RecordEventKind, RecordEvent, Record, EstimateAt, Item, ItemBody, Notice, Sub, Eti, Eta, AlertBegins, AlertEnds, Reply, Why, refused, Accepted, Refused, One, Many, Items, Acknowledged, RecordFault, BadJson, BadKind, MissingField, BadField, BadPlan, Memory, is_ordered, items_are_ordered-map}
 use Rattle.taf_messages.specs.declared.message.Body.TheVariants as body
 use Rattle.taf_messages.specs.declared.event.RecordEventKind.TheVariants as event_kind
 
@@ -140,17 +140,22 @@ item_at n number (AlertEnds w) = refl
 pub item_ordered : (n : ℕ) (i : Item) → is_ordered (item_data i) (suc (suc (suc (suc n)))) ≡ true
 item_ordered n i = item_at n i.number i.body
 
+refused_ordered : (n : ℕ) (number : Option ℕ) (why : Why) (wagon last : Option ℕ) →
+    is_ordered (reply_data (refused number why wagon last)) (suc (suc (suc (suc (suc (suc n)))))) ≡ true
+unfolding reply_fields
+refused_ordered n None why None None = refl
+refused_ordered n None why None (Some last) = refl
+refused_ordered n None why (Some w) None = refl
+refused_ordered n None why (Some w) (Some last) = refl
+refused_ordered n (Some number) why None None = refl
+refused_ordered n (Some number) why None (Some last) = refl
+refused_ordered n (Some number) why (Some w) None = refl
+refused_ordered n (Some number) why (Some w) (Some last) = refl
+
 pub reply_ordered : (n : ℕ) (r : Reply) → is_ordered (reply_data r) (suc (suc (suc (suc (suc (suc n)))))) ≡ true
 unfolding reply_fields
 reply_ordered n (Accepted number) = refl
-reply_ordered n (Refused None why None None) = refl
-reply_ordered n (Refused None why None (Some last)) = refl
-reply_ordered n (Refused None why (Some w) None) = refl
-reply_ordered n (Refused None why (Some w) (Some last)) = refl
-reply_ordered n (Refused (Some number) why None None) = refl
-reply_ordered n (Refused (Some number) why None (Some last)) = refl
-reply_ordered n (Refused (Some number) why (Some w) None) = refl
-reply_ordered n (Refused (Some number) why (Some w) (Some last)) = refl
+reply_ordered n (Refused r) = refused_ordered n r.no r.why r.wagon r.last
 reply_ordered n (One r) = rw (record_ordered (suc (suc n)) r) refl
 reply_ordered n (Many rs) = rw (items_are_ordered-map record_data (suc (suc (suc (suc n)))) (record_ordered (suc n)) rs) refl
 reply_ordered n (Items is) = rw (items_are_ordered-map item_data (suc (suc (suc (suc n)))) (item_ordered n) is) refl

@@ -47,9 +47,9 @@ item_data i = fields (item_fields i.number i.body)
 
 unfoldable pub reply_fields : Reply → Fields
 reply_fields (Accepted number) = field whole (codes "no") number ++ field text (codes "reply") (codes "accepted")
-reply_fields (Refused number why wagon last) =
-    field_if whole (codes "last") last ++ field_if whole (codes "no") number ++ field text (codes "reply") (codes "refused") ++
-    field_if wagon_text (codes "wagon") wagon ++ field text (codes "why") (why_name why)
+reply_fields (Refused r) =
+    field_if whole (codes "last") r.last ++ field_if whole (codes "no") r.no ++ field text (codes "reply") (codes "refused") ++
+    field_if wagon_text (codes "wagon") r.wagon ++ field text (codes "why") (why_name r.why)
 reply_fields (One r) = field record_data (codes "record") r ++ field text (codes "reply") (codes "record")
 reply_fields (Many rs) = field (list_of record_data) (codes "records") rs ++ field text (codes "reply") (codes "records")
 reply_fields (Items is) = field (list_of item_data) (codes "items") is ++ field text (codes "reply") (codes "items")

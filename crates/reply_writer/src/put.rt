@@ -8,7 +8,7 @@ ghost use Rattle.reply_writer.specs.Shapes.{at_text, load_text, leg_fields, leg_
 use json_tokens::Writer;
 use std::alloc::AllocError;
 use taf_codes::{ConsignmentId, Place, Railway, TrainId, UnitCode};
-use taf_messages::{Listed, OfferedWagons, Wagons, Within};
+use taf_messages::{Listed, OfferedWagons, Wagons, Within, Within32};
 use taf_moment::Moment;
 use trip_plan::{Leg, Load, UnitLoad};
 use wagon_number::WagonNumber;
@@ -56,6 +56,15 @@ impl<const LOW: u64, const HIGH: u64> Json for Within<LOW, HIGH> {
     #[inline]
     fn put(&self, out: &mut Writer) -> Result<(), AllocError> {
         out.u64(self.get())
+    }
+}
+
+impl<const LOW: u32, const HIGH: u32> Json for Within32<LOW, HIGH> {
+    ghost shape = { whole };
+
+    #[inline]
+    fn put(&self, out: &mut Writer) -> Result<(), AllocError> {
+        out.u64(u64::from(self.get()))
     }
 }
 

@@ -129,17 +129,13 @@ impl Object for Reply {
                 put_text(out, "reply", "accepted")?;
                 Ok(())
             }
-            Reply::Refused {
-                no,
-                why,
-                wagon,
-                last,
-            } => {
-                put_field_if(out, "last", last)?;
-                put_field_if(out, "no", no)?;
+            Reply::Refused(refusal) => {
+                let refusal = refusal.get();
+                put_field_if(out, "last", &refusal.last)?;
+                put_field_if(out, "no", &refusal.no)?;
                 put_text(out, "reply", "refused")?;
-                put_field_if(out, "wagon", wagon)?;
-                put_field(out, "why", why)?;
+                put_field_if(out, "wagon", &refusal.wagon)?;
+                put_field(out, "why", &refusal.why)?;
                 Ok(())
             }
             Reply::One(shown) => {

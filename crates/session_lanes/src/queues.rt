@@ -12,7 +12,11 @@ use std::alloc::Global;
 use std::marker::Model;
 use std::sync::Wait;
 use std::sync::atomic::{AtomicBool, Ordering};
+use std::thread;
 use taf_codes::Memory;
+
+// How often a thread lets others run before it sleeps.
+const YIELDS: u32 = 4;
 
 /// The jobs of a lane on their way to its worker, which sleeps while there is none.
 ///
@@ -75,14 +79,34 @@ impl JobQueue {
         Ok(())
     }
 
-    /// The job that was put first. It sleeps while there is none; none comes once the queue was ended and is found empty, as
-    /// [`Inbox::take`] says.
+    // The job that was put first, if it is there, or comes while others run.
+    fn take_soon<R: Wait>(&self, rt: &R, pass: &mut Pass) -> Option<Job>
+        requires own { pass.old.inbox ≡ self.now.id }
+        ensures taken { IfSome result (λ job. pass.new ≡ after_take pass.old job) }
+        ensures none { IfNone result (pass.new ≡ pass.old) }
+    {
+        for _ in 0..YIELDS {
+            let job = self.inbox.take(rt, pass);
+            if job.is_some() {
+                return job;
+            }
+            thread::yield_now();
+        }
+        None
+    }
+
+    /// The job that was put first. It sleeps while there is none, once it has let others run a few times; none comes once the
+    /// queue was ended and is found empty, as [`Inbox::take`] says.
     pub fn next<R: Wait>(&self, rt: &R, pass: &mut Pass) -> Option<Job>
         requires own { pass.old.inbox ≡ self.now.id }
         ensures taken { IfSome result (λ job. pass.new ≡ after_take pass.old job) }
         ensures none { IfNone result (pass.new ≡ pass.old) }
         ensures empty { IfNone result (HeldSoMany 0 pass.old) }
     {
+        let job = self.take_soon(rt, pass);
+        if job.is_some() {
+            return job;
+        }
         for _ in rt.forever() {
             let waiting = self.arrived.prepare_wait();
             let last = self.ended.load(Ordering::SeqCst);
@@ -140,6 +164,10 @@ impl AnswerQueue {
 
     /// The answer that was put first. It sleeps while there is none; none comes once the queue was ended and is found empty.
     pub fn next<R: Wait>(&self, rt: &R) -> Option<Done> {
+        let done = self.answers.pop(rt);
+        if done.is_some() {
+            return done;
+        }
         for _ in rt.forever() {
             let waiting = self.arrived.prepare_wait();
             let last = self.ended.load(Ordering::SeqCst);
@@ -152,9 +180,15 @@ impl AnswerQueue {
         unreachable!()
     }
 
-    /// Whether an answer is there.
+    /// Whether an answer is there, or comes while others run.
     pub fn is_ready(&self) -> bool {
-        !self.answers.is_empty()
+        for _ in 0..YIELDS {
+            if !self.answers.is_empty() {
+                return true;
+            }
+            thread::yield_now();
+        }
+        false
     }
 
     /// Whether the queue was ended.

@@ -37,6 +37,8 @@ use Rattle.taf_messages.specs.contracts.item.ItemBodyPartialEq.TheImpl as ItemBo
 use Rattle.taf_messages.specs.declared.item.Item.{Item}
 use Rattle.taf_messages.specs.contracts.item.ItemPartialEq.TheImpl as ItemEq
 use Rattle.taf_messages.specs.contracts.item.ItemEq.TheImpl.Laws as ItemLaws
+use Rattle.taf_messages.specs.declared.reply.Refusal.{Refusal}
+use Rattle.taf_messages.specs.contracts.reply.RefusalPartialEq.TheImpl as RefusalEq
 use Rattle.taf_messages.specs.declared.reply.Reply.{Reply}
 use Rattle.taf_messages.specs.declared.reply.Reply.TheVariants as reply
 use Rattle.taf_messages.specs.contracts.reply.ReplyPartialEq.TheImpl as ReplyEq
@@ -78,14 +80,14 @@ event_kind_equal _ _ h = cc
 
 event_equal : (a b : RecordEvent) → RecordEventEq.ghosts.eq a b ≡ true → a ≡ b
 event_equal a b h =
-    let p1 = both (bytes_eq a.by b.by) _ h in
-    let p2 = both (a.no == b.no) _ p1.1 in
+    let p1 = both (a.no == b.no) _ h in
+    let p2 = both (bytes_eq a.by b.by) _ p1.1 in
     let p3 = both (option_eq nat_eq a.at b.at) _ p2.1 in
-    let by = texts.equal _ _ p1.0 in
-    let number = numbers.equal _ _ p2.0 in
+    let number = numbers.equal _ _ p1.0 in
+    let by = texts.equal _ _ p2.0 in
     let at = options_equal nat_eq numbers.equal a.at b.at p3.0 in
     let what = event_kind_equal a.what b.what p3.1 in
-    λ i. record { by = by i; no = number i; at = at i; what = what i }
+    λ i. record { no = number i; by = by i; at = at i; what = what i }
 
 estimate_equal : (a b : EstimateAt) → EstimateAtEq.ghosts.eq a b ≡ true → a ≡ b
 estimate_equal a b h =
@@ -189,17 +191,20 @@ item_equal a b h =
 pub items : IsEquality ItemEq.ghosts.eq
 items = record { equal = item_equal; itself = ItemLaws.laws-law.refl }
 
+refusal_equal : (a b : Refusal) → RefusalEq.ghosts.eq a b ≡ true → a ≡ b
+refusal_equal a b h =
+    let p1 = both (option_eq nat_eq a.no b.no) _ h in
+    let p2 = both (WhyEq.ghosts.eq a.why b.why) _ p1.1 in
+    let p3 = both (option_eq nat_eq a.wagon b.wagon) _ p2.1 in
+    let e1 = options_equal nat_eq numbers.equal a.no b.no p1.0 in
+    let e2 = why_equal a.why b.why p2.0 in
+    let e3 = options_equal nat_eq numbers.equal a.wagon b.wagon p3.0 in
+    let e4 = options_equal nat_eq numbers.equal a.last b.last p3.1 in
+    λ i. record { no = e1 i; why = e2 i; wagon = e3 i; last = e4 i }
+
 reply_equal : (a b : Reply) → ReplyEq.ghosts.eq a b ≡ true → a ≡ b
 reply_equal (reply.Accepted n) (reply.Accepted k) h = let e = numbers.equal n k h in cc
-reply_equal (reply.Refused n why w last) (reply.Refused k how v also) h =
-    let p1 = both (option_eq nat_eq n k) _ h in
-    let p2 = both (WhyEq.ghosts.eq why how) _ p1.1 in
-    let p3 = both (option_eq nat_eq w v) _ p2.1 in
-    let e1 = options_equal nat_eq numbers.equal n k p1.0 in
-    let e2 = why_equal why how p2.0 in
-    let e3 = options_equal nat_eq numbers.equal w v p3.0 in
-    let e4 = options_equal nat_eq numbers.equal last also p3.1 in
-    λ i. reply.Refused (e1 i) (e2 i) (e3 i) (e4 i)
+reply_equal (reply.Refused r) (reply.Refused s) h = ap reply.Refused (refusal_equal r s h)
 reply_equal (reply.One r) (reply.One s) h = ap reply.One (record_equal r s h)
 reply_equal (reply.Many rs) (reply.Many ss) h = ap reply.Many (lists_equal RecordEq.ghosts.eq record_equal rs ss h)
 reply_equal (reply.Items is) (reply.Items js) h = ap reply.Items (lists_equal ItemEq.ghosts.eq item_equal is js h)

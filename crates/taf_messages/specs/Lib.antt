@@ -6,3 +6,4 @@ pub mod Names
 pub mod Details
 pub mod Faults
 pub mod Kept
+pub mod Refusals

@@ -28,7 +28,7 @@ pub fn copy_item(item: &Item) -> Result<Item, Memory>
     Ok(item.clone()?)
 }
 
-/// The same reply. It shares the records and the items.
+/// The same reply. It shares the refusal, the records and the items.
 pub fn copy_reply(reply: &Reply) -> Result<Reply, Memory>
     ensures { IfOk result (λ copy. copy ≡ reply.now) }
 {

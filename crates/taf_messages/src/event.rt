@@ -6,11 +6,11 @@ use crate::number::{Delay, LegIndex, LegMinutes, MessageNumber};
 use taf_codes::{Place, Railway};
 use taf_moment::Moment;
 
-/// What is shown of one message in a wagon's record.
+/// What is shown of one message in a wagon's record. A history keeps many of them, so the fields lie without gaps.
 #[derive(Clone, Copy, Debug, PartialEq, Eq)]
 pub struct RecordEvent {
-    pub by: Railway,
     pub no: MessageNumber,
+    pub by: Railway,
     pub at: Option<Moment>,
     pub what: RecordEventKind,
 }

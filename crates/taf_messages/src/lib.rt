@@ -5,7 +5,7 @@
 //!
 //! - [`Message`] with its [`Content`], [`Call`], [`Item`], [`Reply`] and [`Record`] are plain values.
 //!   No message says a plan of another lead than its sender.
-//!   Numbers keep their limits by type ([`Within`]), as do lists of wagons ([`Wagons`],
+//!   Numbers keep their limits by type ([`Within`], [`Within32`]), as do lists of wagons ([`Wagons`],
 //!   [`OfferedWagons`]). [`Listed`] is a list that contracts see as its elements, [`Shared`] a value
 //!   that copies share and that contracts see as itself.
 //! - [`Kind`], [`BodyName`] and [`MovementName`] are the kinds of records with their names, [`Field`] the fields with
@@ -13,7 +13,7 @@
 //! - [`same`] is equality of sender, number and content. `==` of calls, items and replies is
 //!   equality, and copies equal their source. The copy of a call or of an item shares its message,
 //!   and a message's own copy what a plan, a route, an offer or an answer says; the copy of a reply
-//!   shares its records and its items.
+//!   shares its refusal, its records and its items.
 //!
 //! A copy answers `Memory` where memory is refused, or one value is shared too often.
 #![tactic(auto)]
@@ -46,8 +46,10 @@ pub use kind::{BodyName, Kind, MovementName};
 pub use listed::{EstimateList, ItemList, Listed, RecordEvents, Records, Units};
 pub use message::{Body, Content, Message, TrainAnswer, TrainOffer};
 pub use movement::{Movement, MovementKind};
-pub use number::{Delay, FetchLimit, ItemNumber, LegIndex, LegMinutes, MessageNumber, Within};
+pub use number::{
+    Delay, FetchLimit, ItemNumber, LegIndex, LegMinutes, MessageNumber, Within, Within32,
+};
 pub use record::{EstimateAt, Record, Stage, Status};
-pub use reply::{Reply, Why};
+pub use reply::{Refusal, Reply, Why};
 pub use shared::Shared;
 pub use wagons::{OfferedWagons, Wagons};

@@ -39,6 +39,45 @@ impl<const LOW: u64, const HIGH: u64> Within<LOW, HIGH> {
     }
 }
 
+/// A number from `LOW` to `HIGH`, in half the memory.
+#[derive(Clone, Copy, Debug, PartialEq, Eq, PartialOrd, Ord, Hash)]
+pub struct Within32<const LOW: u32, const HIGH: u32> {
+    number: u32,
+}
+
+impl<const LOW: u32, const HIGH: u32> Model for Within32<LOW, HIGH> {
+    ghost Value = { ℕ };
+
+    ghost view = { λ a. a.number };
+
+    ghost invariant = { λ a. (LOW ≤ a.number) × (a.number ≤ HIGH) };
+
+    ghost inverse = { λ n. record { number = n } };
+}
+
+impl<const LOW: u32, const HIGH: u32> Within32<LOW, HIGH> {
+    /// The number, if it keeps the limits.
+    pub fn new(number: u64) -> Option<Self>
+        ensures { result ≡ (if nat_le LOW number && nat_le number HIGH then Some number else None) }
+    {
+        if u64::from(LOW) <= number && number <= u64::from(HIGH) {
+            Some(Within32 {
+                number: number as u32,
+            })
+        } else {
+            None
+        }
+    }
+
+    pub fn get(self) -> u32
+        ensures value { result ≡ self.entry }
+        ensures low { LOW ≤ result }
+        ensures high { result ≤ HIGH }
+    {
+        self.number
+    }
+}
+
 /// The number of a message, which its sender chose: 1 to 999,999,999,999.
 pub type MessageNumber = Within<1, 999_999_999_999>;
 
@@ -46,13 +85,13 @@ pub type MessageNumber = Within<1, 999_999_999_999>;
 pub type ItemNumber = Within<0, 999_999_999_999>;
 
 /// A leg of a plan, counted from 0: 0 to 7.
-pub type LegIndex = Within<0, 7>;
+pub type LegIndex = Within32<0, 7>;
 
 /// The minutes of a leg: 1 to 100,000.
-pub type LegMinutes = Within<1, 100_000>;
+pub type LegMinutes = Within32<1, 100_000>;
 
 /// The minutes of a delay: 0 to 100,000.
-pub type Delay = Within<0, 100_000>;
+pub type Delay = Within32<0, 100_000>;
 
 /// How many items are fetched at most: 1 to 50.
 pub type FetchLimit = Within<1, 50>;

@@ -63,18 +63,23 @@ impl Why {
     }
 }
 
-/// What the hub answers to a call. Copies share the records and the items.
+/// How a call is refused.
+#[derive(Clone, Copy, Debug, PartialEq, Eq)]
+pub struct Refusal {
+    /// The number of the message that is refused. None where a question or an acknowledgement is.
+    pub no: Option<MessageNumber>,
+    pub why: Why,
+    /// The wagon for which it is refused, where it is for one.
+    pub wagon: Option<WagonNumber>,
+    /// The last item of the railway that acknowledges a later one.
+    pub last: Option<u64>,
+}
+
+/// What the hub answers to a call. Copies share the refusal, the records and the items, so that a reply takes little place.
 #[derive(Debug, PartialEq, Eq, Drop)]
 pub enum Reply {
-    Accepted {
-        no: MessageNumber,
-    },
-    Refused {
-        no: Option<MessageNumber>,
-        why: Why,
-        wagon: Option<WagonNumber>,
-        last: Option<u64>,
-    },
+    Accepted { no: MessageNumber },
+    Refused(Shared<Refusal>),
     One(Shared<Record>),
     Many(Shared<Records>),
     Items(Shared<ItemList>),
@@ -87,17 +92,7 @@ impl Clone for Reply {
     fn clone(&self) -> Result<Reply, AllocError> {
         Ok(match self {
             Reply::Accepted { no } => Reply::Accepted { no: *no },
-            Reply::Refused {
-                no,
-                why,
-                wagon,
-                last,
-            } => Reply::Refused {
-                no: *no,
-                why: *why,
-                wagon: *wagon,
-                last: *last,
-            },
+            Reply::Refused(refusal) => Reply::Refused(refusal.clone()?),
             Reply::One(known) => Reply::One(known.clone()?),
             Reply::Many(known) => Reply::Many(known.clone()?),
             Reply::Items(items) => Reply::Items(items.clone()?),

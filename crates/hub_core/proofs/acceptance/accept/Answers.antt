@@ -48,7 +48,7 @@ returns c = record {
       let entry : Reply → Entry = λ reply. record { call = Send m; reply = reply } in
       let entered : c.push_reserved.new.self.entries ≡ b.history.entries ++ entry (Accepted m.no) ∷ [] =
       ap (λ (p : Paged Entry). p.entries) c.push_reserved.ensures ∙
-      ap (λ (e : Entry). n.history.entries ++ e ∷ []) (c.entry_of.ensures ∙ ap entry (c.verdict.ensures ∙ ap (λ (x : Message). Accepted x.no) same)) ∙
+      ap (λ (e : Entry). n.history.entries ++ e ∷ []) (c.entry_of.ensures ∙ ap entry (ap (λ (x : Message). Accepted x.no) same)) ∙
       ap (λ (es : List Entry). es ++ entry (Accepted m.no) ∷ []) r.entries in
       let len : c.len-position.result ≡ length b.history.entries = c.len-position.ensures.value ∙ ap length r.entries in
       subst (λ (es : List Entry). Represents es (table_state c.accept.new.self) (position_of c.note_reserved.new.self) (outbox_state_of c.deliver.new.outboxes)) (sym entered)
@@ -63,7 +63,7 @@ returns c = record {
       ap (λ (k : OutboxState). with_items k (items_to q c.make_room.new.state.items.items)) (r.boxes q) ∙
       ap (λ (is : List AddressedItem). with_items (outbox_state_of b.outboxes q) (items_to q is)) (r.items ∙ c.in_ok-put_items.ensures)));
   answered = let b = c.args.state.now in
-      c.verdict-2.ensures ∙ ap (λ (x : Message). Accepted x.no) (c.content-content.ensures.value ∙ c.get-sent.ensures) ∙
+      ap (λ (x : Message). Accepted x.no) (c.content-content.ensures.value ∙ c.get-sent.ensures) ∙
       new_answer b.history.entries c.args.message (table_state b.tables) (position_of b.seen) (outbox_state_of b.outboxes) c.requires.ready.0 c.requires.ready.1 c.requires.new.1 c.requires.new.0 None c.requires.acceptable.sound;
   grows = search rules;
   err = search rules;

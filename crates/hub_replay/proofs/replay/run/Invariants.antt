@@ -4,7 +4,7 @@ use Rattle.hub_replay.proofs.replay.run.Given as goal
 -- what was read is answered up to the beginning of a line that is kept
 abbrev pub invariant-chunks : goal.invariant-chunks
 invariant-chunks g l =
-    (l.kept_len ≤ 65536) × (length l.buffer ≡ 4259840) × (l.total ≤ 2 ^ 40)
+    (l.kept_len ≤ 65536) × (length l.buffer ≡ 2162688) × (l.total ≤ 2 ^ 40)
     × (line_total l.output.counts + 2 * l.kept_len ≤ 2 * l.total)
     × (g.R.Source.failures l.reader ≡ g.R.Source.failures l.initial.reader)
     × (g.W.Sink.failures l.writer ≡ g.W.Sink.failures l.initial.writer)
