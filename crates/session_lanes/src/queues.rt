@@ -86,9 +86,8 @@ impl JobQueue {
         ensures none { IfNone result (pass.new ≡ pass.old) }
     {
         for _ in 0..YIELDS {
-            let job = self.inbox.take(rt, pass);
-            if job.is_some() {
-                return job;
+            if let Some(job) = self.inbox.take(rt, pass) {
+                return Some(job);
             }
             thread::yield_now();
         }
@@ -103,9 +102,8 @@ impl JobQueue {
         ensures none { IfNone result (pass.new ≡ pass.old) }
         ensures empty { IfNone result (HeldSoMany 0 pass.old) }
     {
-        let job = self.take_soon(rt, pass);
-        if job.is_some() {
-            return job;
+        if let Some(job) = self.take_soon(rt, pass) {
+            return Some(job);
         }
         for _ in rt.forever() {
             let waiting = self.arrived.prepare_wait();
@@ -164,9 +162,8 @@ impl AnswerQueue {
 
     /// The answer that was put first. It sleeps while there is none; none comes once the queue was ended and is found empty.
     pub fn next<R: Wait>(&self, rt: &R) -> Option<Done> {
-        let done = self.answers.pop(rt);
-        if done.is_some() {
-            return done;
+        if let Some(done) = self.answers.pop(rt) {
+            return Some(done);
         }
         for _ in rt.forever() {
             let waiting = self.arrived.prepare_wait();
