@@ -15,7 +15,7 @@ use taf_messages::Record;
 pub fn view(alloc: Global, tables: &Tables) -> Result<Vec<Record>, Memory>
     ensures { IfOk result (λ v. v.items ≡ of.view (table_state tables.now)) }
 {
-    let mut records = Vec::new(alloc);
+    let mut records = Vec::with_capacity(alloc, tables.fleet_len())?;
     for i in 0..tables.fleet_len() {
         records.push(record_at(alloc, tables, i)?)?;
     }
