@@ -9,7 +9,7 @@
 //! reader gave as many. Of what was read at once the first batch has about 16,384 bytes, and each other a quarter as many
 //! more than the one before, up to 1,048,576. The hub is called by the one thread that calls [`run`], in the order of the lines.
 //!
-//! Of the input no more than 4,259,840 bytes are held at once, beside what the lines of two batches say, and of the output
+//! Of the input no more than 2,162,688 bytes are held at once, beside what the lines of two batches say, and of the output
 //! the lines of one call and of the faults before it. Each reply is handed to the writer before the next call goes to the
 //! hub, and the writer is flushed before more input is read, so that a program which waits for a reply before it writes
 //! its next line gets it.
