@@ -124,7 +124,7 @@ def texts_of(key):
 
 def limits():
     """The limits of each type of number, under the type's name in small letters."""
-    found = re.findall(r"pub type (\w+) = Within<(\w+), (\w+)>", sources("taf_messages/src/number.rt"))
+    found = re.findall(r"pub type (\w+) = Within(?:32)?<(\w+), (\w+)>", sources("taf_messages/src/number.rt"))
     return {re.sub(r"(?<!^)([A-Z])", r"_\1", name).lower(): (int(low), int(high)) for name, low, high in found}
 
 

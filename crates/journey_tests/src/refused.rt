@@ -26,11 +26,13 @@ static LEGS: &str = "R101:DE00001:AT00002:300 R102:AT00002:IT00003:240";
 // So many bytes as no track and no record of these lines need.
 const AMPLE: usize = 1 << 16;
 
-// What is left, and how often memory was refused.
+// What is left, how often memory was refused, and what was made so far: it is kept, so that its memory is not used again.
 #[derive(Drop)]
 struct Scarcity {
     memory_limit: MemoryLimit,
     refused: u32,
+    tracks: Vec<Track>,
+    records: Vec<Record>,
 }
 
 impl Scarcity {
@@ -127,6 +129,7 @@ impl Scarcity {
         self.memory_limit.limit_to(for_record)?;
         let shown = self.record(alloc, &track)?;
         self.memory_limit.release();
+        self.tracks.push(track)?;
         Ok(shown)
     }
 
@@ -139,9 +142,11 @@ impl Scarcity {
         wanted: &Record,
     ) -> Result<bool, Fail> {
         self.refused = 0;
-        if self.journey(alloc, for_track, for_record)? != *wanted {
+        let shown = self.journey(alloc, for_track, for_record)?;
+        if shown != *wanted {
             return Err(Fail::new("another record"));
         }
+        self.records.push(shown)?;
         Ok(self.refused == 0)
     }
 
@@ -182,6 +187,8 @@ fn each_growth_is_refused_in_turn(rt: HostRuntime) -> Result<(), Fail> {
     let mut scarcity = Scarcity {
         memory_limit,
         refused: 0,
+        tracks: Vec::new(rt.alloc()),
+        records: Vec::new(rt.alloc()),
     };
     let wanted = scarcity.journey(rt.alloc(), AMPLE, AMPLE)?;
     assert!(rt; scarcity.refused == 0);

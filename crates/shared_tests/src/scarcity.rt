@@ -213,7 +213,7 @@ fn each_growth_is_refused_in_turn(rt: HostRuntime) -> Result<(), Fail> {
     Ok(())
 }
 
-// Whether so many bytes are enough for room for sixteen entries. Fails unless the tally is as it was where they aren't, and has
+// Whether so many bytes are enough for room for sixty-four entries. Fails unless the tally is as it was where they aren't, and has
 // room then with ample memory.
 fn is_enough_room(
     alloc: Global,
@@ -222,9 +222,9 @@ fn is_enough_room(
 ) -> Result<bool, Fail> {
     let mut tally = Tally::new(alloc);
     memory_limit.limit_to(left)?;
-    let is_made = tally.reserve(16).is_ok();
+    let is_made = tally.reserve(64).is_ok();
     memory_limit.release();
-    if !tally.entries().is_empty() || tally.reserve(16).is_err() {
+    if !tally.entries().is_empty() || tally.reserve(64).is_err() {
         return Err(Fail::new("another tally"));
     }
     Ok(is_made)
