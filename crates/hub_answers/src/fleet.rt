@@ -1,5 +1,5 @@
-//! The records of all wagons (4.2.11).
-ghost use Rattle.std.specs.Prelude.{◌≡◌, ◌<◌, length, slice_get, Some, IfOk};
+//! The records of planned wagons (4.2.11).
+ghost use Rattle.std.specs.Prelude.{◌≡◌, ◌<◌, length, take, drop, slice_get, Some, IfOk};
 ghost use Rattle.wimo.specs.Records.{record_of};
 ghost use Rattle.wagon_number.specs.declared.number.WagonNumber.{WagonNumber};
 ghost use Rattle.hub_model.specs.Replies as of;
@@ -10,14 +10,21 @@ use std::alloc::Global;
 use taf_codes::Memory;
 use taf_messages::Record;
 
-/// The records of all wagons that were planned, in the order of their first plans. The only error is
-/// that memory was refused.
-pub fn view(alloc: Global, tables: &Tables) -> Result<Vec<Record>, Memory>
-    ensures { IfOk result (λ v. v.items ≡ of.view (table_state tables.now)) }
+/// The records of planned wagons, in the order of their first plans: from this place of the order on, which is counted from
+/// 0, and at most so many. The only error is that memory was refused.
+pub fn view_part(
+    alloc: Global,
+    tables: &Tables,
+    from: usize,
+    most: usize,
+) -> Result<Vec<Record>, Memory>
+    ensures { let s = table_state tables.now in
+        IfOk result (λ v. v.items ≡ of.records_of s (take most (drop from s.fleet))) }
 {
-    let mut records = Vec::with_capacity(alloc, tables.fleet_len())?;
-    for i in 0..tables.fleet_len() {
-        records.push(record_at(alloc, tables, i)?)?;
+    let count = tables.fleet_len().saturating_sub(from).min(most);
+    let mut records = Vec::with_capacity(alloc, count)?;
+    for i in 0..count {
+        records.push(record_at(alloc, tables, from + i)?)?;
     }
     Ok(records)
 }

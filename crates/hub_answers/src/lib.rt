@@ -4,7 +4,7 @@
 //!   intermodal unit on it (4.2.11).
 //! - [`deviation`] gives the lead railway of a consignment the records of those wagons that are
 //!   expected after what was promised to the customer (4.2.6).
-//! - [`view`] gives the records of all wagons.
+//! - [`view_part`] gives the records of wagons in the order of their first plans, all or some in a row.
 //! - [`apart`] tells whether two messages share nothing, so that they may come in either order.
 //!
 //! | asked for | refused as | where |
@@ -18,7 +18,7 @@
 //!
 //! Promised: for all tables each call gives exactly what `hub_model` defines by the same name, at
 //! the `table_state` of the tables (`hub_tables`). [`Memory`](taf_codes::Memory) may come in place
-//! of a reply or of a view, and no other error. [`apart`] takes no memory. That
+//! of a reply or of records, and no other error. [`apart`] takes no memory. That
 //! messages which are apart get the same replies in either order is a law of `hub_model`.
 #![tactic(auto)]
 
@@ -30,5 +30,5 @@ mod overtaking;
 
 pub use asking::{ask, ask_unit};
 pub use deviations::deviation;
-pub use fleet::view;
+pub use fleet::view_part;
 pub use overtaking::apart;

@@ -7,7 +7,7 @@ use std::io::{BufWriter, Read, Write};
 use std::mem::forget;
 use std::thread::Threads;
 use taf_codes::{Sink, Source, Std};
-use wimo_report::lines;
+use wimo_report::hub_lines;
 
 // How many bytes of replies are gathered before they are written.
 const GATHERED: usize = 65_536;
@@ -52,6 +52,5 @@ fn report_of(
     hub: &mut Hub,
 ) -> Result<Vec<String>, Fault> {
     run(rt, alloc, reader, writer, hub)?;
-    let view = hub.view()?;
-    Ok(lines(rt, alloc, &view)?)
+    Ok(hub_lines(rt, alloc, hub)?)
 }

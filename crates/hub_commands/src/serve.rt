@@ -8,7 +8,7 @@ use std::mem::forget;
 use std::net::{Ipv4Addr, Net, OpenListener, OpenStream, TcpListener};
 use std::sync::Wait;
 use std::thread::Threads;
-use wimo_report::lines;
+use wimo_report::hub_lines;
 
 /// Listens on the port of this machine alone, serves one shift there, and prints what it comes to.
 pub fn perform<R, W, E>(
@@ -46,16 +46,13 @@ where
     L::Stream: Read + Write + OpenStream + Send + Drop,
 {
     let SettledShift { shift, calls } = serve_connections(rt, alloc, listener, size)?;
-    let report = match shift.hub.view() {
-        Ok(view) => lines(rt, alloc, &view),
-        Err(refused) => Err(refused),
-    };
+    let lines = hub_lines(rt, alloc, &shift.hub);
     // The program ends here. To give back the memory of each call would take as long as many calls.
     forget(shift);
-    let report = report?;
+    let lines = lines?;
     let Ok(()) = output.write_fmt(format_args!("settled {calls}\n")) else {
         return Err(Fault::Write);
     };
-    print(&mut output, &report)?;
+    print(&mut output, &lines)?;
     Ok(0)
 }

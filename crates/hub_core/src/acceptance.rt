@@ -59,7 +59,7 @@ pub(crate) fn accept(
     make_room(state)?;
     state.tables.accept(alloc, sent, events)?;
     deliver(&mut state.outboxes, &mut state.items);
-    let position = state.history.len() as u64;
+    let position = state.history.len() as u32;
     state.seen.note_reserved(by, no, position);
     state
         .history

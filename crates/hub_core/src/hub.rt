@@ -1,5 +1,5 @@
-ghost use Rattle.std.specs.Prelude.{◌≡◌, ◌↔◌, ◌<◌, ◌≤◌, [], ◌∷◌, ◌++◌, List, length, map, slice_get, option_copied, IfOk, IfErr, OnErr, IsTrue, Err};
-ghost use Rattle.hub_model.specs.Replies.{view};
+ghost use Rattle.std.specs.Prelude.{◌≡◌, ◌↔◌, ◌<◌, ◌≤◌, [], ◌∷◌, ◌++◌, List, length, map, take, drop, slice_get, option_copied, IfOk, IfErr, OnErr, IsTrue, Err};
+ghost use Rattle.hub_model.specs.Replies.{records_of, view};
 ghost use Rattle.hub_model.specs.Histories.{IsLegal, answer, run, state_of};
 ghost use Rattle.hub_model.specs.Bounds.{AreWithinLimits};
 ghost use Rattle.hub_model.specs.Laws.{AreDated};
@@ -9,7 +9,7 @@ ghost use Rattle.hub_core.specs.Faults.{IsFault};
 use crate::applying::apply_call;
 use crate::state::State;
 use crate::view::View;
-use hub_answers::{apart, view};
+use hub_answers::{apart, view_part};
 use hub_model::{Entry, histories_are_runs};
 use std::alloc::Global;
 use std::marker::Model;
@@ -110,7 +110,23 @@ impl Hub {
     pub fn view(&self) -> Result<View, Memory>
         ensures { IfOk result (λ v. v ≡ view (state_of self.now)) }
     {
-        let records = view(self.alloc, &self.state.tables)?;
+        let view = self.view_part(0, self.wagon_count())?;
+        Ok(view)
+    }
+
+    /// How many wagons were planned, each counted once.
+    pub fn wagon_count(&self) -> usize
+        ensures { result ≡ length (state_of self.now).fleet }
+    {
+        self.state.tables.fleet_len()
+    }
+
+    /// Part of [`Hub::view`]: the records from this place on, which is counted from 0, and at most so many.
+    pub fn view_part(&self, from: usize, most: usize) -> Result<View, Memory>
+        ensures { let s = state_of self.now in
+            IfOk result (λ v. v ≡ records_of s (take most (drop from s.fleet))) }
+    {
+        let records = view_part(self.alloc, &self.state.tables, from, most)?;
         Ok(View::from_vec(records))
     }
 

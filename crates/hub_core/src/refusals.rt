@@ -31,7 +31,7 @@ pub(crate) fn refuse(
     let reply = refusal_of(alloc, no, found)?;
     let reply_copy = copy_reply(&reply)?;
     state.history.reserve()?;
-    let position = state.history.len() as u64;
+    let position = state.history.len() as u32;
     state.seen.note_reserved(by, no, position);
     state.history.push_reserved(entry_of(message, reply));
     Ok(reply_copy)

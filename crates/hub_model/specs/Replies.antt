@@ -61,6 +61,10 @@ reply_to s (Deviation by c) = deviation_reply s by (s.plan_of c)
 reply_to s (Fetch by limit) = Items (items_to_fetch (s.outbox by) (s.acknowledged by) limit)
 reply_to s (Ack by n) = ack_reply s by n
 
+-- the records of wagons
+abbrev pub records_of : HubState → List ℕ → List Record
+records_of s wagons = filter_map (λ w. record_of w (s.journey w)) wagons
+
 -- the records of all wagons that were planned, in the order of their first plans
 abbrev pub view : HubState → List Record
-view s = filter_map (λ w. record_of w (s.journey w)) s.fleet
+view s = records_of s s.fleet

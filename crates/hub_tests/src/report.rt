@@ -1,9 +1,10 @@
-//! The report of the wagons: by one thread and by many, of many wagons, and with each growth refused in turn.
+//! The report of the wagons: by one thread and by many, of a view and of a hub, of many wagons, and with each growth refused in
+//! turn.
 
 use crate::changes::WITH_UNIT;
 use crate::many::{MOST_WAGONS_AND_LEGS, NINE_LEGS, WAGONS_61, delays};
 use crate::play::{DEPARTED, new_hub, no_difference, output_of};
-use hub_core::View;
+use hub_core::{Hub, View};
 use memory_limit::MemoryLimit;
 use std::alloc::Global;
 use std::test::Fail;
@@ -11,7 +12,8 @@ use std::thread::Threads;
 use taf_codes::Memory;
 use taf_messages::Record;
 use test_scripts::{Script, add_line, count_lines};
-use wimo_report::{lines, plain_lines};
+use wagon_number::WagonNumber;
+use wimo_report::{hub_lines, lines, plain_lines};
 
 const OF_TWO: &str = "wagons 2
 218124712173 R100 R101 0 running   ------- 2025-03-01T15:00Z         0 loaded_on_journey
@@ -62,11 +64,11 @@ static REPORTS: &[(&[&str], usize, &str)] = &[
     (&[WAGONS_61], 1, "wagons 0\n"),
 ];
 
-// The view after these calls.
-fn view_after(rt: &impl Threads, alloc: Global, input: &[u8]) -> Result<View, Fail> {
+// A hub after these calls.
+fn hub_after(rt: &impl Threads, alloc: Global, input: &[u8]) -> Result<Box<Hub>, Fail> {
     let mut hub = new_hub(alloc)?;
     output_of(rt, alloc, &mut hub, input)?;
-    Ok(hub.view()?)
+    Ok(hub)
 }
 
 fn joined(alloc: Global, lines: &[String]) -> Result<Vec<u8>, Fail> {
@@ -78,13 +80,24 @@ fn joined(alloc: Global, lines: &[String]) -> Result<Vec<u8>, Fail> {
 }
 
 // The report of the view. Fails unless it is the same by one thread and by many.
-fn report_of(rt: &(impl Threads + Sync), alloc: Global, view: &View) -> Result<Vec<u8>, Fail> {
+fn report_of_view(rt: &(impl Threads + Sync), alloc: Global, view: &View) -> Result<Vec<u8>, Fail> {
     let plain = plain_lines(alloc, view)?;
     let parallel = lines(rt, alloc, view)?;
     if plain == parallel {
         joined(alloc, &plain)
     } else {
         Err(Fail::new("threads make other lines"))
+    }
+}
+
+// The report of the hub. Fails unless it is that of its view.
+fn report_of(rt: &(impl Threads + Sync), alloc: Global, hub: &Hub) -> Result<Vec<u8>, Fail> {
+    let whole = report_of_view(rt, alloc, &hub.view()?)?;
+    let report = joined(alloc, &hub_lines(rt, alloc, hub)?)?;
+    if report == whole {
+        Ok(report)
+    } else {
+        Err(Fail::new("a hub makes other lines than its view"))
     }
 }
 
@@ -96,8 +109,8 @@ fn reports(
     count: usize,
     wanted: &str,
 ) -> Result<(), Fail> {
-    let view = view_after(rt, alloc, input)?;
-    let report = report_of(rt, alloc, &view)?;
+    let hub = hub_after(rt, alloc, input)?;
+    let report = report_of(rt, alloc, &hub)?;
     let front = report.get(..wanted.len()).unwrap_or(&report);
     no_difference(front, wanted.as_bytes())?;
     if count_lines(&report) == count {
@@ -152,7 +165,7 @@ static A_UNIT: &[&str] = &[WITH_UNIT];
 // A view of twice so many wagons, every other one with a unit.
 fn many_wagons(rt: &impl Threads, alloc: Global, times: u32) -> Result<View, Fail> {
     let script = Script::of(alloc, A_UNIT)?;
-    let view = view_after(rt, alloc, &script.input)?;
+    let view = hub_after(rt, alloc, &script.input)?.view()?;
     let mut records = Vec::new(alloc);
     for minutes in 0..times {
         add_expected(&mut records, view.records(), minutes)?;
@@ -163,9 +176,57 @@ fn many_wagons(rt: &impl Threads, alloc: Global, times: u32) -> Result<View, Fai
 #[test]
 fn threads_make_the_plain_lines(rt: HostRuntime) -> Result<(), Fail> {
     let view = many_wagons(&rt, rt.alloc(), 1_500)?;
-    let report = report_of(&rt, rt.alloc(), &view)?;
+    let report = report_of_view(&rt, rt.alloc(), &view)?;
     assert!(rt; report.starts_with(b"wagons 3000\n"));
     assert_eq!(rt; count_lines(&report), 3_001);
+    Ok(())
+}
+
+// The pieces of a plan between its number, its number again, and its wagon.
+const PLANNED: [&str; 4] = [
+    r#"{"commit":"2025-03-01T15:00Z","consignment":"C-"#,
+    r#"","from":"R100","kind":"plan","legs":[{"minutes":300,"origin":"DE00001","ru":"R101","target":"IT00003"}],"load":"loaded","no":"#,
+    r#","wagons":[""#,
+    r#""]}"#,
+];
+
+// Adds a plan of a wagon alone.
+fn add_plan(alloc: Global, input: &mut Vec<u8>, number: u32, wagon: &str) -> Result<(), Fail> {
+    let digits = format!(in alloc; "{number}")?;
+    let [front, name, after_number, back] = PLANNED;
+    for piece in [
+        front,
+        digits.as_str(),
+        name,
+        digits.as_str(),
+        after_number,
+        wagon,
+        back,
+    ] {
+        input.extend_from_slice(piece.as_bytes())?;
+    }
+    input.push(b'\n')?;
+    Ok(())
+}
+
+// Plans of so many wagons, each alone. Of ten numbers in a row one has its check digit.
+fn plans(alloc: Global, count: u32) -> Result<Vec<u8>, Fail> {
+    let mut input = Vec::new(alloc);
+    for number in 0..count * 10 {
+        let wagon = format!(in alloc; "3384{number:08}")?;
+        if WagonNumber::read(&wagon).is_ok() {
+            add_plan(alloc, &mut input, number + 1, &wagon)?;
+        }
+    }
+    Ok(input)
+}
+
+#[test]
+fn the_parts_of_a_hub_make_the_lines_of_its_view(rt: HostRuntime) -> Result<(), Fail> {
+    let hub = hub_after(&rt, rt.alloc(), &plans(rt.alloc(), 5_000)?)?;
+    let report = report_of(&rt, rt.alloc(), &hub)?;
+    assert!(rt; report.starts_with(b"wagons 5000\n"));
+    assert_eq!(rt; count_lines(&report), 5_001);
     Ok(())
 }
 

@@ -11,7 +11,7 @@ use taf_codes::{Memory, Railway};
 pub(crate) type Railways = IndexMap<Railway, Sent>;
 
 /// The position that was noted for a name, if there is one.
-pub(crate) fn find(railways: &Railways, by: Railway, number: u64) -> Option<u64>
+pub(crate) fn find(railways: &Railways, by: Railway, number: u64) -> Option<u32>
     ensures { result ≡ position_of railways.now.entries by number }
 {
     match railways.get(&by) {
@@ -25,7 +25,7 @@ pub(crate) fn find_or_make_room(
     railways: &mut Railways,
     by: Railway,
     number: u64,
-) -> Result<Option<u64>, Memory>
+) -> Result<Option<u32>, Memory>
     ensures positions { (also : Railway) (n : ℕ) → position_of railways.new.entries also n
         ≡ position_of railways.old.entries also n }
     ensures stay_roomy { (also : Railway) (n : ℕ) → has_room railways.old.entries also n ≡ true
@@ -45,7 +45,7 @@ pub(crate) fn find_or_make_room(
 }
 
 /// Notes the position of a name that is new, for which there is room.
-pub(crate) fn note(railways: &mut Railways, by: Railway, number: u64, position: u64)
+pub(crate) fn note(railways: &mut Railways, by: Railway, number: u64, position: u32)
     requires room { has_room railways.old.entries by number ≡ true }
     requires new { position_of railways.old.entries by number ≡ None }
     ensures { (also : Railway) (other : ℕ) → position_of railways.new.entries also other

@@ -35,7 +35,7 @@ impl Seen {
     }
 
     /// The position that was noted for a name, if there is one.
-    pub fn find(&self, by: Railway, number: MessageNumber) -> Option<u64>
+    pub fn find(&self, by: Railway, number: MessageNumber) -> Option<u32>
         ensures { result ≡ position_of self.now by number }
     {
         railways::find(&self.railways, by, number.get())
@@ -47,7 +47,7 @@ impl Seen {
         &mut self,
         by: Railway,
         number: MessageNumber,
-    ) -> Result<Option<u64>, Memory>
+    ) -> Result<Option<u32>, Memory>
         ensures positions { position_of self.new ≡ position_of self.old }
         ensures stay_roomy { (also : Railway) (n : ℕ) → has_room self.old also n ≡ true
             → has_room self.new also n ≡ true }
@@ -59,7 +59,7 @@ impl Seen {
     }
 
     /// Notes the position of a name that is new, for which there is room. Takes no memory.
-    pub fn note_reserved(&mut self, by: Railway, number: MessageNumber, position: u64)
+    pub fn note_reserved(&mut self, by: Railway, number: MessageNumber, position: u32)
         requires room { has_room self.old by number ≡ true }
         requires new { position_of self.old by number ≡ None }
         ensures { (also : Railway) (other : ℕ) → position_of self.new also other
@@ -70,7 +70,7 @@ impl Seen {
     }
 
     /// Notes the position of a name that is new. Where memory is refused, the notes stay.
-    pub fn note(&mut self, by: Railway, number: MessageNumber, position: u64) -> Result<(), Memory>
+    pub fn note(&mut self, by: Railway, number: MessageNumber, position: u32) -> Result<(), Memory>
         requires { position_of self.old by number ≡ None }
         ensures finds { OnOk result ((also : Railway) (other : ℕ) → position_of self.new also other
             ≡ (if same_name by number also other then Some position

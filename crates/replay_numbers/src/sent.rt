@@ -17,9 +17,9 @@ pub(crate) struct Sent {
     // The number at which the row begins.
     first: u64,
     // At each number its position.
-    row: Vec<Option<u64>>,
+    row: Vec<Option<u32>>,
     // The positions of numbers that came before the row began or were far behind it.
-    aside: IndexMap<u64, u64>,
+    aside: IndexMap<u64, u32>,
 }
 
 impl Model for Sent {
@@ -49,7 +49,7 @@ impl Sent {
     }
 
     /// The position that was noted for a number, if there is one.
-    pub(crate) fn find(&self, number: u64) -> Option<u64>
+    pub(crate) fn find(&self, number: u64) -> Option<u32>
         ensures { result ≡ position_in self.now number }
     {
         match self.in_row(number) {
@@ -59,7 +59,7 @@ impl Sent {
     }
 
     // The position that lies in the row at a number.
-    fn in_row(&self, number: u64) -> Option<u64>
+    fn in_row(&self, number: u64) -> Option<u32>
         ensures { result ≡ in_row self.now number }
     {
         if number < self.first {
@@ -97,7 +97,7 @@ impl Sent {
     }
 
     /// The position that was noted for a number. Where there is none, room is made for it.
-    pub(crate) fn find_or_make_room(&mut self, number: u64) -> Result<Option<u64>, Memory>
+    pub(crate) fn find_or_make_room(&mut self, number: u64) -> Result<Option<u32>, Memory>
         ensures positions { (n : ℕ) → position_in self.new n ≡ position_in self.old n }
         ensures stay_roomy { (n : ℕ) → has_room_in self.old n ≡ true → has_room_in self.new n
             ≡ true }
@@ -121,7 +121,7 @@ impl Sent {
     }
 
     /// Notes the position of a number that is new, for which there is room.
-    pub(crate) fn put(&mut self, number: u64, position: u64)
+    pub(crate) fn put(&mut self, number: u64, position: u32)
         requires room { has_room_in self.old number ≡ true }
         requires new { position_in self.old number ≡ None }
         ensures { (n : ℕ) → position_in self.new n
@@ -136,7 +136,7 @@ impl Sent {
 }
 
 // Lets a row go on up to a number.
-fn lengthen(row: &mut Vec<Option<u64>>, number: usize) -> Result<(), Memory>
+fn lengthen(row: &mut Vec<Option<u32>>, number: usize) -> Result<(), Memory>
     ensures positions { (n : ℕ) → option_flatten (slice_get row.new.items n)
         ≡ option_flatten (slice_get row.old.items n) }
     ensures longer { length row.old.items ≤ length row.new.items }

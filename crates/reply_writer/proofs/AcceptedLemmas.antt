@@ -7,11 +7,6 @@ pub accepted_text : (n : ℕ) → compact_text (reply_data (Accepted n)) ≡ cod
 unfolding reply_fields escape_byte
 accepted_text n = refl
 
--- the parts, one behind the other
-pub three_parts : (old a b c first second third : List ℕ) → first ≡ old ++ a → second ≡ first ++ b → third ≡ second ++ c → third ≡ old ++ (a ++ (b ++ c))
-three_parts old a b c first second third e f g =
-    g ∙ ap (λ l. l ++ c) (f ∙ ap (λ l. l ++ b) e) ∙ append_assoc (old ++ a) b c ∙ append_assoc old a (b ++ c)
-
 -- it is read as its fields
 pub accepted_read : (n : ℕ) → n < 2 ^ 64 → read (compact_text (reply_data (Accepted n))) ≡ Some (reply_data (Accepted n))
 unfolding reply_fields

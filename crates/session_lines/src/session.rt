@@ -9,11 +9,11 @@ ghost use Rattle.session_lines.specs.Steps.{saying_step, after_saying, SoundTake
 use crate::fault::LineFault;
 use crate::line::Line;
 use crate::meaning::{Meaning, meaning_of};
-use arrayvec::ArrayVec;
 use call_lines::{LONGEST, is_blank_line};
 use call_reader::CallReader;
 use inbox::Job;
 use std::alloc::Global;
+use std::collections::VecDeque;
 use std::marker::Model;
 use taf_codes::Railway;
 use taf_messages::{Call, Reply, copy_call};
@@ -53,12 +53,6 @@ pub enum Slot {
     HeldLine(Line),
 }
 
-impl Default for Slot {
-    fn default() -> Slot {
-        Slot::HeldLine(Line::of_fault(LineFault::NoMemory))
-    }
-}
-
 /// A session, with up to sixteen slots taken.
 #[derive(Drop)]
 pub struct Session {
@@ -68,13 +62,15 @@ pub struct Session {
     railway: Option<Railway>,
     job_count: u64,
     out_count: u64,
-    slots: ArrayVec<Slot, 16>,
+    // In a ring, which has room for all once the first job is out.
+    slots: VecDeque<Slot>,
     has_failed: bool,
     tally: Tally,
 }
 
 impl Model for Session {
-    ghost use Rattle.std.specs.Prelude.{◌≡◌, ◌≤◌, length, [], true};
+    ghost use Rattle.std.specs.Prelude.{◌≡◌, ◌<◌, ◌≤◌, length, [], true};
+    ghost use Rattle.std.specs.VecDeque.{deque_capacity, deque_len};
     ghost use Rattle.session_lines.specs.States.{State, jobs_out};
 
     ghost Value = { State };
@@ -90,7 +86,8 @@ impl Model for Session {
 
     ghost invariant = { λ s. (s.out_count ≡ jobs_out s.slots.items) × (s.out_count ≤ s.job_count)
         × (s.out_count ≤ s.tally.spare) × (length s.slots.items ≤ 16)
-        × (s.has_failed ≡ true → s.slots.items ≡ []) };
+        × (s.has_failed ≡ true → s.slots.items ≡ [])
+        × (0 < deque_len s.slots → 16 ≤ deque_capacity s.slots) };
 }
 
 impl Session {
@@ -105,7 +102,7 @@ impl Session {
             railway: None,
             job_count: 0,
             out_count: 0,
-            slots: ArrayVec::new(),
+            slots: VecDeque::new(alloc),
             has_failed: false,
             tally: Tally::new(alloc),
         }
@@ -131,7 +128,7 @@ impl Session {
     pub fn has_job_in_front(&self) -> bool
         ensures { result ≡ is_job_in_front self.now.slots }
     {
-        matches!(self.slots.first(), Some(Slot::JobOut(_)))
+        matches!(self.slots.front(), Some(Slot::JobOut(_)))
     }
 
     /// Whether a stranger's answer came. Then no slot is taken.
@@ -197,7 +194,7 @@ impl Session {
         if self.slots.is_empty() {
             return Step::Say(line);
         }
-        self.slots.push(Slot::HeldLine(line));
+        self.slots.push_back_reserved(Slot::HeldLine(line));
         Step::Held
     }
 
@@ -224,6 +221,9 @@ impl Session {
         let Ok(copy) = copy_call(&call) else {
             return self.say(Line::of_fault(LineFault::NoMemory));
         };
+        if self.slots.reserve(WINDOW - self.slots.len()).is_err() {
+            return self.say(Line::of_fault(LineFault::NoMemory));
+        }
         if self.tally.reserve(self.slots.len() + 1).is_err() {
             return self.say(Line::of_fault(LineFault::NoMemory));
         }
@@ -232,7 +232,7 @@ impl Session {
             index: self.job_count,
             call,
         };
-        self.slots.push(Slot::JobOut(copy));
+        self.slots.push_back_reserved(Slot::JobOut(copy));
         self.out_count += 1;
         self.job_count += 1;
         Step::Ask(job)
@@ -249,7 +249,7 @@ impl Session {
         if !self.owns(&done) {
             return self.fail();
         }
-        let Slot::JobOut(call) = self.slots.remove(0) else {
+        let Some(Slot::JobOut(call)) = self.slots.pop_front() else {
             unreachable!()
         };
         self.out_count -= 1;
@@ -286,12 +286,13 @@ impl Session {
         ensures line { result ≡ front_line self.old.slots }
         ensures after { self.new ≡ after_front self.old }
     {
-        if let Some(Slot::HeldLine(_)) = self.slots.first() {
-            if let Slot::HeldLine(line) = self.slots.remove(0) {
-                return Some(line);
-            }
+        if self.has_job_in_front() {
+            return None;
         }
-        None
+        match self.slots.pop_front() {
+            Some(Slot::HeldLine(line)) => Some(line),
+            _ => None,
+        }
     }
 
     /// What it was told. Takes no memory.

@@ -12,7 +12,7 @@ fn nothing_seen(alloc: Global) -> Result<Box<Seen>, Fail> {
 }
 
 // Notes a name where it is new.
-fn note_new(seen: &mut Seen, by: Railway, number: u64, position: u64) -> Result<(), Memory> {
+fn note_new(seen: &mut Seen, by: Railway, number: u64, position: u32) -> Result<(), Memory> {
     let number = number_of(number)?;
     if seen.find(by, number).is_some() {
         return Ok(());
@@ -21,12 +21,12 @@ fn note_new(seen: &mut Seen, by: Railway, number: u64, position: u64) -> Result<
 }
 
 // Whether the name is found at this position, or nowhere.
-fn is_found(seen: &Seen, code: &str, number: u64, position: Option<u64>) -> Result<bool, Memory> {
+fn is_found(seen: &Seen, code: &str, number: u64, position: Option<u32>) -> Result<bool, Memory> {
     Ok(seen.find(railway(code)?, number_of(number)?) == position)
 }
 
 // Notes a new name at a position, where there is room for it.
-fn note_reserved(seen: &mut Seen, by: Railway, number: u64, position: u64) -> Result<(), Memory> {
+fn note_reserved(seen: &mut Seen, by: Railway, number: u64, position: u32) -> Result<(), Memory> {
     let number = number_of(number)?;
     match seen.find_or_make_room(by, number)? {
         Some(_) => {}
@@ -36,7 +36,7 @@ fn note_reserved(seen: &mut Seen, by: Railway, number: u64, position: u64) -> Re
 }
 
 // Whether the first number of R100 is found at this position, and that of R101 at the other.
-fn are_found(seen: &Seen, first: Option<u64>, other: Option<u64>) -> Result<bool, Memory> {
+fn are_found(seen: &Seen, first: Option<u32>, other: Option<u32>) -> Result<bool, Memory> {
     Ok(is_found(seen, "R100", 1, first)? && is_found(seen, "R101", 1, other)?)
 }
 
@@ -56,15 +56,15 @@ fn first_sends_are_found(rt: HostRuntime) -> Result<(), Fail> {
 static SENT: [u64; 10] = [5, 2, 6, 9, 7, 70, 1000, 999_999_999_999, 71, 1];
 
 // Where a number is first found among those that were sent.
-fn position_of(number: u64) -> Option<u64> {
+fn position_of(number: u64) -> Option<u32> {
     let position = SENT.iter().position(|one| *one == number)?;
-    Some(position as u64)
+    Some(position as u32)
 }
 
 // Notes the numbers that were sent at their positions.
 fn note_sent(seen: &mut Seen, sender: Railway) -> Result<(), Memory> {
     for (position, number) in SENT.iter().enumerate() {
-        note_new(seen, sender, *number, position as u64)?;
+        note_new(seen, sender, *number, position as u32)?;
     }
     Ok(())
 }
@@ -93,11 +93,11 @@ fn fill(
 ) -> Result<u32, Memory> {
     let mut refused: u32 = 0;
     memory_limit.limit_to(budget)?;
-    for position in 0..100u64 {
-        if note_new(seen, by, position + 1, position).is_err() {
+    for position in 0..100u32 {
+        if note_new(seen, by, u64::from(position) + 1, position).is_err() {
             refused = refused.saturating_add(1);
             memory_limit.release();
-            note_new(seen, by, position + 1, position)?;
+            note_new(seen, by, u64::from(position) + 1, position)?;
         }
     }
     memory_limit.release();
@@ -106,8 +106,8 @@ fn fill(
 
 // Whether the numbers up to 100 are noted at their positions, and 101 is not.
 fn is_filled(seen: &Seen, by: Railway) -> Result<bool, Memory> {
-    for position in 0..100u64 {
-        if seen.find(by, number_of(position + 1)?) != Some(position) {
+    for position in 0..100u32 {
+        if seen.find(by, number_of(u64::from(position) + 1)?) != Some(position) {
             return Ok(false);
         }
     }

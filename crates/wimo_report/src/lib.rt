@@ -1,7 +1,8 @@
 //! The report of the operational database (4.2.11): a line that counts the wagons, and one line for each.
 //!
-//! [`lines`] makes the lines by as many threads as there are processors, [`plain_lines`] one after another. Both give
-//! exactly the lines that `specs/Report.antt` defines, in the order of the view:
+//! [`lines`] makes the lines by as many threads as there are processors, [`plain_lines`] one after another, and [`hub_lines`]
+//! those of a hub without all of its records at once. Each gives exactly the lines that `specs/Report.antt` defines, in the
+//! order of the view:
 //!
 //! ```text
 //! wagons 2
@@ -18,4 +19,4 @@ mod column;
 mod line;
 mod report;
 
-pub use report::{lines, plain_lines};
+pub use report::{hub_lines, lines, plain_lines};

@@ -6,6 +6,6 @@ pub invariant_of-self-2 : goal.invariant_of-self-2
 invariant_of-self-2 c =
     let i = c.self.invariant in
     let xs = c.self.inside.slots.items in
-    let room : length xs + 1 ≤ c.reserve.new.self.spare = search (arith, rules) in
-    let more = ap jobs_out c.push.ensures.items ∙ jobs_out-job xs _ in
-    (ap (λ n. n + 1) i.0 ∙ sym more, omega (arith, i.1), omega (arith, i.0, room, jobs_out-within xs), search (arith, rules), λ e. absurd (let v = ap (λ (s : State). s.has_failed) c.self.view_is in let r = c.requires.sound in cc))
+    let room : length xs + 1 ≤ c.reserve-2.new.self.spare = search (arith, rules) in
+    let more = ap jobs_out c.push_back_reserved.ensures.items ∙ jobs_out-job c.reserve.new.self.items _ ∙ ap (λ ys. jobs_out ys + 1) c.reserve.ensures.items in
+    (ap (λ n. n + 1) i.0 ∙ sym more, omega (arith, i.1), omega (arith, i.0, room, jobs_out-within xs), search (arith, rules), λ e. absurd (let v = ap (λ (s : State). s.has_failed) c.self.view_is in let r = c.requires.sound in cc), λ some. search (arith, rules))
