@@ -30,7 +30,7 @@ fn make_room(state: &mut State) -> Result<(), Memory>
         (length state.new.items.items) state.new.items.items) }
     ensures room { OnOk result (0 < state.new.history.spare) }
 {
-    make_room_for(&mut state.outboxes, &state.items)?;
+    make_room_for(&mut state.outboxes, &state.items, &mut state.places)?;
     state.history.reserve()?;
     Ok(())
 }
@@ -58,7 +58,7 @@ pub(crate) fn accept(
     put_items(alloc, &mut state.items, &state.tables, &message, &events)?;
     make_room(state)?;
     state.tables.accept(alloc, sent, events)?;
-    deliver(&mut state.outboxes, &mut state.items);
+    deliver(&mut state.outboxes, &mut state.items, &state.places);
     let position = state.history.len() as u32;
     state.seen.note_reserved(by, no, position);
     state

@@ -14,15 +14,17 @@ use std::alloc::Global;
 use taf_codes::Memory;
 use taf_messages::{Call, Reply, copy_reply};
 
-/// What the hub keeps: its history, the tables by which it looks things up, and a list that it uses again.
+/// What the hub keeps: its history, the tables by which it looks things up, and lists that it uses again.
 #[derive(Drop)]
 pub(crate) struct State {
     pub history: Pages<Entry>,
     pub tables: Tables,
     pub seen: Seen,
     pub outboxes: Outboxes,
-    // The items of the message that is being taken. Between calls they mean nothing, and only the list's memory is kept.
+    // The items of the message that is being taken, and the places of their boxes. Between calls they mean nothing, and only the
+    // memory of the lists is kept.
     pub items: Vec<AddressedItem>,
+    pub places: Vec<usize>,
 }
 
 impl State {
@@ -37,6 +39,7 @@ impl State {
             seen: Seen::new(alloc),
             outboxes: Outboxes::new(alloc),
             items: Vec::new(alloc),
+            places: Vec::new(alloc),
         }
     }
 }

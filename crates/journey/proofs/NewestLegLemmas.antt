@@ -1,5 +1,5 @@
 -- The legs of a journey are those that the newest events set.
-use Rattle.journey.proofs.Common.{◌≡◌, ℕ, ◌+◌, ◌-◌, ◌<◌, ◌≤◌, zero, suc, Bool, true, false, cond, List, [], ◌∷◌, ◌++◌, length, take, Option, Some, None, refl, ap, ◌∙◌, sym, inl, inr, ◌⊎◌, arith, ◌==◌, append-nil, append_assoc, fold, slice_get, option_map, unwrap_or, nat_lt, if◌then◌else◌, option_or, lt-ltb, le-ltb, eqb_tells, length-append, length-take-le, slice_get_past, slice_get_within, first_of, Leg, Event, EventBody, Planned, Moved, EstimateAsked, LegTimed, Offered, Answered, Withdrawn, Rerouted, newest, leg_index, is_reception, legs, legs_after, index_after, with_leg_minutes, journey_state, journey_state_after, checks, IsSound, EventOnLeg, with_minutes, events_on_legs_from, events_on_legs, route_leg, leg_set, minutes_set, count_set, count_by_newest, leg_by_newest, IsPlanOfLegs, AllAdmitted, IsJourney, OnLegsByCount, LegsAreTheNewest, AsManyLegs, RerouteUndoesTimes}
+use Rattle.journey.proofs.Common.{◌≡◌, ℕ, ◌+◌, ◌-◌, ◌<◌, ◌≤◌, zero, suc, Bool, true, false, cond, List, [], ◌∷◌, ◌++◌, length, take, Option, Some, None, refl, ap, ◌∙◌, sym, inl, inr, ◌⊎◌, arith, ◌==◌, append-nil, append_assoc, fold, slice_get, option_map, unwrap_or, nat_lt, if◌then◌else◌, option_or, lt-ltb, le-ltb, eqb_tells, length-append, length-take-le, slice_get_within, first_of, Leg, Event, EventBody, Planned, Moved, EstimateAsked, LegTimed, Offered, Answered, Withdrawn, Rerouted, newest, leg_index, is_reception, legs, legs_after, index_after, with_leg_minutes, journey_state, checks, IsSound, EventOnLeg, with_minutes, events_on_legs_from, events_on_legs, route_leg, leg_set, minutes_set, count_set, count_by_newest, leg_by_newest, IsPlanOfLegs, AllAdmitted, IsJourney, OnLegsByCount, LegsAreTheNewest, AsManyLegs, RerouteUndoesTimes}
 use Rattle.journey.proofs.NewestLemmas.{newest-push}
 use Rattle.journey.proofs.LegPositionLemmas.{legs-push, timed_length}
 use Rattle.journey.proofs.SoundStateLemmas.{journey_state-push, sound-after}

@@ -44,18 +44,6 @@ impl JourneyState {
         }
     }
 
-    /// The state after one event more.
-    pub(crate) fn after(&self, event: &Event) -> JourneyState
-        requires on_a_leg { self.now.leg_index < length self.now.legs }
-        requires few_legs { length self.now.legs ≤ 8 }
-        requires room { HasRoom self.now.leg_index event.now.body }
-        ensures { result ≡ journey_state_after self.now event.now }
-    {
-        let mut next = self.copy();
-        next.advance(event);
-        next
-    }
-
     /// Goes on by one event more.
     pub(crate) fn advance(&mut self, event: &Event)
         requires on_a_leg { self.old.leg_index < length self.old.legs }

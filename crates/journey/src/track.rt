@@ -188,10 +188,12 @@ impl Track {
         requires { refusal self.now.events event.now.by event.now.body ≡ None }
         ensures { result ≡ next_event self.now event.now }
     {
-        Transition {
+        let mut transition = Transition {
             track: self,
             event,
-            journey_state: self.journey_state.after(event),
-        }
+            journey_state: self.journey_state.copy(),
+        };
+        transition.journey_state.advance(event);
+        transition
     }
 }

@@ -84,7 +84,20 @@ impl<'r, 'a> JsonValue<'r, 'a> {
     }
 
     /// The value under a key of the object that it is: the last one.
+    #[inline(always)]
     pub fn get(&self, name: &str) -> Option<JsonValue<'r, 'a>>
+        ensures { option_map json_value_data result
+            ≡ find.get name.now (json_value_data self.now) }
+    {
+        match self {
+            JsonValue::Flat(record) => record.get(name).map(JsonValue::Scalar),
+            _ => self.get_in_any(name),
+        }
+    }
+
+    // The same, of a flat record too. Most lines are flat, so what all others need is kept apart.
+    #[inline(never)]
+    fn get_in_any(&self, name: &str) -> Option<JsonValue<'r, 'a>>
         ensures { option_map json_value_data result
             ≡ find.get name.now (json_value_data self.now) }
     {

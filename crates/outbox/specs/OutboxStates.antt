@@ -1,7 +1,7 @@
 -- What is kept for each railway.
-use Rattle.std.specs.Prelude.{ℕ, ◌+◌, ◌-◌, Bool, List, [], ◌++◌, Option, Some, None, is_some, length, drop, take, map, max, bytes_eq}
+use Rattle.std.specs.Prelude.{◌≡◌, ℕ, ◌+◌, ◌-◌, Bool, List, [], ◌++◌, Option, Some, None, is_some, length, drop, take, slice_get, map, max, bytes_eq}
 use Rattle.std.specs.List.{enumerate_from}
-use Rattle.std.specs.Map.{lookup}
+use Rattle.std.specs.Map.{keys_of, lookup}
 use Rattle.taf_codes.specs.declared.code.Railway.{Railway}
 use Rattle.taf_messages.specs.declared.item.Item.{Item}
 use Rattle.taf_messages.specs.declared.item.ItemBody.{ItemBody}
@@ -39,6 +39,10 @@ room_for boxes railway = room_in (lookup (bytes_eq railway) boxes)
 -- the railway has a box, which may be empty
 abbrev pub has_box : List (Railway × BoxState) → Railway → Bool
 has_box boxes railway = is_some (lookup (bytes_eq railway) boxes)
+
+-- the box at this place is the railway's
+abbrev pub IsAt : List (Railway × BoxState) → ℕ → Railway → Type 0
+IsAt boxes place railway = slice_get (keys_of boxes) place ≡ Some railway
 
 -- the number of the last item
 abbrev pub last_of : OutboxState → ℕ

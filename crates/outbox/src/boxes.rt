@@ -1,7 +1,8 @@
 //! The table of the boxes.
-ghost use Rattle.std.specs.Prelude.{◌≡◌, ◌+◌, ◌<◌, ◌≤◌, ◌^◌, [], ◌∷◌, true, max, if◌then◌else◌, bytes_eq, OnOk, OnErr};
+ghost use Rattle.std.specs.Prelude.{◌≡◌, ◌+◌, ◌<◌, ◌≤◌, ◌^◌, [], ◌∷◌, true, false, max, if◌then◌else◌, bytes_eq, is_some, IfOk, OnOk, OnErr, IfSome};
+ghost use Rattle.std.specs.Map.{keys_of};
 ghost use Rattle.taf_codes.specs.declared.code.Railway.{Railway};
-ghost use Rattle.outbox.specs.OutboxStates.{outbox_state_of, has_box, room_for, last_of, with_items, acknowledged_up_to};
+ghost use Rattle.outbox.specs.OutboxStates.{IsAt, outbox_state_of, has_box, room_for, last_of, with_items, acknowledged_up_to};
 
 use crate::outbox::Outbox;
 use indexmap::IndexMap;
@@ -10,9 +11,73 @@ use taf_messages::ItemBody;
 
 pub(crate) type Boxes = IndexMap<Railway, Outbox>;
 
-/// Makes room for so many items in the box of a railway, and the box where there is none.
+/// Makes room for so many items in the box of a railway, and the box where there is none. Gives its place among the boxes.
+pub(crate) fn make_room(boxes: &mut Boxes, railway: Railway, count: usize) -> Result<usize, Memory>
+    ensures kept { (also : Railway) → outbox_state_of boxes.new.entries also
+        ≡ outbox_state_of boxes.old.entries also }
+    ensures stay_open { (also : Railway) → has_box boxes.old.entries also ≡ true
+        → has_box boxes.new.entries also ≡ true }
+    ensures stay_roomy { (also : Railway) → room_for boxes.old.entries also
+        ≤ room_for boxes.new.entries also }
+    ensures place { IfOk result (λ place. IsAt boxes.new.entries place railway) }
+    ensures open { OnOk result (has_box boxes.new.entries railway ≡ true) }
+    ensures room { OnOk result (count ≤ room_for boxes.new.entries railway) }
+    ensures few { OnOk result (last_of (outbox_state_of boxes.new.entries railway) < 2 ^ 62) }
+    ensures err { OnErr result ((also : Railway) → has_box boxes.new.entries also
+        ≡ has_box boxes.old.entries also) }
+{
+    match place_of(boxes, railway) {
+        Some(place) => {
+            make_room_at(boxes, place, railway, count)?;
+            Ok(place)
+        }
+        None => {
+            open(boxes, railway, count)?;
+            Ok(place_of(boxes, railway).unwrap())
+        }
+    }
+}
+
+// The place of a railway's box among the boxes.
+fn place_of(boxes: &Boxes, railway: Railway) -> Option<usize>
+    ensures found { IfSome result (λ place. IsAt boxes.now.entries place railway) }
+    ensures has { is_some result ≡ has_box boxes.now.entries railway }
+{
+    match boxes.get_full(&railway) {
+        Some((place, _, _)) => Some(place),
+        None => None,
+    }
+}
+
+// Makes room in the box at a place, which is that of the railway.
 #[tactic(auto, using(crate::proofs::KeyLemmas::same_box))]
-pub(crate) fn make_room(boxes: &mut Boxes, railway: Railway, count: usize) -> Result<(), Memory>
+fn make_room_at(
+    boxes: &mut Boxes,
+    place: usize,
+    railway: Railway,
+    count: usize,
+) -> Result<(), Memory>
+    requires { IsAt boxes.old.entries place railway }
+    ensures kept { (also : Railway) → outbox_state_of boxes.new.entries also
+        ≡ outbox_state_of boxes.old.entries also }
+    ensures places { keys_of boxes.new.entries ≡ keys_of boxes.old.entries }
+    ensures boxes { (also : Railway) → has_box boxes.new.entries also
+        ≡ has_box boxes.old.entries also }
+    ensures stay_roomy { (also : Railway) → room_for boxes.old.entries also
+        ≤ room_for boxes.new.entries also }
+    ensures room { OnOk result (count ≤ room_for boxes.new.entries railway) }
+    ensures few { OnOk result (last_of (outbox_state_of boxes.new.entries railway) < 2 ^ 62) }
+{
+    let _railway = railway;
+    match boxes.get_index_mut(place) {
+        Some(outbox) => outbox.make_room(count),
+        None => unreachable!(),
+    }
+}
+
+// Makes the box of a railway that has none, with room for so many items.
+fn open(boxes: &mut Boxes, railway: Railway, count: usize) -> Result<(), Memory>
+    requires { has_box boxes.old.entries railway ≡ false }
     ensures kept { (also : Railway) → outbox_state_of boxes.new.entries also
         ≡ outbox_state_of boxes.old.entries also }
     ensures stay_open { (also : Railway) → has_box boxes.old.entries also ≡ true
@@ -25,18 +90,14 @@ pub(crate) fn make_room(boxes: &mut Boxes, railway: Railway, count: usize) -> Re
     ensures err { OnErr result ((also : Railway) → has_box boxes.new.entries also
         ≡ has_box boxes.old.entries also) }
 {
-    if let Some(outbox) = boxes.get_mut(&railway) {
-        return outbox.make_room(count);
-    }
     let mut outbox = Outbox::new(*boxes.allocator());
     outbox.make_room(count)?;
     boxes.insert(railway, outbox)?;
     Ok(())
 }
 
-/// Adds an item for a railway that has room for it, and gives its number.
-#[tactic(auto, using(crate::proofs::KeyLemmas::same_box))]
-pub(crate) fn put(boxes: &mut Boxes, railway: Railway, body: ItemBody) -> u64
+/// Adds an item for a railway that has room for it, and gives its number. The box is looked for at this place first.
+pub(crate) fn put(boxes: &mut Boxes, place: usize, railway: Railway, body: ItemBody) -> u64
     requires room { 0 < room_for boxes.old.entries railway }
     requires few { last_of (outbox_state_of boxes.old.entries railway) + 1 < 2 ^ 63 }
     ensures number { result ≡ last_of (outbox_state_of boxes.old.entries railway) + 1 }
@@ -50,7 +111,43 @@ pub(crate) fn put(boxes: &mut Boxes, railway: Railway, body: ItemBody) -> u64
     ensures stay_open { (also : Railway) → has_box boxes.new.entries also
         ≡ has_box boxes.old.entries also }
 {
-    match boxes.get_mut(&railway) {
+    if is_at(boxes, place, railway) {
+        return put_at(boxes, place, railway, body);
+    }
+    match place_of(boxes, railway) {
+        Some(found) => put_at(boxes, found, railway, body),
+        None => unreachable!(),
+    }
+}
+
+// Whether the box at a place is that of the railway.
+fn is_at(boxes: &Boxes, place: usize, railway: Railway) -> bool
+    ensures { result ≡ true → IsAt boxes.now.entries place railway }
+{
+    match boxes.get_index(place) {
+        Some((found, _)) => *found == railway,
+        None => false,
+    }
+}
+
+// Adds an item to the box at a place, which is that of the railway.
+fn put_at(boxes: &mut Boxes, place: usize, railway: Railway, body: ItemBody) -> u64
+    requires at { IsAt boxes.old.entries place railway }
+    requires room { 0 < room_for boxes.old.entries railway }
+    requires few { last_of (outbox_state_of boxes.old.entries railway) + 1 < 2 ^ 63 }
+    ensures number { result ≡ last_of (outbox_state_of boxes.old.entries railway) + 1 }
+    ensures kept { (also : Railway) → outbox_state_of boxes.new.entries also
+        ≡ (if bytes_eq railway also
+        then with_items (outbox_state_of boxes.old.entries also) (body ∷ [])
+        else outbox_state_of boxes.old.entries also) }
+    ensures room { (also : Railway)
+        → room_for boxes.new.entries also + (if bytes_eq railway also then 1 else 0)
+        ≡ room_for boxes.old.entries also }
+    ensures stay_open { (also : Railway) → has_box boxes.new.entries also
+        ≡ has_box boxes.old.entries also }
+{
+    let _railway = railway;
+    match boxes.get_index_mut(place) {
         Some(outbox) => {
             let number = outbox.last() + 1;
             outbox.put(body);

@@ -1,6 +1,6 @@
 ghost use Rattle.std.specs.Prelude.{◌≡◌, ◌+◌, ◌<◌, ◌≤◌, ◌^◌, ◌↔◌, [], ◌∷◌, true, max, if◌then◌else◌, bytes_eq, IfOk, IfErr, OnOk, OnErr, IsOk};
 ghost use Rattle.taf_codes.specs.declared.code.Railway.{Railway};
-ghost use Rattle.outbox.specs.OutboxStates.{outbox_state_of, has_box, room_for, last_of, with_items, acknowledged_up_to, first_items};
+ghost use Rattle.outbox.specs.OutboxStates.{IsAt, outbox_state_of, has_box, room_for, last_of, with_items, acknowledged_up_to, first_items};
 
 use crate::boxes::{self, Boxes};
 use crate::fault::AckAhead;
@@ -78,13 +78,15 @@ impl Outboxes {
     }
 
     /// Makes room for so many items more in the box of a railway, and the box where there is none: what is kept for each
-    /// railway stays. Where memory is refused, no box is made. Memory is answered also where the railway had 2^62 items.
-    pub fn make_room(&mut self, railway: Railway, count: usize) -> Result<(), Memory>
+    /// railway stays. Gives the place of the box, by which [`Outboxes::put`] finds it soon. Where memory is refused, no box is
+    /// made. Memory is answered also where the railway had 2^62 items.
+    pub fn make_room(&mut self, railway: Railway, count: usize) -> Result<usize, Memory>
         ensures kept { (also : Railway) → outbox_state_of self.new also
             ≡ outbox_state_of self.old also }
         ensures stay_open { (also : Railway) → has_box self.old also ≡ true → has_box self.new also
             ≡ true }
         ensures stay_roomy { (also : Railway) → room_for self.old also ≤ room_for self.new also }
+        ensures place { IfOk result (λ place. IsAt self.new place railway) }
         ensures open { OnOk result (has_box self.new railway ≡ true) }
         ensures room { OnOk result (count ≤ room_for self.new railway) }
         ensures few { OnOk result (last_of (outbox_state_of self.new railway) < 2 ^ 62) }
@@ -94,8 +96,9 @@ impl Outboxes {
         boxes::make_room(&mut self.boxes, railway, count)
     }
 
-    /// Adds an item for a railway whose box has room for it, and gives its number: 1 for the first one. Takes no memory.
-    pub fn put(&mut self, railway: Railway, body: ItemBody) -> u64
+    /// Adds an item for a railway whose box has room for it, and gives its number: 1 for the first one. The box is looked for at
+    /// this place first, wherever it is. Takes no memory.
+    pub fn put(&mut self, place: usize, railway: Railway, body: ItemBody) -> u64
         requires room { 0 < room_for self.old railway }
         requires few { last_of (outbox_state_of self.old railway) + 1 < 2 ^ 63 }
         ensures number { result ≡ last_of (outbox_state_of self.old railway) + 1 }
@@ -107,7 +110,7 @@ impl Outboxes {
             ≡ room_for self.old also }
         ensures stay_open { (also : Railway) → has_box self.new also ≡ has_box self.old also }
     {
-        boxes::put(&mut self.boxes, railway, body)
+        boxes::put(&mut self.boxes, place, railway, body)
     }
 
     /// Makes room for an item and adds it, and gives its number: 1 for the first one. Where memory is refused, what is kept
@@ -124,8 +127,8 @@ impl Outboxes {
         ensures shut { OnErr result ((also : Railway) → has_box self.new also
             ≡ has_box self.old also) }
     {
-        self.make_room(railway, 1)?;
-        Ok(self.put(railway, body))
+        let place = self.make_room(railway, 1)?;
+        Ok(self.put(place, railway, body))
     }
 
     /// Drops a railway's items up to this number, and gives the acknowledged number that now stands: a lower number changes

@@ -1,5 +1,5 @@
 -- The text of the reply to a message that is accepted.
-use Rattle.reply_writer.proofs.Common.{◌≡◌, ℕ, ◌<◌, ◌^◌, ◌++◌, List, Some, codes, decimal, refl, ap, ◌∙◌, append_assoc, escape_byte, read, compact_text, Accepted, read-compact_text, reply_fields, reply_data}
+use Rattle.reply_writer.proofs.Common.{◌≡◌, ℕ, ◌<◌, ◌^◌, ◌++◌, Some, codes, decimal, refl, escape_byte, read, compact_text, Accepted, read-compact_text, reply_fields, reply_data}
 use Rattle.reply_writer.proofs.ShapeLemmas.{reply_ordered}
 
 -- its parts: the digits of the message's number stand between two texts

@@ -12,9 +12,10 @@
 //! any order and mean the same, and [`tallies_are_own`] that the tally of a session has exactly the answers to its
 //! own jobs.
 //!
-//! A session takes memory to read a line, to keep a copy of each call whose job is out, for the tally, and for the
-//! lines that it says, but for those of a fault without a field. Where memory is refused it says so in place of what
-//! it would have said. A job is given out only once its call is kept and its place in the tally is reserved.
+//! A session takes memory to read a line, for its slots before its first job, to keep a copy of each call whose job
+//! is out, for the tally, and for the lines that it says, but for those of a fault without a field. Where memory is
+//! refused it says so in place of what it would have said. A job is given out only once its call is kept and its
+//! place in the tally is reserved.
 //!
 //! | part | what it has |
 //! |---|---|

@@ -1,5 +1,5 @@
-use Rattle.reply_writer.proofs.Common.{◌≡◌, ◌∙◌, ◌++◌, ap, sym, arith, List, ℕ, codes, decimal}
-use Rattle.std.proofs.Common.{drop, ◌-◌, ◌≤◌, length}
+use Rattle.reply_writer.proofs.Common.{◌∙◌, ◌++◌, ap, sym, arith, List, ℕ, codes, decimal}
+use Rattle.std.proofs.Common.{drop}
 use Rattle.std.proofs.lemmas.List.{length-drop, take_all}
 use Rattle.reply_writer.proofs.AcceptedLemmas.{accepted_text, accepted_read}
 use Rattle.reply_writer.proofs.accepted.append_accepted.Goals as goal
