@@ -97,7 +97,7 @@ impl Outboxes {
     }
 
     /// Adds an item for a railway whose box has room for it, and gives its number: 1 for the first one. The box is looked for at
-    /// this place first, wherever it is. Takes no memory.
+    /// this place first, and may lie at another. Takes no memory.
     pub fn put(&mut self, place: usize, railway: Railway, body: ItemBody) -> u64
         requires room { 0 < room_for self.old railway }
         requires few { last_of (outbox_state_of self.old railway) + 1 < 2 ^ 63 }
