@@ -3,7 +3,6 @@ use Rattle.std.proofs.Common.{◌≡◌, ◌∙◌, ◌≤◌, ℕ, ◌+◌, Lis
 use Rattle.std.proofs.Math.Seq.{take-add}
 use Rattle.std.proofs.lemmas.List.{map-append, take_all, length-map}
 use Rattle.std.proofs.lemmas.List.Elements.{filter_map-append}
-use Rattle.taf_messages.specs.declared.record.Record.{Record}
 use Rattle.hub_model.specs.HubState.{HubState}
 use Rattle.hub_model.specs.Replies.{view, records_of}
 use Rattle.wimo_report.specs.Report.{first_line, line_of, report_of}
