@@ -182,37 +182,37 @@ fn threads_make_the_plain_lines(rt: HostRuntime) -> Result<(), Fail> {
     Ok(())
 }
 
-// The pieces of a plan between its number, its number again, and its wagon.
-const PLANNED: [&str; 4] = [
-    r#"{"commit":"2025-03-01T15:00Z","consignment":"C-"#,
-    r#"","from":"R100","kind":"plan","legs":[{"minutes":300,"origin":"DE00001","ru":"R101","target":"IT00003"}],"load":"loaded","no":"#,
-    r#","wagons":[""#,
-    r#""]}"#,
-];
+// A plan of a wagon alone, in pieces: between them come its number, its number again, and the wagon.
+const CONSIGNMENT: &str = r#"{"commit":"2025-03-01T15:00Z","consignment":"C-"#;
+
+const LEGS: &str =
+    r#"","from":"R100","kind":"plan","legs":[{"minutes":300,"origin":"DE00001","ru":"R101","target":"IT00003"}],"load":"loaded","no":"#;
+
+const WAGONS: &str = r#","wagons":[""#;
+
+const END: &str = "\"]}\n";
+
+fn add(input: &mut Vec<u8>, text: &str) -> Result<(), Fail> {
+    input.extend_from_slice(text.as_bytes())?;
+    Ok(())
+}
 
 // Adds a plan of a wagon alone.
 fn add_plan(alloc: Global, input: &mut Vec<u8>, number: u32, wagon: &str) -> Result<(), Fail> {
     let digits = format!(in alloc; "{number}")?;
-    let [front, name, after_number, back] = PLANNED;
-    for piece in [
-        front,
-        digits.as_str(),
-        name,
-        digits.as_str(),
-        after_number,
-        wagon,
-        back,
-    ] {
-        input.extend_from_slice(piece.as_bytes())?;
-    }
-    input.push(b'\n')?;
-    Ok(())
+    add(input, CONSIGNMENT)?;
+    add(input, &digits)?;
+    add(input, LEGS)?;
+    add(input, &digits)?;
+    add(input, WAGONS)?;
+    add(input, wagon)?;
+    add(input, END)
 }
 
-// Plans of so many wagons, each alone. Of ten numbers in a row one has its check digit.
-fn plans(alloc: Global, count: u32) -> Result<Vec<u8>, Fail> {
+// Plans of the wagons among so many numbers in a row, each alone. Of ten numbers one has its check digit.
+fn plans(alloc: Global, numbers: u32) -> Result<Vec<u8>, Fail> {
     let mut input = Vec::new(alloc);
-    for number in 0..count * 10 {
+    for number in 0..numbers {
         let wagon = format!(in alloc; "3384{number:08}")?;
         if WagonNumber::read(&wagon).is_ok() {
             add_plan(alloc, &mut input, number + 1, &wagon)?;
@@ -223,7 +223,7 @@ fn plans(alloc: Global, count: u32) -> Result<Vec<u8>, Fail> {
 
 #[test]
 fn the_parts_of_a_hub_make_the_lines_of_its_view(rt: HostRuntime) -> Result<(), Fail> {
-    let hub = hub_after(&rt, rt.alloc(), &plans(rt.alloc(), 5_000)?)?;
+    let hub = hub_after(&rt, rt.alloc(), &plans(rt.alloc(), 50_000)?)?;
     let report = report_of(&rt, rt.alloc(), &hub)?;
     assert!(rt; report.starts_with(b"wagons 5000\n"));
     assert_eq!(rt; count_lines(&report), 5_001);
