@@ -10,18 +10,19 @@ pub use Rattle.std.specs.Prelude.{◌&&◌, OnOk, IfOk, ⊤, slice_index, nat_lt
 pub use Rattle.std.specs.Str.Parse.{digits_value}
 pub use Rattle.std.proofs.Common.{◌≡◌, ℕ, ◌+◌, ◌-◌, ◌<◌, ◌≤◌, Bool, true, false, cond, List, [], ◌∷◌, ◌++◌, length, take, get_or, Option, Some, None, option_map, option_and_then, bytes_eq, refl, sym, ap, ◌∙◌, arith, append-nil, true≢false, subst, unwrap_or, zero, suc, ◌/◌, ◌%◌, ◌^◌, ◌==◌, Result, Ok, Err, decimal, Ordering, Less, Equal, Greater, map, ◌*◌, not, eqb, ltb, ◌||◌, ◌⊎◌, inl, inr, drop, ap₂, append_assoc, take-append-drop, MatchOption, IfNone, is_some, IsSome, add-one, if◌then◌else◌, ℤ, Float, length-append, length-take-le, rules, take_all, Bor, IsUtf8}
 pub use Rattle.std.proofs.Math.Nat.{one-le-pow, pow-suc}
-pub use Rattle.std.proofs.Math.Seq.{take-suc}
+pub use Rattle.std.proofs.Math.Seq.{take-suc, take-append_seam}
 pub use Rattle.std.proofs.lemmas.Bool.{and_parts, eqb-true, false≢true, and_from, cases_lt}
 pub use Rattle.std.proofs.lemmas.Bool.Decides.{nat_tests, Decides-ltb}
 pub use Rattle.std.proofs.lemmas.Fmt.{decimal_is_IsNumeral, decimal_is_IsNumeral_wide, length-decimal-le, decimal_digit, decimal_step}
 pub use Rattle.std.proofs.lemmas.Grind.{common_steps}
-pub use Rattle.std.proofs.lemmas.List.{take_more, drop_more, length-map, drop_all, map_push, take-append-le, drop-append-le, take_rest}
+pub use Rattle.std.proofs.lemmas.List.{take_more, drop_more, length-map, drop_all, map_push, take-append-le, drop-append-le, take_rest, length-drop, length-take-le, take-append-drop}
 pub use Rattle.std.proofs.lemmas.List.Elements.{All-nil, All-cons, All-head, All-tail}
 pub use Rattle.std.proofs.lemmas.Simd.{length-chunk, mask_l-mod, trailing_mask_l, run_in_chunk_le, run_in_chunk_fails, none_from_empty_mask, take_more_put_chunk, length-put_chunk, zip2_of_maps, zip2_splat}
 pub use Rattle.std.proofs.lemmas.Slice.Eq.{bytes_eq-Decides}
 pub use Rattle.std.proofs.lemmas.Str.{IsCharBoundary-after_ascii}
 pub use Rattle.serde_json.specs.Data.{Members, no_members, object, put, unsigned, negative, float, Data, null, boolean, number, string, array, Items, no_items, item, member, Num}
 pub use Rattle.serde_json.specs.Find.{get_member, as_array, as_u64}
+pub use Rattle.json.specs.Filled.{Placed}
 pub use Rattle.json.specs.Find.{BeginsWith, InItems, InMembers, NextItem, Finds}
 pub use Rattle.json.specs.Lex.{tokens}
 unfoldable pub use Rattle.json.specs.Lex.{lex, punctuate}

@@ -5,6 +5,7 @@ pub mod ReadLemmas
 pub mod NumberLemmas
 pub mod FlatLemmas
 pub mod WritingLemmas
+pub mod DigitLemmas
 pub mod ScanLemmas
 pub mod WholeLemmas
 pub mod TapeReadLemmas

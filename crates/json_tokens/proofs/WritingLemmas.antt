@@ -1,5 +1,5 @@
 -- One token more.
-use Rattle.json_tokens.proofs.Common.{◌≡◌, ℕ, true, false, List, [], ◌∷◌, ◌++◌, length, take, drop, sym, ap, subst, ◌∙◌, arith, length-append, append_assoc, take-append-le, drop-append-le, All-nil, All-cons, All-head, All-tail, Token, tokens, separator, token_text, ends, quoted, IsNumber, IsPrintable, tokens-print, print_from_push, ends_push, ArePrintable-push, IsNumber-decimal, IsSmallToken, AreSmall, written, IsWriting, CanBePut, is_plain, Inside}
+use Rattle.json_tokens.proofs.Common.{◌≡◌, ℕ, Bool, cond, refl, true, false, List, [], ◌∷◌, ◌++◌, length, take, drop, sym, ap, subst, ◌∙◌, arith, length-append, append_assoc, take-append-le, drop-append-le, All-nil, All-cons, All-head, All-tail, Token, tokens, separator, token_text, ends, quoted, IsNumber, IsPrintable, tokens-print, print_from_push, ends_push, ArePrintable-push, IsNumber-decimal, IsSmallToken, AreSmall, written, IsWriting, CanBePut, is_plain, Inside}
 use Rattle.json_tokens.proofs.PlainTextLemmas.{escape_plain}
 
 small_more : (ts : List Token) (t : Token) → AreSmall ts → IsSmallToken t → AreSmall (ts ++ t ∷ [])
@@ -63,3 +63,8 @@ quoted_text text h = ap (λ l. 34 ∷ (l ++ 34 ∷ [])) (sym (escape_plain text 
 
 pub key_text : (text : List ℕ) → is_plain text ≡ true → (34 ∷ []) ++ (text ++ (34 ∷ 58 ∷ [])) ≡ quoted text ++ 58 ∷ []
 key_text text h = sym (append_assoc (34 ∷ text) (34 ∷ []) (58 ∷ [])) ∙ ap (λ l. l ++ 58 ∷ []) (quoted_text text h)
+
+-- before a number stands a comma, if a value has just ended
+pub comma_before_number : (after_value : Bool) (digits : List ℕ) → separator after_value (Token.number digits) ≡ cond after_value (44 ∷ []) []
+comma_before_number true digits = refl
+comma_before_number false digits = refl

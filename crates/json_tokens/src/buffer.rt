@@ -1,7 +1,8 @@
 //! Bytes that grow by short texts. Some room behind them is filled ahead, so that a text is stored after one test, in words.
-ghost use Rattle.std.specs.Prelude.{◌≡◌, ◌+◌, ◌<◌, ◌≤◌, ◌++◌, ◌∷◌, [], cond, length, take, OnOk};
+ghost use Rattle.std.specs.Prelude.{◌≡◌, ◌+◌, ◌<◌, ◌≤◌, ◌++◌, ◌∷◌, [], cond, decimal, length, take, OnOk};
 ghost use Rattle.json.specs.Filled.{Placed};
 
+use itoa::write_digits;
 use std::alloc::AllocError;
 use std::marker::Model;
 use std::simd::Simd;
@@ -100,6 +101,19 @@ impl Buffer {
         let at = place(buf, at, middle);
         self.len = place(buf, at, last);
     }
+
+    /// Adds a comma, if one is wanted, and the digits of a number below 10,000 behind it.
+    #[inline(always)]
+    pub fn put_short(&mut self, comma: bool, number: u64)
+        requires small { number < 10000 }
+        requires room { 5 ≤ self.old.ready }
+        ensures { self.new.items ≡ self.old.items
+            ++ (cond comma (44 ∷ []) [] ++ decimal number) }
+    {
+        let buf = self.bytes.as_mut_slice();
+        let at = place_comma(buf, self.len, comma);
+        self.len = place_short(buf, at, number);
+    }
 }
 
 // The comma is stored in any case, and counts where it is wanted.
@@ -148,6 +162,33 @@ fn place(buf: &mut [u8], at: usize, text: &[u8]) -> usize
         8..=16 => place_words::<8>(buf, at, text),
         17..=32 => place_words::<16>(buf, at, text),
         _ => place_long(buf, at, text),
+    }
+}
+
+// The digits of a number below 10,000.
+#[inline(always)]
+fn place_short(buf: &mut [u8], at: usize, number: u64) -> usize
+    requires small { number < 10000 }
+    requires room { at + 4 ≤ length buf.old }
+    ensures { Placed buf.old buf.new at (decimal number) result }
+{
+    let end = at + digit_count(number);
+    let _start = write_digits(number, buf, end);
+    end
+}
+
+// How many digits a number below 10,000 has.
+#[inline(always)]
+fn digit_count(number: u64) -> usize
+    requires small { number < 10000 }
+    ensures count { result ≡ length (decimal number) }
+    ensures few { result ≤ 4 }
+{
+    match number {
+        0..=9 => 1,
+        10..=99 => 2,
+        100..=999 => 3,
+        _ => 4,
     }
 }
 
