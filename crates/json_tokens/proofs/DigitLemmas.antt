@@ -11,7 +11,7 @@ placed_from_end old new text at start fits is before written =
     let head : take at new ≡ take at old = subst (λ k. take k new ≡ take k old) same before in
     let tail : drop at new ≡ text ++ rest = subst (λ k. drop k new ≡ text ++ rest) same written in
     let whole : new ≡ front ++ rest =
-        sym (take-append-drop at new) ∙ (λ i. head i ++ tail i) ∙ sym (append_assoc (take at old) text rest)
+    sym (take-append-drop at new) ∙ (λ i. head i ++ tail i) ∙ sym (append_assoc (take at old) text rest)
     in
     record {
       bytes = ap (take (at + length text)) whole ∙ subst (λ k. take k (front ++ rest) ≡ front) long (take-append_seam front rest);
