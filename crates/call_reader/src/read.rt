@@ -112,6 +112,7 @@ struct Fields<'r, 'a> {
 
 impl Fields<'_, '_> {
     // The value of a field.
+    #[inline(always)]
     fn read<T: FromJson>(&self, field: Field) -> Result<T, RecordFault>
         ensures { Gives result (reading.field_of T.good field (json_value_data self.now.value)) }
     {
