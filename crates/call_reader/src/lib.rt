@@ -10,6 +10,7 @@
 //! Reading takes memory. Where it is refused, the answer is `RecordFault::Memory`.
 #![tactic(auto)]
 
+mod kinds;
 mod read;
 mod unit_loads;
 mod value;

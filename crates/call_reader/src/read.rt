@@ -5,6 +5,7 @@ ghost use Rattle.json_tokens.specs.JsonValues.{json_value_data};
 ghost use Rattle.call_reader.specs.Reading as reading;
 ghost use Rattle.call_reader.specs.Reading.{Gives};
 
+use crate::kinds::kind_named;
 use crate::unit_loads::UnitLoads;
 use crate::value::{DecodeError, FromJson};
 use json::Scratch;
@@ -148,7 +149,7 @@ impl Fields<'_, '_> {
         match self.value.get("kind") {
             Some(value) => value
                 .as_str()
-                .and_then(Kind::named)
+                .and_then(kind_named)
                 .ok_or(RecordFault::BadKind),
             None => Err(RecordFault::BadKind),
         }

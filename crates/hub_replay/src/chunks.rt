@@ -117,12 +117,12 @@ pub(crate) fn answer_lines<W: Sink>(
     Ok(from)
 }
 
-// A quarter as many bytes more, up to the most that are parsed at once.
+// Half as many bytes more, up to the most that are parsed at once.
 fn longer(size: usize) -> usize
     requires { (0 < size) × (size ≤ 1048576) }
     ensures { (0 < result) × (result ≤ 1048576) }
 {
-    (size + size / 4).min(MAX_BATCH)
+    (size + size / 2).min(MAX_BATCH)
 }
 
 /// Answers the lines of a chunk, and tells what is left of it.

@@ -8,7 +8,7 @@ use std::marker::Model;
 use std::simd::Simd;
 
 // So many bytes are filled at once.
-const AHEAD: usize = 256;
+const AHEAD: usize = 512;
 
 static ZEROS: [u8; AHEAD] = [0; AHEAD];
 

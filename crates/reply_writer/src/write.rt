@@ -79,7 +79,7 @@ fn text_of<T: Json>(alloc: Global, value: &T) -> Result<Vec<u8>, Memory>
     ensures text { IfOk result (λ text. text.items ≡ compact_text (T.shape value.now)) }
     ensures small { OnOk result (AreSmall (json_tokens (outline (T.shape value.now)))) }
 {
-    let mut out = Writer::new(Vec::with_capacity(alloc, 256)?);
+    let mut out = Writer::new(Vec::with_capacity(alloc, 512)?);
     value.put(&mut out)?;
     Ok(out.into_inner())
 }
