@@ -19,7 +19,6 @@ use wimo::record_with;
 /// A track with what is kept for its estimates.
 #[derive(Drop)]
 pub(crate) struct Run {
-    alloc: Global,
     track: Track,
     kept: EstimateAnchor,
     ghost follows: { kept ≡ estimate_anchor track.events },
@@ -42,7 +41,7 @@ impl Run {
             bail!("the plan passes the calendar");
         }
         let kept = EstimateAnchor::of(&track);
-        let mut run = Run { alloc, track, kept };
+        let mut run = Run { track, kept };
         run.add("R100", MovementKind::Release)?;
         run.add("R101", MovementKind::Departure)?;
         Ok(run)
@@ -86,11 +85,7 @@ impl Run {
         if self.estimates().would_pass_calendar(&self.track, &event) {
             bail!("the sample passes the calendar");
         }
-        if self.track.events().len() >= 1 << 62 {
-            bail!("the sample is too long");
-        }
-        let next = event.prepared(self.alloc)?;
-        self.kept.put(&mut self.track, next);
+        self.kept.add(&mut self.track, event)?;
         Ok(())
     }
 

@@ -1,5 +1,5 @@
 -- What one more event does to what estimates are counted from.
-use Rattle.eti_chain.proofs.Common.{◌≡◌, ℕ, ◌+◌, Bool, true, false, cond, List, [], ◌∷◌, ◌++◌, Option, Some, None, refl, ap, ◌∙◌, sym, add-zero, add_assoc, sum_by, fold, is_some, option_map, option_or, false≢true, append-nil, append_assoc, sum_by_push, Leg, YardArrival, YardDeparture, Event, EventBody, Moved, EstimateAsked, Offered, Withdrawn, newest, since, leg_index, is_reception, legs_after, legs, newest-push, since-push, legs-push, leg_index-push, Anchor, anchor_in, delay_in, delays, delayed_by, anchor, basis_from, estimate_basis, keeps_legs, with_delay_of, anchor_after}
+use Rattle.eti_chain.proofs.Common.{◌≡◌, ℕ, ◌+◌, Bool, true, false, cond, List, [], ◌∷◌, ◌++◌, Option, Some, None, refl, ap, ◌∙◌, sym, add-zero, add_assoc, sum_by, is_some, option_map, option_or, false≢true, sum_by_push, Leg, YardArrival, YardDeparture, Event, EventBody, Moved, EstimateAsked, Offered, Withdrawn, newest, since, leg_index, is_reception, legs_after, legs, newest-push, since-push, legs-push, leg_index-push, Anchor, anchor_in, delay_in, delays, delayed_by, anchor, basis_from, estimate_basis, keeps_legs, with_delay_of, anchor_after}
 
 -- an event that says nothing of legs
 abbrev pub KeepsLegs : EventBody → Type 0
@@ -38,12 +38,6 @@ anchor_push events e =
     ap (option_map (delayed_by (delays (events ++ e ∷ [])))) (newest-push (λ d. anchor_in d.at d.body) events e) ∙
     ap (λ n. option_map (delayed_by n) (option_or (anchor_in e.at e.body) (newest (λ d. anchor_in d.at d.body) events))) (delays-push events e) ∙
     later_anchor (anchor_in e.at e.body) (newest (λ d. anchor_in d.at d.body) events) (delays events) (delay_in e.body)
-
--- the anchor of two parts is found in two walks
-pub anchor_by_parts : (before events : List Event) → fold anchor_after (anchor before) events ≡ anchor (before ++ events)
-anchor_by_parts before [] = ap anchor (sym (append-nil before))
-anchor_by_parts before (e ∷ events) =
-    ap (λ a. fold anchor_after a events) (sym (anchor_push before e)) ∙ anchor_by_parts (before ++ e ∷ []) events ∙ ap anchor (append_assoc before (e ∷ []) events)
 
 -- an event that says nothing of legs, and receives nothing, changes the anchor alone
 pub basis-push : (events : List Event) (e : Event) → KeepsLegs e.body → is_reception e.body ≡ false →

@@ -1,5 +1,5 @@
 //! What estimates are counted from.
-ghost use Rattle.std.specs.Prelude.{◌≡◌, ◌+◌, ◌*◌, ◌<◌, ◌≤◌, ◌^◌, ◌++◌, [], ◌∷◌, length, fold, IfSome, None, true};
+ghost use Rattle.std.specs.Prelude.{◌≡◌, ◌+◌, ◌*◌, ◌<◌, ◌≤◌, ◌^◌, ◌++◌, [], ◌∷◌, length, IfSome, None, true};
 ghost use Rattle.std.specs.List.{sum_by};
 ghost use Rattle.taf_moment.specs.Calendar.{last_minute};
 ghost use Rattle.journey.specs.Checks.{refusal};
@@ -8,8 +8,7 @@ ghost use Rattle.eti_chain.specs.Estimates as of;
 ghost use Rattle.eti_chain.specs.EstimateStates as states;
 
 use crate::anchor::{Anchor, anchor_after};
-use journey::{Event, Events, Legs, Track, Transition};
-use std::collections::LinkedList;
+use journey::{Event, Legs, Track, Transition};
 use std::marker::Model;
 use taf_moment::Moment;
 use trip_plan::Leg;
@@ -175,36 +174,13 @@ impl<'a> EstimateBasis<'a> {
 
 // The newest anchor of a journey, with the delays since. At most 2^64 events delay the wagon by at
 // most 100,000 minutes each.
-#[tactic(auto, using(crate::proofs::EstimateLemmas::anchor_by_parts))]
-fn newest_anchor(events: &Events) -> Option<Anchor>
+#[tactic(auto, using(crate::proofs::EstimateLemmas::anchor_push))]
+fn newest_anchor(events: &[Event]) -> Option<Anchor>
     ensures value { result ≡ of.anchor events.now }
     ensures small { of.delays_of result < 2 ^ 127 }
 {
-    let (row, joined) = events.parts();
-    anchor_behind(anchor_in_row(row), joined)
-}
-
-// The same of the events in a row.
-#[tactic(auto, using(crate::proofs::EstimateLemmas::anchor_push))]
-fn anchor_in_row(row: &[Event]) -> Option<Anchor>
-    ensures value { result ≡ of.anchor row.now }
-    ensures small { of.delays_of result ≤ 100000 * length row.now }
-{
     let mut found = None;
-    for event in row {
-        found = anchor_after(found, event);
-    }
-    found
-}
-
-// The newest anchor after more events.
-fn anchor_behind(before: Option<Anchor>, joined: &LinkedList<Event>) -> Option<Anchor>
-    requires { of.delays_of before < 2 ^ 126 }
-    ensures value { result ≡ fold states.anchor_after before joined.now }
-    ensures small { of.delays_of result < 2 ^ 127 }
-{
-    let mut found = before;
-    for event in joined.iter() {
+    for event in events {
         found = anchor_after(found, event);
     }
     found

@@ -1,11 +1,11 @@
-ghost use Rattle.std.specs.Prelude.{◌≡◌, ◌+◌, ◌<◌, ◌^◌, [], ◌∷◌, ◌++◌, length, true, None, OnOk, OnErr};
+ghost use Rattle.std.specs.Prelude.{◌≡◌, [], ◌∷◌, ◌++◌, true, None, OnOk, OnErr};
 ghost use Rattle.journey.specs.Checks.{refusal};
 ghost use Rattle.eti_chain.specs.Estimates as of;
 
 use crate::anchor::{Anchor, anchor_after};
 use crate::basis::EstimateBasis;
 use crate::estimates::Estimates;
-use journey::{Event, PreparedEvent, Track};
+use journey::{Event, Track};
 use std::marker::Model;
 use taf_codes::Memory;
 use taf_moment::Moment;
@@ -45,6 +45,16 @@ impl EstimateAnchor {
         }
     }
 
+    /// The same.
+    pub fn copy(&self) -> EstimateAnchor
+        ensures { result ≡ self.now }
+    {
+        EstimateAnchor {
+            newest: self.newest,
+            commit: self.commit,
+        }
+    }
+
     /// The estimates of the track that this is kept for. It takes no walk.
     pub fn estimates<'a>(&self, track: &'a Track) -> Estimates<'a>
         requires of_track { self.now ≡ estimate_anchor track.now.events }
@@ -70,18 +80,5 @@ impl EstimateAnchor {
         track.add(event)?;
         self.newest = newest;
         Ok(())
-    }
-
-    /// Adds a prepared event in the same way. It takes no memory.
-    pub fn put(&mut self, track: &mut Track, event: PreparedEvent)
-        requires of_track { self.old ≡ estimate_anchor track.old.events }
-        requires admitted { refusal track.old.events event.by event.body ≡ None }
-        requires fits { of.fits (track.old.events ++ event ∷ []) ≡ true }
-        requires room { length track.old.events + 1 < 2 ^ 63 }
-        ensures track { track.new ≡ record track.old { events = track.old.events ++ event ∷ [] } }
-        ensures kept { self.new ≡ estimate_anchor (track.old.events ++ event ∷ []) }
-    {
-        self.newest = anchor_after(self.newest, event.event());
-        track.put(event);
     }
 }

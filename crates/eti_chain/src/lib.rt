@@ -14,15 +14,15 @@
 //!
 //! - [`Estimates::fits`] says whether no estimate of a track passes 2199-12-31T23:59Z. [`Estimates::of`] and
 //!   [`EstimateAnchor::of`] walk its events.
-//! - [`EstimateAnchor::estimates`] gives the estimates of a track without a walk. [`EstimateAnchor::add`] and [`EstimateAnchor::put`] add
-//!   an event to the track and go on with it.
+//! - [`EstimateAnchor::estimates`] gives the estimates of a track without a walk. [`EstimateAnchor::add`] adds an event to the track
+//!   and goes on with it.
 //! - [`Estimates::follow`] goes from the estimates of a track to those of the track with one event more.
 //!   [`Estimates::would_pass_calendar`] says beforehand whether one would pass the calendar.
 //! - [`Estimates::followed`] does the same as `follow` by a [`Transition`](journey::Transition), whose state it does not make anew and
 //!   whose legs it borrows.
 //! - [`Estimates::estimate`], [`Estimates::eta`], [`Estimates::late`] and [`Estimates::late_by`] read them.
 //!
-//! Promised: each answer is that of the definitions over the track's events, and what `add` and `put` keep is what `of` would
+//! Promised: each answer is that of the definitions over the track's events, and what `add` keeps is what `of` would
 //! give. Only `add` takes memory. Sums are made in 128 bits: fewer than 2^64 events delay a wagon by at most 100,000 minutes
 //! each, and eight legs take less than 2^32 minutes each, so that no sum overflows.
 #![tactic(auto)]

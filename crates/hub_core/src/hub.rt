@@ -85,6 +85,7 @@ impl Hub {
     }
 
     /// Takes a call, and gives its position in the history and its reply.
+    #[inline(always)]
     pub fn apply(&mut self, call: Call) -> Result<(u64, Reply), HubFault>
         ensures answered { IfOk result (λ r. (r.0 ≡ length self.old)
             × (r.1 ≡ answer self.old call)) }

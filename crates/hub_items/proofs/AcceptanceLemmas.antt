@@ -3,7 +3,7 @@ use Rattle.hub_items.proofs.Common.{◌≡◌, ℕ, Bool, true, List, [], ◌∷
 use Rattle.hub_items.proofs.UnchangedEstimateLemmas.{same_number}
 
 -- the message comes last, by the events that are found and the event that is made
-pub same_after : (s : HubState) (m : Message) (e : EventAt Event) (events : List Event) → IsEventOf s m e → events ≡ s.journey e.wagon → events ++ e.event ∷ [] ≡ journey_after s m e.wagon
+pub same_after : (s : HubState) (m : Message) (e : EventAt) (events : List Event) → IsEventOf s m e → events ≡ s.journey e.wagon → events ++ e.event ∷ [] ≡ journey_after s m e.wagon
 same_after s m e events of j =
     ap (λ es. es ++ e.event ∷ []) j ∙ ap (λ x. s.journey e.wagon ++ x ∷ []) of.event_is ∙ sym (comes_last s m e.wagon of.is_named of.admitted)
 

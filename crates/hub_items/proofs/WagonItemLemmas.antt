@@ -18,11 +18,11 @@ pub nothing_planned : {A E : Type 0} (r : Result A E) (s : HubState) (m : Messag
 nothing_planned (Ok x) s m before h = sym (ap (λ xs. before ++ xs) (planned_by s m m.body refl h) ∙ append-nil before)
 nothing_planned (Err e) s m before h = tt
 
-by_events : {B : Type 0} (f : ℕ → List B) (es : List (EventAt Event)) → flat_map (λ e. f e.wagon) es ≡ flat_map f (map (λ e. e.wagon) es)
+by_events : {B : Type 0} (f : ℕ → List B) (es : List EventAt) → flat_map (λ e. f e.wagon) es ≡ flat_map f (map (λ e. e.wagon) es)
 by_events f [] = refl
 by_events f (e ∷ es) = ap (λ xs. f e.wagon ++ xs) (by_events f es)
 
 -- what is put of each event is put of each wagon
-pub put_of_each : {A E B : Type 0} (r : Result A E) (f : ℕ → List B) (before now : List B) (es : List (EventAt Event)) (ws : List ℕ) → map (λ e. e.wagon) es ≡ ws →
+pub put_of_each : {A E B : Type 0} (r : Result A E) (f : ℕ → List B) (before now : List B) (es : List EventAt) (ws : List ℕ) → map (λ e. e.wagon) es ≡ ws →
     OnOk r (now ≡ before ++ flat_map (λ e. f e.wagon) es) → OnOk r (now ≡ before ++ flat_map f ws)
 put_of_each r f before now es ws are put = subst (λ xs. OnOk r (now ≡ before ++ xs)) (by_events f es ∙ ap (flat_map f) are) put

@@ -15,7 +15,6 @@ use crate::estimates::put_estimates;
 use crate::wagon_change::WagonEvent;
 use hub_model::AddressedItem;
 use hub_tables::{EventAt, NextEvents, Tables};
-use journey::PreparedEvent;
 use taf_codes::Memory;
 use taf_messages::{Body, ItemBody};
 use trip_plan::Plan;
@@ -52,7 +51,7 @@ fn put_of_each(
     items: &mut Vec<AddressedItem>,
     alerts: &mut Vec<AddressedItem>,
     from: Acceptable<'_>,
-    events: &[EventAt<PreparedEvent>],
+    events: &[EventAt],
 ) -> Result<(), Memory>
     requires acceptable { MayBeAccepted from }
     requires each { All (IsEventOf (table_state from.tables.now) from.message.now) events.now }
@@ -66,7 +65,7 @@ fn put_of_each(
         ++ flat_map (λ e. alerts_at s m e.wagon) events.now) }
 {
     for next in events {
-        let event = WagonEvent::of(from, next.wagon, next.position, next.event.event());
+        let event = WagonEvent::of(from, next.wagon, next.position, &next.event);
         put_of_event(items, alerts, &event)?;
     }
     Ok(())

@@ -16,7 +16,7 @@ alone_continues (body.Plan p) w h = cc
 alone_continues _ w h = refl
 
 -- where a message names one wagon alone, its event is that of this wagon
-pub event_alone : (s : HubState) (m : Message) (e : EventAt Event) (w : ℕ) → AreEventsOf s m (e ∷ []) → named_alone m.body ≡ Some w → e.wagon ≡ w
+pub event_alone : (s : HubState) (m : Message) (e : EventAt) (w : ℕ) → AreEventsOf s m (e ∷ []) → named_alone m.body ≡ Some w → e.wagon ≡ w
 event_alone s m e w of alone = first_same e.wagon w (of.wagons ∙ alone_named s.offer m.by m.body w alone)
   where
     first_same : (v w : ℕ) → v ∷ [] ≡ w ∷ [] → v ≡ w

@@ -59,11 +59,7 @@ none_first None second h = refl
 none_first (Some x) second h = h
 
 -- the wagons of events, with one event more
-pub wagons_more : (es now : List (EventAt Event)) (e : EventAt Event) (ws : List ℕ) (i : ℕ) (w : ℕ) → now ≡ es ++ e ∷ [] → e.wagon ≡ w → map (λ x. x.wagon) es ≡ take i ws → i < length ws → w ≡ get_or ws i w → map (λ x. x.wagon) now ≡ take (i + 1) ws
+pub wagons_more : (es now : List EventAt) (e : EventAt) (ws : List ℕ) (i : ℕ) (w : ℕ) → now ≡ es ++ e ∷ [] → e.wagon ≡ w → map (λ x. x.wagon) es ≡ take i ws → i < length ws → w ≡ get_or ws i w → map (λ x. x.wagon) now ≡ take (i + 1) ws
 wagons_more es now e ws i w put is so_far within item =
     ap (map (λ x. x.wagon)) put ∙ map-append (λ x. x.wagon) es (e ∷ []) ∙ ap (λ (us : List ℕ). us ++ e.wagon ∷ []) so_far ∙
     ap (λ v. take i ws ++ v ∷ []) (is ∙ item) ∙ sym (take_more ws i w within)
-
--- the same event in memory of its own
-pub prepared_is : (s : HubState) (m : Message) (e : EventAt Event) (prepared : Event) → prepared ≡ e.event → IsEventOf s m e → IsEventOf s m (record { wagon = e.wagon; position = e.position; event = prepared })
-prepared_is s m e prepared same of = record { is_named = of.is_named; position_is = of.position_is; event_is = same ∙ of.event_is; admitted = of.admitted; room = of.room }

@@ -1,5 +1,5 @@
 -- Journeys that go on in the table of wagons.
-use Rattle.hub_tables.proofs.Common.{◌≡◌, ℕ, Bool, true, false, cond, List, [], ◌∷◌, ◌++◌, length, Option, Some, None, IfSome, refl, sym, ap, subst, ◌∙◌, arith, if◌then◌else◌, nat_eq, option_map_or, AllByRecursion, IsDistinct, lookup, keys_of, update_all, IndexMap, get, insert_entry, insert_all, eqb-true, numbers, Event, Journey, is_unknown, events_in, IsJourneyEntry, AreJourneyEntries, MayComeNext, IsAdmitted, with_event_on, EventAt, slice_get, map, zero, suc, lookup_from_place, is_equivalence, same_Some, values, with_value_at, IsUnique, updates-with_value_at, keys-with_value_at}
+use Rattle.hub_tables.proofs.Common.{◌≡◌, ℕ, ◌==◌, Bool, true, false, cond, List, [], ◌∷◌, ◌++◌, length, Option, Some, None, IfSome, refl, sym, ap, subst, ◌∙◌, arith, true≢false, if◌then◌else◌, nat_eq, option_map_or, lookup, keys_of, update_all, IndexMap, get, insert_entry, insert_all, eqb-true, numbers, Event, Journey, is_unknown, without_newest, without_newest_of, WagonState, IsStateOf, events_in, IsJourneyEntry, AreJourneyEntries, with_event_on, EventAt, slice_get, map, zero, suc, lookup_from_place, is_equivalence, same_Some, values, with_value_at, IsUnique, updates-with_value_at}
 
 pub nothing_left : {X : Type 0} (xs : List X) → length xs ≡ 0 → xs ≡ []
 nothing_left [] h = refl
@@ -8,10 +8,6 @@ nothing_left (x ∷ xs) h = absurd (omega arith)
 -- the events of a journey, if there is one
 abbrev pub of_journey : Option Journey → List Event
 of_journey o = option_map_or (λ j. j.events) o []
-
--- the events of a wagon that is in the table
-pub events_there : (wagons : List (ℕ × Journey)) (w : ℕ) (j : Journey) → lookup (nat_eq w) wagons ≡ Some j → events_in wagons w ≡ j.events
-events_there wagons w j found = ap of_journey found
 
 -- the key at a position is that of the entry there
 pub key_at : {K V : Type 0} (es : List (K × V)) (i : ℕ) (e : K × V) → slice_get es i ≡ Some e → slice_get (keys_of es) i ≡ Some e.0
@@ -25,132 +21,87 @@ entry_at [] i k v h g = cc
 entry_at (e ∷ es) zero k v h g = λ i. Some (same_Some e.0 k h i, same_Some e.1 v g i)
 entry_at (e ∷ es) (suc i) k v h g = entry_at es i k v h g
 
--- a wagon that is none of the keys is not found
-absent : (w : ℕ) (es : List (ℕ × Journey)) → AllByRecursion (λ k. nat_eq w k ≡ false) (keys_of es) → lookup (nat_eq w) es ≡ None
-absent w [] h = refl
-absent w (e ∷ es) h = ap (λ (b : Bool). cond b (Some e.1) (lookup (nat_eq w) es)) h.0 ∙ absent w es h.1
+some_same : {A : Type 0} (a b : A) → Some a ≡ Some b → a ≡ b
+some_same a b h = cc
 
-some_same : (j k : Journey) → Some j ≡ Some k → j ≡ k
-some_same j k h = cc
+-- the events of the wagon at a position
+pub events_at : (wagons : List (ℕ × Journey)) (w key position : ℕ) (j : Journey) → slice_get wagons position ≡ Some (key, j) → slice_get (keys_of wagons) position ≡ Some w →
+    lookup (nat_eq key) wagons ≡ Some j → events_in wagons w ≡ j.events
+events_at wagons w key position j at is found =
+    let same = some_same key w (sym (key_at wagons position (key, j) at) ∙ is) in
+    ap of_journey (subst (λ (v : ℕ). lookup (nat_eq v) wagons ≡ Some j) same found)
 
-head_same : (v w : ℕ) (vs ws : List ℕ) → v ∷ vs ≡ w ∷ ws → v ≡ w
-head_same v w vs ws h = cc
-
-tail_same : (v w : ℕ) (vs ws : List ℕ) → v ∷ vs ≡ w ∷ ws → vs ≡ ws
-tail_same v w vs ws h = cc
-
--- one entry of two tables with the same keys in which the same is found
-module _ (e f : ℕ × Journey) (es fs : List (ℕ × Journey)) (apart : AllByRecursion (λ k. nat_eq f.0 k ≡ false) (keys_of fs)) (key : e.0 ≡ f.0) (keys : keys_of es ≡ keys_of fs)
-    (finds : (q : ℕ) → lookup (nat_eq q) (e ∷ es) ≡ lookup (nat_eq q) (f ∷ fs))
-  where
-    first_same : e.1 ≡ f.1
-    first_same =
-        some_same e.1 f.1
-        (sym (ap (λ (b : Bool). cond b (Some e.1) (lookup (nat_eq f.0) es)) (ap (nat_eq f.0) key ∙ numbers.itself f.0)) ∙ finds f.0 ∙
-        ap (λ (b : Bool). cond b (Some f.1) (lookup (nat_eq f.0) fs)) (numbers.itself f.0))
-
-    others_by : (q : ℕ) (b : Bool) → nat_eq q f.0 ≡ b → lookup (nat_eq q) es ≡ lookup (nat_eq q) fs
-    others_by q true same =
-        subst (λ (w : ℕ). lookup (nat_eq w) es ≡ lookup (nat_eq w) fs) (sym (eqb-true q f.0 same))
-        (absent f.0 es (subst (AllByRecursion (λ k. nat_eq f.0 k ≡ false)) (sym keys) apart) ∙ sym (absent f.0 fs apart))
-    others_by q false differs =
-        sym (ap (λ (b : Bool). cond b (Some e.1) (lookup (nat_eq q) es)) (ap (nat_eq q) key ∙ differs)) ∙ finds q ∙
-        ap (λ (b : Bool). cond b (Some f.1) (lookup (nat_eq q) fs)) differs
-
-    others_same : (q : ℕ) → lookup (nat_eq q) es ≡ lookup (nat_eq q) fs
-    others_same q = others_by q (nat_eq q f.0) refl
-
--- tables with the same keys, all different, in which the same is found have the same entries
-pub same_entries : (es fs : List (ℕ × Journey)) → IsDistinct nat_eq (keys_of fs) → keys_of es ≡ keys_of fs → ((q : ℕ) → lookup (nat_eq q) es ≡ lookup (nat_eq q) fs) → es ≡ fs
-unfolding IsDistinct
-same_entries [] [] d k h = refl
-same_entries [] (f ∷ fs) d k h = cc
-same_entries (e ∷ es) [] d k h = cc
-same_entries (e ∷ es) (f ∷ fs) d k h =
-    let key = head_same e.0 f.0 (keys_of es) (keys_of fs) k in
-    let keys = tail_same e.0 f.0 (keys_of es) (keys_of fs) k in
-    let first = first_same e f es fs d.0 key keys h in
-    let others = same_entries es fs d.1 keys (others_same e f es fs d.0 key keys h) in
-    λ i. (key i, first i) ∷ others i
-
--- a journey that is written as it was
-module _ (before after : List (ℕ × Journey)) (w : ℕ) (j : Journey) (found : lookup (nat_eq w) before ≡ Some j)
-    (written : (q : ℕ) → lookup (nat_eq q) after ≡ cond (nat_eq w q) (Some j) (lookup (nat_eq q) before))
-  where
-    kept_by : (q : ℕ) (b : Bool) → nat_eq w q ≡ b → cond b (Some j) (lookup (nat_eq q) before) ≡ lookup (nat_eq q) before
-    kept_by q true same = sym found ∙ ap (λ v. lookup (nat_eq v) before) (eqb-true w q same)
-    kept_by q false same = refl
-
-    kept : (q : ℕ) → lookup (nat_eq q) after ≡ lookup (nat_eq q) before
-    kept q = written q ∙ kept_by q (nat_eq w q) refl
-
-    pub kept_entries : IsDistinct nat_eq (keys_of before) → keys_of after ≡ keys_of before → after ≡ before
-    kept_entries distinct keys = same_entries after before distinct keys kept
+-- a test whose answer does not matter
+either_way : (b : Bool) (events : List Event) → (if b then events else events) ≡ events
+either_way true events = refl
+either_way false events = refl
 
 -- the journey of a wagon that is found by its position
-module _ {S : Type 0} (wagons : IndexMap ℕ Journey S) (x : EventAt Event) (j : Journey) (distinct : IsUnique nat_eq wagons) (key : slice_get (keys_of wagons.entries) x.position ≡ Some x.wagon)
-    (value : slice_get (values wagons) x.position ≡ Some j)
+module _ {S : Type 0} (wagons : IndexMap ℕ Journey S) (w position : ℕ) (j : Journey) (distinct : IsUnique nat_eq wagons) (key : slice_get (keys_of wagons.entries) position ≡ Some w)
+    (value : slice_get (values wagons) position ≡ Some j)
   where
     abbrev before : List (ℕ × Journey)
     before = wagons.entries
 
-    entry : slice_get before x.position ≡ Some (x.wagon, j)
-    entry = entry_at before x.position x.wagon j key value
+    entry : slice_get before position ≡ Some (w, j)
+    entry = entry_at before position w j key value
 
-    found : lookup (nat_eq x.wagon) before ≡ Some j
-    found = lookup_from_place (is_equivalence nat_eq numbers) before x.position x.wagon j distinct entry
+    found : lookup (nat_eq w) before ≡ Some j
+    found = lookup_from_place (is_equivalence nat_eq numbers) before position w j distinct entry
 
-    -- it takes the event where the table does
-    pub next_there : MayComeNext (events_in before x.wagon) x.event → MayComeNext j.events x.event
-    next_there h = subst (λ (es : List Event). MayComeNext es x.event) (events_there before x.wagon j found) h
+    -- its events are those that the table has
+    pub there : events_in before w ≡ j.events
+    there = ap of_journey found
 
-    pub admitted_there : IsAdmitted (events_in before x.wagon) x.event → IsAdmitted j.events x.event
-    admitted_there h = subst (λ (es : List Event). IsAdmitted es x.event) (events_there before x.wagon j found) h
-
-    -- another one is written in its place
-    module _ (k : Journey) where
+    -- another journey is written in its place, whose events are made of those before
+    module _ (k : Journey) (change : List Event → List Event) (put : k ≡ record j { events = change j.events }) where
       abbrev after : List (ℕ × Journey)
-      after = (with_value_at wagons x.position k).entries
+      after = (with_value_at wagons position k).entries
 
-      written : (q : ℕ) → lookup (nat_eq q) after ≡ cond (nat_eq x.wagon q) (Some k) (lookup (nat_eq q) before)
-      written = (updates-with_value_at wagons x.position k (is_equivalence nat_eq numbers) distinct x.wagon j entry).0
+      written : (q : ℕ) → lookup (nat_eq q) after ≡ cond (nat_eq w q) (Some k) (lookup (nat_eq q) before)
+      written = (updates-with_value_at wagons position k (is_equivalence nat_eq numbers) distinct w j entry).0
 
-      -- it is the same, as where memory is refused
-      pub kept_there : k ≡ j → after ≡ before
-      kept_there same =
-          kept_entries before after x.wagon j found (λ q. written q ∙ ap (λ (t : Journey). cond (nat_eq x.wagon q) (Some t) (lookup (nat_eq q) before)) same) distinct
-          (keys-with_value_at wagons x.position k)
+      put_by : (q : ℕ) (b : Bool) → nat_eq w q ≡ b → of_journey (cond b (Some k) (lookup (nat_eq q) before)) ≡ (if b then change (events_in before q) else events_in before q)
+      put_by q true same = ap (λ (t : Journey). t.events) put ∙ ap change (sym there ∙ ap (events_in before) (eqb-true w q same))
+      put_by q false same = refl
 
-      module _ (put : k ≡ record j { events = j.events ++ x.event ∷ [] }) where
-        put_by : (q : ℕ) (b : Bool) → nat_eq x.wagon q ≡ b → of_journey (cond b (Some k) (lookup (nat_eq q) before)) ≡ (if b then events_in before q ++ x.event ∷ [] else events_in before q)
-        put_by q true same =
-            ap (λ (t : Journey). t.events) put ∙
-            ap (λ (es : List Event). es ++ x.event ∷ []) (sym (events_there before x.wagon j found) ∙ ap (events_in before) (eqb-true x.wagon q same))
-        put_by q false same = refl
+      pub put_there : (q : ℕ) → events_in after q ≡ (if w == q then change (events_in before q) else events_in before q)
+      put_there q = ap of_journey (written q) ∙ put_by q (nat_eq w q) refl
 
-        pub put_there : (q : ℕ) → events_in after q ≡ with_event_on (events_in before) x q
-        put_there q = ap of_journey (written q) ∙ put_by q (nat_eq x.wagon q) refl
+      module _ (journeys : AreJourneyEntries before) (begun : is_unknown (change j.events) ≡ false) where
+        here : IsJourneyEntry w j
+        here = subst (λ (o : Option Journey). IfSome o (IsJourneyEntry w)) found (journeys w)
 
-        module _ (journeys : AreJourneyEntries before) where
-          still_begun : (events : List Event) → is_unknown (events ++ x.event ∷ []) ≡ false
-          still_begun [] = refl
-          still_begun (first ∷ events) = refl
+        new_entry : IsJourneyEntry w k
+        new_entry = record {
+          wagon = ap (λ (t : Journey). t.wagon) put ∙ here.wagon;
+          begun = ap (λ (t : Journey). is_unknown t.events) put ∙ begun;
+        }
 
-          here : IsJourneyEntry x.wagon j
-          here = subst (λ (o : Option Journey). IfSome o (IsJourneyEntry x.wagon)) found (journeys x.wagon)
+        entry_by : (q : ℕ) (b : Bool) → nat_eq w q ≡ b → IfSome (cond b (Some k) (lookup (nat_eq q) before)) (IsJourneyEntry q)
+        entry_by q true same = subst (λ (v : ℕ). IsJourneyEntry v k) (eqb-true w q same) new_entry
+        entry_by q false same = journeys q
 
-          there : IsJourneyEntry x.wagon k
-          there = record {
-            wagon = ap (λ (t : Journey). t.wagon) put ∙ here.wagon;
-            begun = ap (λ (t : Journey). is_unknown t.events) put ∙ still_begun j.events;
-          }
+        pub entries_there : AreJourneyEntries after
+        entries_there q = subst (λ (o : Option Journey). IfSome o (IsJourneyEntry q)) (sym (written q)) (entry_by q (nat_eq w q) refl)
 
-          entry_by : (q : ℕ) (b : Bool) → nat_eq x.wagon q ≡ b → IfSome (cond b (Some k) (lookup (nat_eq q) before)) (IsJourneyEntry q)
-          entry_by q true same = subst (λ (v : ℕ). IsJourneyEntry v k) (eqb-true x.wagon q same) there
-          entry_by q false same = journeys q
+    -- the journey that was there has begun
+    pub begun_there : AreJourneyEntries before → is_unknown j.events ≡ false
+    begun_there journeys = (subst (λ (o : Option Journey). IfSome o (IsJourneyEntry w)) found (journeys w)).begun
 
-          pub entries_there : AreJourneyEntries after
-          entries_there q = subst (λ (o : Option Journey). IfSome o (IsJourneyEntry q)) (sym (written q)) (entry_by q (nat_eq x.wagon q) refl)
+    -- the same journey is written again, as where memory is refused
+    pub kept_there : (k : Journey) → k ≡ j → (q : ℕ) → events_in (with_value_at wagons position k).entries q ≡ events_in before q
+    kept_there k same q = put_there k (λ events. events) same q ∙ either_way (w == q) (events_in before q)
+
+-- a journey with an event more has begun
+pub still_begun : (events : List Event) (e : Event) → is_unknown (events ++ e ∷ []) ≡ false
+still_begun [] e = refl
+still_begun (first ∷ events) e = refl
+
+-- so has one beside which a state is kept
+pub begun_beside : (events : List Event) (s : WagonState) → IsStateOf events s → is_unknown events ≡ false
+begun_beside [] s is = absurd (true≢false (sym is.track.planned))
+begun_beside (e ∷ events) s is = refl
 
 -- a table into which entries are put one after another
 module _ {K V S : Type 0} (eq : K → K → Bool) (before table next : IndexMap K V S) (all items rest : List (K × V)) (key : K) (value : V) (steps : items ≡ (key, value) ∷ rest) where

@@ -18,7 +18,7 @@ pub record GoesOn (s : HubState) (m : Message) : Type 0 where
   pub whole : whole_fault s m.by m.body ≡ None
 
 -- a wagon at which the message is refused has this fault; at another one the message has no fault, and this is its event
-abbrev pub IsWagonChecked : HubState → Message → ℕ → Result (EventAt Event) Why → Type 0
+abbrev pub IsWagonChecked : HubState → Message → ℕ → Result EventAt Why → Type 0
 IsWagonChecked s m w (Err why) = wagon_fault s m m.body w ≡ Some why
 IsWagonChecked s m w (Ok e) = (wagon_fault s m m.body w ≡ None) × (e.wagon ≡ w) × IsEventOf s m e
 

@@ -1,5 +1,5 @@
 -- What the tables are seen as: all that is looked up but first sends and outboxes.
-use Rattle.std.specs.Prelude.{◌≡◌, ℕ, ◌<◌, ◌^◌, Bool, true, false, nat_eq, List, [], ◌∷◌, All, length, map, slice_get, Option, Some, None, IfSome, bytes_eq}
+use Rattle.std.specs.Prelude.{◌≡◌, ℕ, Bool, true, false, nat_eq, List, [], ◌∷◌, All, map, slice_get, Option, Some, None, IfSome, bytes_eq}
 use Rattle.std.specs.Option.{option_map_or}
 use Rattle.std.specs.Map.{lookup, keys_of}
 use Rattle.taf_codes.specs.declared.code.UnitCode.{UnitCode}
@@ -75,16 +75,14 @@ named_alone (body.Reroute w route) = Some w
 named_alone _ = None
 
 -- the event is that of the message for a wagon that it names, which stands at the position of the fleet and whose journey admits it
--- and has room for it
-pub record IsEventOf (s : HubState) (m : Message) (e : EventAt Event) : Type 0 where
+pub record IsEventOf (s : HubState) (m : Message) (e : EventAt) : Type 0 where
   pub is_named : has (named_wagons s.offer m) e.wagon ≡ true
   pub position_is : slice_get s.fleet e.position ≡ Some e.wagon
   pub event_is : e.event ≡ event_for s.offer m e.wagon
   pub admitted : known_fault s m e.wagon ≡ None
-  pub room : length (s.journey e.wagon) < 2 ^ 62
 
 -- the events are those of the wagons that the message names, whose journeys go on
-pub record AreEventsOf (s : HubState) (m : Message) (es : List (EventAt Event)) : Type 0 where
+pub record AreEventsOf (s : HubState) (m : Message) (es : List EventAt) : Type 0 where
   pub goes_on : continues_journeys m.body ≡ true
   pub wagons : map (λ e. e.wagon) es ≡ named_wagons s.offer m
   pub each : All (IsEventOf s m) es

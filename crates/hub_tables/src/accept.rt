@@ -11,7 +11,7 @@ ghost use Rattle.hub_model.specs.Updates.{after_acceptance};
 ghost use Rattle.hub_tables.specs.TableStates.{AreNextEvents, IsAcceptable, continues_journeys, table_state, table_part};
 ghost use Rattle.hub_tables.specs.Acceptance.{ContinuesJourneys, HasAccepted};
 
-use crate::enter::{add, enter, put_all};
+use crate::enter::{add, add_each, enter};
 use crate::next_events::NextEvents;
 use crate::tables::Tables;
 use interchange::Offer;
@@ -111,7 +111,7 @@ impl Tables {
             → is_standing self.new.offers also other
             ≡ (if same_name by offer also other then false
             else is_standing self.old.offers also other)) }
-        ensures err { OnErr result (self.new ≡ self.old) }
+        ensures err { OnErr result (table_state self.new ≡ table_state self.old) }
     {
         self.accept_events(message, events)?;
         self.offers.close_offer(by, offer);
@@ -127,15 +127,12 @@ impl Tables {
             ≡ true }
         ensures ok { OnOk result (ContinuesJourneys self.old self.new message.now) }
         ensures offers { self.new.offers ≡ self.old.offers }
-        ensures err { OnErr result (self.new ≡ self.old) }
+        ensures err { OnErr result (table_state self.new ≡ table_state self.old) }
     {
         match events {
             NextEvents::Planned => unreachable!(),
             NextEvents::Alone(event) => add(&mut self.wagons, event),
-            NextEvents::Each(events) => {
-                put_all(&mut self.wagons, events);
-                Ok(())
-            }
+            NextEvents::Each(events) => add_each(&mut self.wagons, &mut events.into_iter()),
         }
     }
 

@@ -6,7 +6,7 @@ ghost use Rattle.hub_model.specs.Laws.{OpenIsOffered};
 ghost use Rattle.hub_tables.specs.TableStates.{named_alone, table_state};
 ghost use Rattle.hub_tables.specs.Checked.{GoesOn, IsChecked};
 
-use crate::next_events::{EventAt, NextEvents};
+use crate::next_events::NextEvents;
 use crate::tables::Tables;
 use crate::unit_checks::unit_fault;
 use crate::wagon_checks::{check_wagon, first_busy};
@@ -29,8 +29,7 @@ pub enum Checked {
 }
 
 /// Checks a message that is new: as a whole, each wagon that it names, and each intermodal unit that it loads. The first
-/// fault is the answer. The events by which wagons were checked are given out. `Memory` where memory is refused, and where a
-/// journey that is to go on has 2^62 events.
+/// fault is the answer. The events by which wagons were checked are given out. `Memory` where memory is refused.
 pub fn check(alloc: Global, tables: &Tables, message: &Message) -> Result<Checked, Memory>
     requires { OpenIsOffered (table_state tables.now) }
     ensures { IfOk result (IsChecked (table_state tables.now) message.now) }
@@ -87,11 +86,7 @@ fn check_each(alloc: Global, tables: &Tables, message: &Message) -> Result<Check
     let mut events = Vec::with_capacity(alloc, wagons.as_slice().len())?;
     for wagon in wagons.as_slice() {
         match check_wagon(tables, message, *wagon)? {
-            Ok(next) => events.push(EventAt {
-                wagon: next.wagon,
-                position: next.position,
-                event: next.event.prepared(alloc)?,
-            })?,
+            Ok(next) => events.push(next)?,
             Err(why) => return Ok(refused_at(*wagon, why)),
         }
     }

@@ -1,15 +1,17 @@
 //! Entries and events that are put into tables.
 ghost use Rattle.std.specs.Prelude.{◌≡◌, ℕ, ◌≤◌, Some, OnErr, OnOk, fold, length, slice_get};
 ghost use Rattle.std.specs.Map.{keys_of, update_all};
+ghost use Rattle.std.specs.Vec.Iter.{into_iter_items};
 ghost use Rattle.indexmap.specs.IndexMap.{get, insert_all, spare};
+ghost use Rattle.journey.specs.TrackStates.{without_newest};
 ghost use Rattle.hub_tables.specs.TableStates.{AreJourneyEntries, events_in};
-ghost use Rattle.hub_tables.specs.Acceptance.{AreAdmitted, IsAdmitted, MayComeNext, with_event_on};
+ghost use Rattle.hub_tables.specs.Acceptance.{AreAdmitted, IsStateOf, MayComeNext, with_event_on, without_newest_of};
 
 use crate::next_events::EventAt;
-use crate::wagon::Wagon;
+use crate::wagon::{Wagon, WagonState};
 use indexmap::IndexMap;
-use journey::{Event, PreparedEvent};
 use std::hash::Hash;
+use std::vec::IntoIter;
 use taf_codes::Memory;
 use wagon_number::WagonNumber;
 
@@ -25,52 +27,15 @@ pub(crate) fn enter<K: Eq + Hash + Drop, V: Drop>(table: &mut IndexMap<K, V>, en
     }
 }
 
-/// Puts each event at the end of its wagon's journey, in turn.
-#[inline(never)]
-pub(crate) fn put_all(
-    wagons: &mut IndexMap<WagonNumber, Wagon>,
-    events: Vec<EventAt<PreparedEvent>>,
-)
-    requires journeys { AreJourneyEntries wagons.old.entries }
-    requires admitted { AreAdmitted (keys_of wagons.old.entries) (events_in wagons.old.entries)
-        events.items }
-    ensures events { (w : ℕ) → events_in wagons.new.entries w
-        ≡ fold with_event_on (events_in wagons.old.entries) events.items w }
-    ensures keys { keys_of wagons.new.entries ≡ keys_of wagons.old.entries }
-    ensures journeys { AreJourneyEntries wagons.new.entries }
-{
-    for event in events {
-        put(wagons, event);
-    }
-}
-
-/// Puts an event at the end of its wagon's journey.
-pub(crate) fn put(wagons: &mut IndexMap<WagonNumber, Wagon>, next: EventAt<PreparedEvent>)
-    requires journeys { AreJourneyEntries wagons.old.entries }
-    requires position { slice_get (keys_of wagons.old.entries) next.position ≡ Some next.wagon }
-    requires admitted { IsAdmitted (events_in wagons.old.entries next.wagon) next.event }
-    ensures events { (w : ℕ) → events_in wagons.new.entries w
-        ≡ with_event_on (events_in wagons.old.entries) next w }
-    ensures keys { keys_of wagons.new.entries ≡ keys_of wagons.old.entries }
-    ensures journeys { AreJourneyEntries wagons.new.entries }
-{
-    match wagons.get_index_mut(next.position) {
-        Some(found) => found.put(next.event),
-        None => unreachable!(),
-    }
-}
-
-/// Adds an event at the end of its wagon's journey. Where memory is refused, all is as it was.
-pub(crate) fn add(
-    wagons: &mut IndexMap<WagonNumber, Wagon>,
-    next: EventAt<Event>,
-) -> Result<(), Memory>
+/// Adds an event at the end of its wagon's journey. Where memory is refused, all journeys are as they were.
+pub(crate) fn add(wagons: &mut IndexMap<WagonNumber, Wagon>, next: EventAt) -> Result<(), Memory>
     requires journeys { AreJourneyEntries wagons.old.entries }
     requires position { slice_get (keys_of wagons.old.entries) next.position ≡ Some next.wagon }
     requires next { MayComeNext (events_in wagons.old.entries next.wagon) next.event }
     ensures ok { OnOk result ((w : ℕ) → events_in wagons.new.entries w
         ≡ with_event_on (events_in wagons.old.entries) next w) }
-    ensures err { OnErr result (wagons.new.entries ≡ wagons.old.entries) }
+    ensures err { OnErr result ((w : ℕ) → events_in wagons.new.entries w
+        ≡ events_in wagons.old.entries w) }
     ensures keys { keys_of wagons.new.entries ≡ keys_of wagons.old.entries }
     ensures journeys { AreJourneyEntries wagons.new.entries }
 {
@@ -81,6 +46,74 @@ pub(crate) fn add(
             };
             Ok(())
         }
+        None => unreachable!(),
+    }
+}
+
+/// Adds each event at the end of its wagon's journey, in turn. Where memory is refused, those that were added are taken back, so
+/// that all journeys are as they were.
+pub(crate) fn add_each(
+    wagons: &mut IndexMap<WagonNumber, Wagon>,
+    events: &mut IntoIter<EventAt>,
+) -> Result<(), Memory>
+    requires journeys { AreJourneyEntries wagons.old.entries }
+    requires admitted { AreAdmitted (keys_of wagons.old.entries) (events_in wagons.old.entries)
+        (into_iter_items events.old) }
+    ensures ok { OnOk result ((w : ℕ) → events_in wagons.new.entries w
+        ≡ fold with_event_on (events_in wagons.old.entries) (into_iter_items events.old) w) }
+    ensures err { OnErr result ((w : ℕ) → events_in wagons.new.entries w
+        ≡ events_in wagons.old.entries w) }
+    ensures keys { keys_of wagons.new.entries ≡ keys_of wagons.old.entries }
+    ensures journeys { AreJourneyEntries wagons.new.entries }
+{
+    let Some(next) = events.next() else {
+        return Ok(());
+    };
+    let wagon = next.wagon;
+    let position = next.position;
+    let before = state_at(wagons, wagon, position);
+    add(wagons, next)?;
+    match add_each(wagons, events) {
+        Ok(()) => Ok(()),
+        Err(_) => {
+            take_back(wagons, wagon, position, before);
+            Err(Memory)
+        }
+    }
+}
+
+// What the wagon at a position keeps beside its events.
+fn state_at(
+    wagons: &IndexMap<WagonNumber, Wagon>,
+    wagon: WagonNumber,
+    position: usize,
+) -> WagonState
+    requires position { slice_get (keys_of wagons.now.entries) position ≡ Some wagon }
+    ensures { IsStateOf (events_in wagons.now.entries wagon) result }
+{
+    match wagons.get_index(position) {
+        Some((_, found)) => found.state(),
+        None => unreachable!(),
+    }
+}
+
+// Takes the newest event of the wagon at a position back, before which this was kept beside its events.
+fn take_back(
+    wagons: &mut IndexMap<WagonNumber, Wagon>,
+    wagon: WagonNumber,
+    position: usize,
+    before: WagonState,
+)
+    requires journeys { AreJourneyEntries wagons.old.entries }
+    requires position { slice_get (keys_of wagons.old.entries) position ≡ Some wagon }
+    requires before { IsStateOf (without_newest (events_in wagons.old.entries wagon)) before }
+    ensures events { (w : ℕ) → events_in wagons.new.entries w
+        ≡ without_newest_of wagon (events_in wagons.old.entries) w }
+    ensures keys { keys_of wagons.new.entries ≡ keys_of wagons.old.entries }
+    ensures journeys { AreJourneyEntries wagons.new.entries }
+{
+    match wagons.get_index_mut(position) {
+        Some(found) => found.take_back(before),
         None => unreachable!(),
     }
 }

@@ -1,14 +1,14 @@
 //! The events by which journeys go on.
-use journey::{Event, PreparedEvent};
+use journey::Event;
 use wagon_number::WagonNumber;
 
 /// An event of a wagon that was planned.
 #[derive(Drop)]
-pub struct EventAt<E> {
+pub struct EventAt {
     pub wagon: WagonNumber,
     /// The wagon's position in the fleet, from 0, in the order of first plans.
     pub position: usize,
-    pub event: E,
+    pub event: Event,
 }
 
 /// The events of a message that may be accepted: one for each wagon whose journey goes on.
@@ -17,7 +17,7 @@ pub enum NextEvents {
     /// The message plans its wagons, so their journeys begin.
     Planned,
     /// It names one wagon alone.
-    Alone(EventAt<Event>),
-    /// It may name several, in this order. Each event is in memory of its own.
-    Each(Vec<EventAt<PreparedEvent>>),
+    Alone(EventAt),
+    /// It may name several, in this order.
+    Each(Vec<EventAt>),
 }

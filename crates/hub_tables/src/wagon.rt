@@ -1,19 +1,19 @@
-ghost use Rattle.std.specs.Prelude.{◌≡◌, ◌<◌, ◌+◌, ◌^◌, [], ◌∷◌, ◌++◌, length, nat_lt, true, None, OnOk, OnErr};
+ghost use Rattle.std.specs.Prelude.{◌≡◌, [], ◌∷◌, ◌++◌, true, None, IfOk, OnOk, OnErr};
 ghost use Rattle.journey.specs.Stages.{is_plan};
 ghost use Rattle.journey.specs.Checks.{refusal};
+ghost use Rattle.journey.specs.TrackStates.{without_newest};
 ghost use Rattle.eti_chain.specs.Estimates.{fits};
 ghost use Rattle.eti_chain.specs.EstimateStates.{estimates_state};
 ghost use Rattle.hub_model.specs.Units.{is_on_plan};
+ghost use Rattle.hub_tables.specs.Acceptance.{IsStateOf};
 
 use eti_chain::{EstimateAnchor, Estimates};
-use journey::{Event, PreparedEvent, Track};
+use journey::{Event, JourneyState, Track};
+use std::alloc::Global;
 use std::marker::Model;
 use taf_codes::Memory;
 use trip_plan::Plan;
 use wagon_number::WagonNumber;
-
-// The most events of a journey that goes on: 2^62. Memory could not hold as many.
-const MOST_EVENTS: usize = 1 << 62;
 
 /// A wagon with its journey, of which no estimate passes the calendar.
 #[derive(Drop)]
@@ -39,15 +39,15 @@ impl Model for Wagon {
 }
 
 impl Wagon {
-    /// A journey that begins with this plan. It takes no memory.
-    pub(crate) fn begin(wagon: WagonNumber, plan: PreparedEvent) -> Wagon
+    /// A journey that begins with this plan.
+    pub(crate) fn open(alloc: Global, wagon: WagonNumber, plan: Event) -> Result<Wagon, Memory>
         requires plan { is_plan plan.body ≡ true }
         requires fits { fits (plan ∷ []) ≡ true }
-        ensures { result ≡ record { wagon = wagon; events = plan ∷ [] } }
+        ensures { IfOk result (λ w. w ≡ record { wagon = wagon; events = plan ∷ [] }) }
     {
-        let track = Track::begin(wagon, plan);
+        let track = Track::open(alloc, wagon, plan)?;
         let kept = EstimateAnchor::of(&track);
-        Wagon { track, kept }
+        Ok(Wagon { track, kept })
     }
 
     /// The journey.
@@ -71,13 +71,6 @@ impl Wagon {
         self.track.plan().consignment() == plan.consignment()
     }
 
-    /// Whether the journey has room for one event more.
-    pub(crate) fn has_room(&self) -> bool
-        ensures { result ≡ nat_lt (length self.now.events) (2 ^ 62) }
-    {
-        self.track.events().len() < MOST_EVENTS
-    }
-
     /// Goes on with the journey by an event that it admits. Where memory is refused, all is as it was.
     pub(crate) fn add(&mut self, event: Event) -> Result<(), Memory>
         requires admitted { refusal self.old.events event.by event.body ≡ None }
@@ -89,13 +82,29 @@ impl Wagon {
         self.kept.add(&mut self.track, event)
     }
 
-    /// Goes on with the journey by a prepared event that it admits. It takes no memory.
-    pub(crate) fn put(&mut self, event: PreparedEvent)
-        requires admitted { refusal self.old.events event.by event.body ≡ None }
-        requires fits { fits (self.old.events ++ event ∷ []) ≡ true }
-        requires room { length self.old.events + 1 < 2 ^ 63 }
-        ensures { self.new ≡ record self.old { events = self.old.events ++ event ∷ [] } }
+    /// What is kept beside the events.
+    pub(crate) fn state(&self) -> WagonState
+        ensures { IsStateOf self.now.events result }
     {
-        self.kept.put(&mut self.track, event);
+        WagonState {
+            journey_state: self.track.journey_state().copy(),
+            kept: self.kept.copy(),
+        }
     }
+
+    /// Takes the newest event back, before which this was kept beside the events. It takes no memory.
+    pub(crate) fn take_back(&mut self, before: WagonState)
+        requires { IsStateOf (without_newest self.old.events) before }
+        ensures { self.new ≡ record self.old { events = without_newest self.old.events } }
+    {
+        self.track.take_back(before.journey_state);
+        self.kept = before.kept;
+    }
+}
+
+/// What a wagon keeps beside the events of its journey.
+#[derive(Drop)]
+pub(crate) struct WagonState {
+    journey_state: JourneyState,
+    kept: EstimateAnchor,
 }

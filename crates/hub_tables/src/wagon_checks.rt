@@ -25,7 +25,7 @@ pub(crate) fn check_wagon(
     tables: &Tables,
     message: &Message,
     wagon: WagonNumber,
-) -> Result<Result<EventAt<Event>, Why>, Memory>
+) -> Result<Result<EventAt, Why>, Memory>
     requires goes_on { GoesOn (table_state tables.now) message.now }
     requires named { has (named_wagons (table_state tables.now).offer message.now) wagon ≡ true }
     ensures { IfOk result (IsWagonChecked (table_state tables.now) message.now wagon) }
@@ -33,9 +33,6 @@ pub(crate) fn check_wagon(
     let Some((position, found)) = tables.find(wagon) else {
         return Ok(Err(Why::UnknownWagon));
     };
-    if !found.has_room() {
-        return Err(Memory);
-    }
     let event = tables.event_for(message, wagon)?;
     match event_fault(found, &event) {
         Some(why) => Ok(Err(why)),

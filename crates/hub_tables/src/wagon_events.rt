@@ -155,8 +155,8 @@ impl Tables {
     {
         let mut begun = Vec::with_capacity(alloc, wagons.len())?;
         for wagon in wagons {
-            let event = self.event_for(message, *wagon)?.prepared(alloc)?;
-            begun.push((*wagon, Wagon::begin(*wagon, event)))?;
+            let event = self.event_for(message, *wagon)?;
+            begun.push((*wagon, Wagon::open(alloc, *wagon, event)?))?;
         }
         Ok(begun)
     }

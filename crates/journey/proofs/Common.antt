@@ -3,6 +3,7 @@ pub use Rattle.std.specs.List.{list_any}
 pub use Rattle.std.specs.Option.{option_or, option_flatten, option_eq}
 pub use Rattle.std.specs.Prelude.{fold, slice_index_or, slice_set, slice_get, option_map, unwrap_or, nat_lt, if◌then◌else◌, ◌||◌, ◌↔◌, IsSome, is_some}
 pub use Rattle.std.proofs.Common.{◌≡◌, ℕ, ◌+◌, zero, suc, cond, List, [], ◌∷◌, ◌++◌, length, refl, ap, ◌∙◌, ◌<◌, ◌≤◌, take, arith, ◌-◌, Bool, true, false, Option, Some, None, sym, inl, inr, ◌⊎◌, ◌==◌, append-nil, append_assoc, add-zero, drop}
+pub use Rattle.std.proofs.Math.Seq.{take-append_seam}
 pub use Rattle.std.proofs.lemmas.Bool.{lt-ltb, le-ltb, or_cases, and_parts, false≢true, cases_Bool, not-false, ltb-false}
 pub use Rattle.std.proofs.lemmas.Bool.Decides.{eqb_tells}
 pub use Rattle.std.proofs.lemmas.List.{length-append, length-take-le}
@@ -22,7 +23,7 @@ pub use Rattle.journey.specs.JourneyStates.{journey_state, journey_state_after}
 pub use Rattle.journey.specs.Legs.{LegPosition, leg_position, leg_position_after, index_after, legs, legs_after, with_leg_minutes, HasRoom, HaveRoom, lead_of, lead_in, yard_in}
 pub use Rattle.journey.specs.NewestLegs.{EventOnLeg, with_minutes, events_on_legs_from, events_on_legs, route_leg, leg_set, minutes_set, count_set, count_by_newest, leg_by_newest, IsPlanOfLegs, AllAdmitted, IsJourney, OnLegsByCount, LegsAreTheNewest, AsManyLegs, RerouteUndoesTimes}
 pub use Rattle.journey.specs.Stages.{stage, stage_after, leg_index, is_reception, plan, plan_in, moved_to, is_delivery, is_delivered, responsible, is_on_its_way, is_departure, has_departed, new_responsible, is_plan, has_later_plan}
-pub use Rattle.journey.specs.TrackStates.{IsSound, IsTrackState, first_plan}
+pub use Rattle.journey.specs.TrackStates.{IsSound, IsTrackState, first_plan, without_newest}
 pub use Rattle.journey.specs.Words.{newest, since}
 pub use Rattle.journey.specs.declared.event.Event.{Event}
 pub use Rattle.journey.specs.declared.event.EventBody.{EventBody}

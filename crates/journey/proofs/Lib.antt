@@ -6,3 +6,4 @@ pub mod SoundStateLemmas
 pub mod OfferStageLemmas
 pub mod OnItsWayLemmas
 pub mod NewestLegLemmas
+pub mod TakenBackLemmas

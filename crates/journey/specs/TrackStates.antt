@@ -1,9 +1,8 @@
 -- What a track and a transition keep.
-use Rattle.std.specs.Prelude.{◌≡◌, ◌+◌, ◌<◌, ◌≤◌, true, false, List, [], ◌∷◌, length, slice_index_or, Option, Some, None, is_some}
+use Rattle.std.specs.Prelude.{◌≡◌, ◌+◌, ◌-◌, ◌<◌, ◌≤◌, true, false, List, [], ◌∷◌, length, take, Option, Some, None, is_some}
 use Rattle.trip_plan.specs.Trip.{Trip}
 use Rattle.taf_messages.specs.declared.record.Stage.TheVariants as stage_is
 use Rattle.journey.specs.declared.event.Event.{Event}
-use Rattle.journey.specs.declared.event.EventBody.TheVariants.{EstimateAsked}
 use Rattle.journey.specs.declared.journey_state.JourneyState.{JourneyState}
 use Rattle.journey.specs.Stages.{plan, plan_in, has_later_plan}
 use Rattle.journey.specs.Legs.{HaveRoom}
@@ -38,10 +37,6 @@ pub record IsTransition (o : NextEvent) (s : JourneyState) : Type 0 where
   pub state_is : s ≡ journey_state (after o)
   pub on_a_leg : s.leg_index < length s.legs
 
--- what stands for the event where there is none
-abbrev pub blank : Event
-blank = record { by = []; no = 0; at = None; body = EstimateAsked }
-
--- the event of a list that has one
-abbrev pub only : List Event → Event
-only events = slice_index_or events 0 blank
+-- the events but the last
+abbrev pub without_newest : List Event → List Event
+without_newest events = take (length events - 1) events

@@ -17,8 +17,7 @@
 //! - [`Track`] is a wagon with the events of its journey, and contracts see it as these (`specs/Journey.antt`).
 //!   [`Track::open`] begins it with a plan, [`Track::admits`] says why an event may not come next, and
 //!   [`Track::add`] adds one that may. Where memory is refused, a track is as it was.
-//! - [`Event::prepared`] gives an event memory of its own. [`Track::begin`] and [`Track::put`] then take none.
-//! - [`Events`] lie in a row, and behind it in a list, where those are that came with memory of their own.
+//! - [`Track::take_back`] takes the newest event back, for a message on several wagons of which a later one is refused memory.
 //! - [`JourneyState`] is what the events come to. A track keeps it beside them, so that no call but
 //!   [`Track::events`] leads to a walk: stage, leg index, legs, responsible railway, place and checks take no more
 //!   than a look at it.
@@ -30,24 +29,20 @@
 //! rule over all events says (`specs/NewestLegs.antt`).
 //!
 //! Promised: each answer is that of the definitions over the track's own events, for every journey. A wagon is
-//! always on one of its legs, of which there are at most eight. Only `open`, `add` and `prepared` take memory.
+//! always on one of its legs, of which there are at most eight. Only `open` and `add` take memory.
 #![tactic(auto)]
 
 mod checks;
 mod event;
-mod events;
 mod journey_state;
 mod laws;
 mod legs;
-mod prepared;
 mod track;
 mod transition;
 
 pub use event::{Event, EventBody};
-pub use events::Events;
 pub use journey_state::JourneyState;
 pub use laws::legs_are_what_the_newest_event_sets;
 pub use legs::Legs;
-pub use prepared::PreparedEvent;
 pub use track::Track;
 pub use transition::Transition;

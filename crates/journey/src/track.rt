@@ -1,9 +1,7 @@
 ghost use Rattle.std.specs.Prelude.{◌≡◌, ◌+◌, ◌<◌, ◌≤◌, ◌^◌, [], ◌∷◌, ◌++◌, length, true, Some, None, IfOk, OnOk, OnErr};
 
 use crate::event::{Event, EventBody};
-use crate::events::Events;
 use crate::journey_state::JourneyState;
-use crate::prepared::PreparedEvent;
 use crate::transition::Transition;
 use std::alloc::Global;
 use std::marker::Model;
@@ -12,11 +10,15 @@ use taf_messages::{Stage, Why};
 use trip_plan::{Leg, Plan};
 use wagon_number::WagonNumber;
 
+// How many events a journey has room for when it begins.
+const FIRST_CAPACITY: usize = 16;
+
 /// A wagon and the events of its journey, which begins with a plan.
 #[derive(Debug, Drop)]
 pub struct Track {
     wagon: WagonNumber,
-    events: Events,
+    // Oldest first.
+    events: Vec<Event>,
     // What the events come to.
     journey_state: JourneyState,
 }
@@ -28,9 +30,9 @@ impl Model for Track {
 
     ghost use Rattle.journey.specs.TrackStates.{IsTrackState};
 
-    ghost view = { λ t. record { wagon = t.wagon; events = t.events } };
+    ghost view = { λ t. record { wagon = t.wagon; events = t.events.items } };
 
-    ghost invariant = { λ t. IsTrackState t.events t.journey_state };
+    ghost invariant = { λ t. IsTrackState t.events.items t.journey_state };
 }
 
 impl Track {
@@ -40,6 +42,7 @@ impl Track {
     ghost use Rattle.journey.specs.Stages as of;
     ghost use Rattle.journey.specs.Legs as legs_of;
     ghost use Rattle.journey.specs.JourneyStates.{journey_state};
+    ghost use Rattle.journey.specs.TrackStates.{IsTrackState, without_newest};
     ghost use Rattle.journey.specs.Checks.{refusal};
 
     /// A journey that begins with this plan.
@@ -47,23 +50,17 @@ impl Track {
         requires { of.is_plan event.body ≡ true }
         ensures { IfOk result (λ t. t ≡ record { wagon = wagon; events = event ∷ [] }) }
     {
-        Ok(Track::begin(wagon, event.prepared(alloc)?))
-    }
-
-    /// A journey that begins with this plan. It takes no memory.
-    pub fn begin(wagon: WagonNumber, event: PreparedEvent) -> Track
-        requires { of.is_plan event.body ≡ true }
-        ensures { result ≡ record { wagon = wagon; events = event ∷ [] } }
-    {
-        let journey_state = match &event.event().body {
+        let journey_state = match &event.body {
             EventBody::Planned(plan) => JourneyState::planned(plan),
             _ => unreachable!(),
         };
-        Track {
+        let mut events = Vec::with_capacity(alloc, FIRST_CAPACITY)?;
+        events.push(event)?;
+        Ok(Track {
             wagon,
-            events: Events::of(event),
+            events,
             journey_state,
-        }
+        })
     }
 
     /// Why the event may not come next, if it may not: the first check that applies.
@@ -82,19 +79,19 @@ impl Track {
             < length (legs_of.legs self.new.events)) }
         ensures err { OnErr result (self.new ≡ self.old) }
     {
-        self.events.push(event, &mut self.journey_state)?;
+        self.events.reserve(1)?;
+        self.journey_state.advance(&event);
+        self.events.push_reserved(event);
         Ok(())
     }
 
-    /// Adds a prepared event that may come next. It takes no memory.
-    pub fn put(&mut self, event: PreparedEvent)
-        requires admitted { refusal self.old.events event.by event.body ≡ None }
-        requires room { length self.old.events + 1 < 2 ^ 63 }
-        ensures grows { self.new ≡ record self.old { events = self.old.events ++ event ∷ [] } }
-        ensures on_a_leg { of.leg_index self.new.events < length (legs_of.legs self.new.events) }
+    /// Takes the newest event back, before which the events came to this state. It takes no memory.
+    pub fn take_back(&mut self, before: JourneyState)
+        requires { IsTrackState (without_newest self.old.events) before }
+        ensures { self.new ≡ record self.old { events = without_newest self.old.events } }
     {
-        self.journey_state.advance(event.event());
-        self.events.join(event);
+        self.events.truncate(self.events.len() - 1);
+        self.journey_state = before;
     }
 
     pub fn wagon(&self) -> WagonNumber
@@ -104,11 +101,11 @@ impl Track {
     }
 
     /// The events, oldest first.
-    pub fn events(&self) -> &Events
+    pub fn events(&self) -> &[Event]
         ensures value { result.now ≡ self.now.events }
         ensures have_room { legs_of.HaveRoom 0 result.now }
     {
-        &self.events
+        self.events.as_slice()
     }
 
     /// The plan that the journey begins with. It has no other.
@@ -178,7 +175,8 @@ impl Track {
 
     /// What the events come to.
     pub fn journey_state(&self) -> &JourneyState
-        ensures { result.now ≡ journey_state self.now.events }
+        ensures value { result.now ≡ journey_state self.now.events }
+        ensures kept { IsTrackState self.now.events result.now }
     {
         &self.journey_state
     }

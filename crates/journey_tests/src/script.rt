@@ -5,7 +5,7 @@ ghost use Rattle.eti_chain.specs.Estimates.{fits};
 ghost use Rattle.journey.specs.Stages.{is_plan};
 
 use eti_chain::{EstimateAnchor, Estimates};
-use journey::{Event, EventBody, PreparedEvent, Track};
+use journey::{Event, EventBody, Track};
 use std::alloc::Global;
 use std::fmt::Write;
 use std::test::Fail;
@@ -226,7 +226,7 @@ impl Run {
         if self.estimates().would_pass_calendar(&self.track, &event) {
             return Ok("BeyondCalendar".to_string(alloc)?);
         }
-        if !self.put(event.prepared(alloc)?)? {
+        if !self.add(event)? {
             return Err(Fail::new("not as foretold"));
         }
         self.seen(alloc)
@@ -253,23 +253,30 @@ impl Run {
         Ok(())
     }
 
-    /// Goes on with a prepared event, and tells whether it leads to the stage and the estimate that were foretold.
-    pub(crate) fn put(&mut self, next: PreparedEvent) -> Result<bool, Fail> {
-        let admitted = self.track.admits(next.event()).is_none();
-        if !admitted || self.track.events().len() >= 1 << 62 {
+    // Goes on with an event, and tells whether it leads to the stage and the estimate that were foretold.
+    fn add(&mut self, next: Event) -> Result<bool, Fail> {
+        if self.track.admits(&next).is_some() {
             return Err(Fail::new("refused by a check"));
         }
-        if self
-            .estimates()
-            .would_pass_calendar(&self.track, next.event())
-        {
+        if self.estimates().would_pass_calendar(&self.track, &next) {
             return Err(Fail::new("past the calendar"));
         }
-        let transition = self.track.transition(next.event());
+        let transition = self.track.transition(&next);
         let stage = transition.journey_state().stage;
         let eta = self.estimates().followed(&transition).eta();
-        self.kept.put(&mut self.track, next);
+        self.kept.add(&mut self.track, next)?;
         Ok(stage == Some(self.track.stage()) && eta == self.estimates().eta())
+    }
+
+    /// Adds an event, and takes it back.
+    pub(crate) fn add_and_take_back(&mut self, next: Event) -> Result<(), Fail> {
+        if self.track.admits(&next).is_some() {
+            return Err(Fail::new("refused by a check"));
+        }
+        let before = self.track.journey_state().copy();
+        self.track.add(next)?;
+        self.track.take_back(before);
+        Ok(())
     }
 
     pub(crate) fn record(&self, alloc: Global) -> Result<Record, Fail> {

@@ -1,5 +1,5 @@
 -- Lists of what is shown.
-use Rattle.wimo.proofs.Common.{◌≡◌, ℕ, ◌+◌, ◌<◌, ◌==◌, zero, suc, Bool, true, false, cond, List, [], ◌∷◌, ◌++◌, length, get_or, take, map, filter, Option, Some, None, refl, ap, sym, ◌∙◌, append_assoc, arith, add-one, filter_map, option_to_list, range_with_len, cons_option, map-append, filter_map-append, filter_more, UnitCode, UnitLoad, RecordEvent, EstimateAt, Event, HaveRoom, index_after, record_event, record_events, leg_behind, units_among}
+use Rattle.wimo.proofs.Common.{◌≡◌, ℕ, ◌+◌, ◌<◌, ◌==◌, zero, suc, Bool, true, false, cond, List, [], ◌∷◌, ◌++◌, length, get_or, take, map, filter, Option, Some, None, refl, ap, sym, ◌∙◌, append_assoc, arith, add-one, filter_map, option_to_list, range_with_len, cons_option, map-append, filter_map-append, filter_more, UnitCode, UnitLoad, RecordEvent, EstimateAt, Event, HaveRoom, index_after, record_event, record_events, units_among}
 
 -- an estimate of leg j
 abbrev pub at_leg : ℕ → ℕ → EstimateAt
@@ -21,23 +21,6 @@ found_more f n before after o h k e =
     k ∙ ap (λ l. l ++ option_to_list o) h ∙ ap (λ l. filter_map f (range_with_len 0 n) ++ l) (sym one) ∙
     sym (filter_map-append f (range_with_len 0 n) (n ∷ [])) ∙ ap (filter_map f) (sym (range_from 0 n n (omega arith)))
 
--- ---- events in two parts
-
--- what is shown of two parts
-pub events-append : (c : ℕ) (xs ys : List Event) → record_events c (xs ++ ys) ≡ record_events c xs ++ record_events (leg_behind c xs) ys
-events-append c [] ys = refl
-events-append c (e ∷ xs) ys = ap (λ l. record_event c e ∷ l) (events-append (index_after c e.body) xs ys)
-
--- the first part has room for its legs
-pub room-first : (c : ℕ) (xs ys : List Event) → HaveRoom c (xs ++ ys) → HaveRoom c xs
-room-first c [] ys h = tt
-room-first c (e ∷ xs) ys h = (h.0, room-first (index_after c e.body) xs ys h.1)
-
--- and so has the second
-pub room-behind : (c : ℕ) (xs ys : List Event) → HaveRoom c (xs ++ ys) → HaveRoom (leg_behind c xs) ys
-room-behind c [] ys h = h
-room-behind c (e ∷ xs) ys h = room-behind (index_after c e.body) xs ys h.1
-
 -- ---- one event more
 
 -- what is shown with it
@@ -46,10 +29,6 @@ pub shown_more : (before after : List RecordEvent) (c n : ℕ) (e : Event) (rest
 shown_more before after c n e rest all here next whole =
     ap (λ (l : List RecordEvent). l ++ record_events n rest) here ∙ ap (λ (m : ℕ). (before ++ record_event c e ∷ []) ++ record_events m rest) next ∙
     append_assoc before (record_event c e ∷ []) (record_events (index_after c e.body) rest) ∙ whole
-
--- the leg behind all
-pub leg_more : (c n : ℕ) (e : Event) (rest : List Event) (last : ℕ) → n ≡ index_after c e.body → leg_behind c (e ∷ rest) ≡ last → leg_behind n rest ≡ last
-leg_more c n e rest last next whole = ap (λ m. leg_behind m rest) next ∙ whole
 
 -- those behind it have room for their legs
 pub room_more : (c n : ℕ) (e : Event) (rest : List Event) → n ≡ index_after c e.body → HaveRoom c (e ∷ rest) → HaveRoom n rest

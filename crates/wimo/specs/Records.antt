@@ -57,11 +57,6 @@ abbrev pub record_events : ℕ → List Event → List RecordEvent
 record_events c [] = []
 record_events c (e ∷ events) = record_event c e ∷ record_events (index_after c e.body) events
 
--- the leg behind events, the first of which comes on leg c
-abbrev pub leg_behind : ℕ → List Event → ℕ
-leg_behind c [] = c
-leg_behind c (e ∷ events) = leg_behind (index_after c e.body) events
-
 -- the intermodal units that are loaded on the wagon, in order
 abbrev pub units_among : List UnitLoad → ℕ → List UnitCode
 units_among units w = map (λ l. l.unit) (filter (λ l. l.wagon == w) units)

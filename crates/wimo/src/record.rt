@@ -8,9 +8,8 @@ ghost use Rattle.eti_chain.specs.Estimates as of;
 ghost use Rattle.wimo.specs.Records as records;
 
 use eti_chain::Estimates;
-use journey::{Event, EventBody, Events, Track};
+use journey::{Event, EventBody, Track};
 use std::alloc::{AllocError, Global};
-use std::collections::LinkedList;
 use taf_codes::{Memory, Railway};
 use taf_messages::{
     EstimateAt, EstimateList, LegIndex, Listed, Record, RecordEvent, RecordEventKind, RecordEvents,
@@ -126,49 +125,13 @@ fn estimates_of(
 }
 
 // The events as they are shown.
-fn events_of(alloc: Global, events: &Events) -> Result<RecordEvents, AllocError>
+fn events_of(alloc: Global, events: &[Event]) -> Result<RecordEvents, AllocError>
     requires { HaveRoom 0 events.now }
     ensures { IfOk result (λ l. l ≡ records.record_events 0 events.now) }
 {
-    let (row, joined) = events.parts();
-    let shown = Vec::with_capacity(alloc, events.len())?;
-    let (shown, current) = show_row(shown, row)?;
-    show_joined(shown, current, joined)
-}
-
-// The first events as they are shown, put behind these, and the leg behind them.
-fn show_row(
-    before: Vec<RecordEvent>,
-    row: &[Event],
-) -> Result<(Vec<RecordEvent>, usize), AllocError>
-    requires { HaveRoom 0 row.now }
-    ensures shown { IfOk result (λ r. r.0.items ≡ before.items ++ records.record_events 0 row.now) }
-    ensures leg { IfOk result (λ r. r.1 ≡ records.leg_behind 0 row.now) }
-    ensures small { IfOk result (λ r. r.1 ≤ length row.now) }
-{
-    let mut shown = before;
+    let mut shown = Vec::with_capacity(alloc, events.len())?;
     let mut current = 0;
-    for event in row {
-        let what = shown_as(current, &event.body);
-        shown.push(recorded(event, what))?;
-        current = leg_after(current, &event.body);
-    }
-    Ok((shown, current))
-}
-
-// More events, the first of which comes on this leg, put behind these.
-fn show_joined(
-    before: Vec<RecordEvent>,
-    first: usize,
-    joined: &LinkedList<Event>,
-) -> Result<RecordEvents, AllocError>
-    requires room { HaveRoom first joined.now }
-    requires small { first < 2 ^ 62 }
-    ensures { IfOk result (λ l. l ≡ before.items ++ records.record_events first joined.now) }
-{
-    let mut shown = before;
-    let mut current = first;
-    for event in joined.iter() {
+    for event in events {
         let what = shown_as(current, &event.body);
         shown.push(recorded(event, what))?;
         current = leg_after(current, &event.body);

@@ -51,7 +51,7 @@ unfolding AreNextEvents
 returns-in-Each-clause-estimates c =
     let s = table_state c.args.from.tables.now in
     let m = c.args.from.message.now in
-    let wagons = ap (λ (es : List (EventAt Event)). map {B = ℕ} (λ e. e.wagon) es) c.as_slice.ensures.value ∙ (subst (AreNextEvents s m) c.in-Each.is c.requires.1).0.wagons in
+    let wagons = ap (λ (es : List EventAt). map {B = ℕ} (λ e. e.wagon) es) c.as_slice.ensures.value ∙ (subst (AreNextEvents s m) c.in-Each.is c.requires.1).0.wagons in
     put_of_each _ (estimates_at s m) c.args.items.now.items _ _ _ wagons c.put_of_each.ensures.estimates
 
 pub returns-in-Each-clause-alerts : goal.returns-in-Each-clause-alerts
@@ -59,5 +59,5 @@ unfolding AreNextEvents
 returns-in-Each-clause-alerts c =
     let s = table_state c.args.from.tables.now in
     let m = c.args.from.message.now in
-    let wagons = ap (λ (es : List (EventAt Event)). map {B = ℕ} (λ e. e.wagon) es) c.as_slice.ensures.value ∙ (subst (AreNextEvents s m) c.in-Each.is c.requires.1).0.wagons in
+    let wagons = ap (λ (es : List EventAt). map {B = ℕ} (λ e. e.wagon) es) c.as_slice.ensures.value ∙ (subst (AreNextEvents s m) c.in-Each.is c.requires.1).0.wagons in
     put_of_each _ (alerts_at s m) c.args.alerts.now.items _ _ _ wagons c.put_of_each.ensures.alerts

@@ -1,7 +1,7 @@
 use Rattle.hub_tables.proofs.Common.{ℕ, ◌+◌, List, ◌∷◌, Option, drop, ap, ◌∙◌, sym, subst, option_map, option_or, at_drop_all, at_drop_more, take_all, All, All-push, has, Why, Fault, Checked, table_state, IsEventOf, AreNextEvents, IsWagonChecked, IsChecked}
 use Rattle.hub_tables.proofs.NextEventLemmas.{has_at}
 use Rattle.hub_model.specs.Faults as of
-use Rattle.hub_tables.proofs.CheckLemmas.{at_wagon, each_fault, wagons_more, prepared_is}
+use Rattle.hub_tables.proofs.CheckLemmas.{at_wagon, each_fault, wagons_more}
 use Rattle.hub_tables.proofs.checked.check_each.Goals as goal
 
 pub check_wagon-requires-clause-named : goal.check_wagon-requires-clause-named
@@ -39,7 +39,7 @@ loop-wagon-preserved c =
       wagons = wagons_more c.loop-wagon.events.items _ _ wagons c.loop-wagon.wagon-index w c.in_ok-push-in-Ok.ensures.items checked.1 c.loop-wagon.invariant.wagons c.loop-wagon-test.true c.wagon-item.is;
       each =
           subst (All (IsEventOf s m)) (sym c.in_ok-push-in-Ok.ensures.items)
-          (All-push (IsEventOf s m) c.loop-wagon.events.items _ c.loop-wagon.invariant.each (prepared_is s m c.in-Ok.next _ c.in_ok-prepared-in-Ok.ensures checked.2));
+          (All-push (IsEventOf s m) c.loop-wagon.events.items _ c.loop-wagon.invariant.each checked.2);
     }
 
 pub returns : goal.returns

@@ -1,4 +1,4 @@
-use Rattle.hub_tables.proofs.Common.{refl, ◌∙◌, sym, ap, length, ◌^◌, nat_lt, List, Event, Journey, table_state, Decides-ltb}
+use Rattle.hub_tables.proofs.Common.{refl, ◌∙◌, sym, ap, Journey, table_state}
 use Rattle.hub_tables.proofs.ContinuationLemmas.{both_asked, either_by, unknown_refused}
 use Rattle.hub_tables.proofs.CheckLemmas.{none_first}
 use Rattle.hub_tables.proofs.wagon_checks.check_wagon.Goals as goal
@@ -30,6 +30,5 @@ returns-in-None c =
         position_is = c.in-Some.ensures.position;
         event_is = c.in_ok-event.ensures;
         admitted = none_first _ _ none;
-        room = (Decides-ltb (length (s.journey c.args.wagon)) (2 ^ 62)).0 (ap (λ (es : List Event). nat_lt (length es) (2 ^ 62)) events ∙ sym c.has_room.ensures ∙ c.if-not-has_room.false);
       },
     )

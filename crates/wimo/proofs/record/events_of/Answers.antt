@@ -1,23 +1,33 @@
-use Rattle.wimo.proofs.Common.{ap, sym, ◌∙◌, ◌++◌, List, ℕ, RecordEvent, record_events}
-use Rattle.wimo.proofs.RecordEventLemmas.{events-append, room-first, room-behind}
+use Rattle.wimo.proofs.Common.{◌≡◌, ◌+◌, [], ◌∷◌, ◌++◌, drop, ap, sym, ◌∙◌, arith, append-nil, at_drop_all, at_drop_more}
+use Rattle.wimo.proofs.RecordEventLemmas.{shown_more, room_more}
 use Rattle.wimo.proofs.record.events_of.Goals as goal
 
-pub show_row-requires : goal.show_row-requires
-show_row-requires c =
-    let room = c.requires in
-    room-first 0 c.parts.result.0.now c.parts.result.1.now (rw c.parts.ensures at room)
+pub shown_as-what-requires : goal.shown_as-what-requires
+shown_as-what-requires c =
+    let events = c.args.events.now in
+    let i = c.loop-event.event-index in
+    let event = c.event-item.result in
+    let behind : drop i events ≡ event ∷ drop (i + 1) events = at_drop_more (λ l. l) events i event c.loop-event-test.true ∙ ap (λ e. e ∷ drop (i + 1) events) (sym c.event-item.is) in
+    let room = rw behind at c.loop-event.invariant.room in
+    room.0
 
-pub show_joined-requires-clause-room : goal.show_joined-requires-clause-room
-show_joined-requires-clause-room c =
-    let room = c.requires in
-    rw c.in_ok-shown-2.ensures.leg (room-behind 0 c.parts.result.0.now c.parts.result.1.now (rw c.parts.ensures at room))
+pub loop-event-preserved : goal.loop-event-preserved
+loop-event-preserved c =
+    let events = c.args.events.now in
+    let i = c.loop-event.event-index in
+    let current = c.loop-event.current in
+    let event = c.event-item.result in
+    let rest = drop (i + 1) events in
+    let behind : drop i events ≡ event ∷ rest = at_drop_more (λ l. l) events i event c.loop-event-test.true ∙ ap (λ e. e ∷ rest) (sym c.event-item.is) in
+    let here = c.recorded.ensures ∙ ap (λ what. record { by = event.by; no = event.no; at = event.at; what = what }) c.shown_as-what.ensures in
+    let next = c.leg_after-current.ensures in
+    record {
+      shown = shown_more c.loop-event.shown.items c.push.new.self.items current c.leg_after-current.result event rest _ (c.in_ok-push.ensures.items ∙ ap (λ r. c.loop-event.shown.items ++ r ∷ []) (here)) next.value (rw behind at c.loop-event.invariant.shown);
+      room = room_more current c.leg_after-current.result event rest next.value (rw behind at c.loop-event.invariant.room);
+      small = omega arith;
+    }
 
 pub returns : goal.returns
 returns c =
-    let row = c.parts.result.0.now in
-    let joined = c.parts.result.1.now in
-    let behind = c.in_ok-shown-2 in
-    let is =
-    ap (λ (xs : List RecordEvent). xs ++ record_events behind.current joined) (behind.ensures.shown ∙ ap (λ (xs : List RecordEvent). xs ++ record_events 0 row) c.in_ok-shown.ensures.items) ∙
-    ap (λ (n : ℕ). record_events 0 row ++ record_events n joined) behind.ensures.leg ∙ sym (events-append 0 row joined) ∙ ap (record_events 0) (sym c.parts.ensures) in
-    rw (sym is) c.show_joined.ensures
+    let none : drop c.loop-event.event-index c.args.events.now ≡ [] = at_drop_all (λ l. l) c.args.events.now c.loop-event.event-index (omega arith) in
+    c.from_vec.ensures ∙ sym (append-nil c.loop-event.shown.items) ∙ (rw none at c.loop-event.invariant.shown)

@@ -7,4 +7,4 @@ returns c =
     let events = c.args.track.now.events in
     let e = c.args.event.now in
     let anchors = c.anchor_after.ensures.value ∙ ap (λ a. anchor_after a e) c.requires.newest in
-    (λ i. basis_from (c.leg_index.ensures.value i) (c.journey_state.ensures i).legs (anchors i)) ∙ sym (basis-kept events e c.requires.keeps)
+    (λ i. basis_from (c.leg_index.ensures.value i) (c.journey_state.ensures.value i).legs (anchors i)) ∙ sym (basis-kept events e c.requires.keeps)

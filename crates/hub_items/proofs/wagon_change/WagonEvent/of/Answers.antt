@@ -8,7 +8,7 @@ invariant_of-result c =
     let m = c.args.from.message.now in
     let w = c.args.wagon in
     let of = c.requires.event in
-    let e : EventAt Event = record { wagon = w; position = c.args.position; event = c.args.event.now } in
+    let e : EventAt = record { wagon = w; position = c.args.position; event = c.args.event.now } in
     let same = one_at s.fleet c.args.position _ w c.in-Some.ensures.found of.position_is in
     let events = ap (λ (j : Journey). j.events) c.in-Some.ensures.journey ∙ ap s.journey same in
     record {
@@ -23,7 +23,7 @@ returns c =
     let s = table_state c.args.from.tables.now in
     let w = c.args.wagon in
     let of = c.requires.event in
-    let e : EventAt Event = record { wagon = w; position = c.args.position; event = c.args.event.now } in
+    let e : EventAt = record { wagon = w; position = c.args.position; event = c.args.event.now } in
     let same = one_at s.fleet c.args.position _ w c.in-Some.ensures.found of.position_is in
     let events = ap (λ (j : Journey). j.events) c.in-Some.ensures.journey ∙ ap s.journey same in
     record {

@@ -18,15 +18,16 @@ add-requires-clause-next c =
     let e = c.in-Alone.event in
     let of = subst (AreNextEvents s c.args.message.now) c.in-Alone.is c.requires.events in
     let admitted = (next_admitted s c.args.message.now c.requires.acceptable _ of c.requires.differ).1 in
-    subst (λ (t : TableEntries). MayComeNext (events_in t.wagons e.wagon) e.event) (sym c.self.view_is) admitted.next
+    subst (λ (t : TableEntries). MayComeNext (events_in t.wagons e.wagon) e.event) (sym c.self.view_is) admitted
 
-pub put_all-requires-clause-admitted : goal.put_all-requires-clause-admitted
+pub add_each-requires-clause-admitted : goal.add_each-requires-clause-admitted
 unfolding AreNextEvents
-put_all-requires-clause-admitted c =
+add_each-requires-clause-admitted c =
     let s = table_state c.args.self.now in
     let of = subst (AreNextEvents s c.args.message.now) c.in-Each.is c.requires.events in
-    subst (λ (t : TableEntries). AreAdmitted (keys_of t.wagons) (events_in t.wagons) c.in-Each.events.items) (sym c.self.view_is)
-    (next_admitted s c.args.message.now c.requires.acceptable _ of.0 c.requires.differ)
+    subst (AreAdmitted (keys_of c.self.inside.wagons.entries) (events_in c.self.inside.wagons.entries)) (sym c.into_iter.ensures.rest)
+    (subst (λ (t : TableEntries). AreAdmitted (keys_of t.wagons) (events_in t.wagons) c.in-Each.events.items) (sym c.self.view_is)
+    (next_admitted s c.args.message.now c.requires.acceptable _ of.0 c.requires.differ))
 
 pub returns-in-Alone-clause-ok : goal.returns-in-Alone-clause-ok
 unfolding AreNextEvents
@@ -49,14 +50,18 @@ unfolding AreNextEvents
 returns-in-Each-clause-ok c =
     let s = table_state c.args.self.now in
     let m = c.args.message.now in
-    let es : List (EventAt Event) = c.in-Each.events.items in
+    let es : List EventAt = c.in-Each.events.items in
     let of = subst (AreNextEvents s m) c.in-Each.is c.requires.events in
-    record {
-      events = λ w. c.put_all.ensures.events w ∙ ap (λ (t : TableEntries). fold with_event_on (events_in t.wagons) es w) c.self.view_is ∙ next_after s m c.requires.acceptable es of.0 c.requires.differ w;
-      keys = c.put_all.ensures.keys ∙ ap (λ (t : TableEntries). keys_of t.wagons) c.self.view_is;
+    on_ok c.add_each.result
+    (λ put. record {
+      events = λ w.
+          put w ∙ ap (λ (xs : List EventAt). fold with_event_on (events_in c.self.inside.wagons.entries) xs w) c.into_iter.ensures.rest ∙
+          ap (λ (t : TableEntries). fold with_event_on (events_in t.wagons) es w) c.self.view_is ∙ next_after s m c.requires.acceptable es of.0 c.requires.differ w;
+      keys = c.add_each.ensures.keys ∙ ap (λ (t : TableEntries). keys_of t.wagons) c.self.view_is;
       plans = ap (λ (t : TableEntries). t.plans) c.self.view_is;
       units = ap (λ (t : TableEntries). t.units) c.self.view_is;
-    }
+    })
+    c.add_each.ensures.ok
 
 pub unreachable-requires : goal.unreachable-requires
 unfolding AreNextEvents

@@ -2,17 +2,17 @@ use Rattle.journey.proofs.Common.{length, ap, ◌∙◌, JourneyState, Journey, 
 use Rattle.journey.proofs.SoundStateLemmas.{kept-push, room-kept}
 use Rattle.journey.proofs.track.Track.add.Goals as goal
 
-pub push-requires-clause-room : goal.push-requires-clause-room
-push-requires-clause-room c =
+pub advance-requires-clause-room : goal.advance-requires-clause-room
+advance-requires-clause-room c =
     let e = c.args.event in
-    room-kept c.self.inside.events c.self.inside.journey_state e c.self.invariant (ap (λ (t : Journey). refusal t.events e.by e.body) c.self.view_is ∙ c.requires)
+    room-kept c.self.inside.events.items c.self.inside.journey_state e c.self.invariant (ap (λ (t : Journey). refusal t.events e.by e.body) c.self.view_is ∙ c.requires)
 
 -- what is kept with the event
 kept : goal.invariant_of-self-2
 kept c =
     let e = c.args.event in
     let admitted = ap (λ (t : Journey). refusal t.events e.by e.body) c.self.view_is ∙ c.requires in
-    rw c.in_ok-push.ensures.ok (kept-push c.self.inside.events c.self.inside.journey_state c.push.new.journey_state e c.self.invariant admitted c.in_ok-push.ensures.goes_on)
+    rw (c.push_reserved.ensures.items, c.in_ok-reserve.ensures.items) (kept-push c.self.inside.events.items c.self.inside.journey_state c.advance.new.self e c.self.invariant admitted c.advance.ensures)
 
 pub invariant_of-self-2 : goal.invariant_of-self-2
 invariant_of-self-2 = kept

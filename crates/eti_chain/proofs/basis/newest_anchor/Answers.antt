@@ -1,10 +1,10 @@
 use Rattle.eti_chain.proofs.Common.{◌≡◌, ◌+◌, ◌<◌, ◌++◌, ◌∷◌, [], length, ap, sym, ◌∙◌, take, arith, take_more, Event, anchor, anchor_after}
 use Rattle.eti_chain.proofs.EstimateLemmas.{anchor_push}
-use Rattle.eti_chain.proofs.basis.anchor_in_row.Goals as goal
+use Rattle.eti_chain.proofs.basis.newest_anchor.Goals as goal
 
 pub loop-event-preserved : goal.loop-event-preserved
 loop-event-preserved c =
-    let row = c.args.row.now in
+    let row = c.args.events.now in
     let i = c.loop-event.event-index in
     let e = c.event-item.result in
     let within : i < length row = omega arith in
