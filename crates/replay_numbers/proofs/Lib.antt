@@ -1,3 +1,4 @@
 pub mod Common
 pub mod SentRowLemmas
 pub mod SentLemmas
+pub mod PlaceLemmas

@@ -2,10 +2,10 @@
 use Rattle.replay_numbers.proofs.Common.{◌≡◌, ℕ, Bool, true, false, cond, List, Option, Some, bytes_eq, refl, ap, sym, ◌∙◌, ◌==◌, ◌&&◌, option_and_then, option_map_or, lookup, texts, Railway, SentState, position_in, has_room_in, position_of, has_room}
 
 -- what is found of a railway
-abbrev position_at : Option SentState → ℕ → Option ℕ
+abbrev pub position_at : Option SentState → ℕ → Option ℕ
 position_at found n = option_and_then (λ s. position_in s n) found
 
-abbrev room_at : Option SentState → ℕ → Bool
+abbrev pub room_at : Option SentState → ℕ → Bool
 room_at found n = option_map_or (λ s. has_room_in s n) found false
 
 -- equal railways sent the same

@@ -1,7 +1,7 @@
 -- What is noted of the messages that were sent.
-use Rattle.std.specs.Prelude.{ℕ, ◌-◌, nat_eq, nat_lt, nat_le, Bool, false, ◌||◌, ◌&&◌, if◌then◌else◌, List, length, slice_get, Option, None, option_and_then, bytes_eq}
+use Rattle.std.specs.Prelude.{◌≡◌, ℕ, ◌-◌, nat_eq, nat_lt, nat_le, Bool, false, ◌||◌, ◌&&◌, if◌then◌else◌, List, length, slice_get, Option, Some, None, is_some, option_and_then, bytes_eq}
 use Rattle.std.specs.Option.{option_or, option_flatten, option_map_or}
-use Rattle.std.specs.Map.{lookup}
+use Rattle.std.specs.Map.{keys_of, lookup}
 use Rattle.taf_codes.specs.declared.code.Railway.{Railway}
 
 -- What is noted of a railway's messages: from its first number on in a row at each number its position, the positions of
@@ -31,6 +31,14 @@ has_room_in s n = has_place s n || nat_lt 0 s.spare
 -- what is noted of each railway that sent a message
 abbrev pub SentStates : Type 0
 SentStates = List (Railway × SentState)
+
+-- the railway is among them
+abbrev pub has_railway : SentStates → Railway → Bool
+has_railway sent_states by = is_some (lookup (bytes_eq by) sent_states)
+
+-- the railway is at this place among all
+abbrev pub IsAt : SentStates → ℕ → Railway → Type 0
+IsAt sent_states place by = slice_get (keys_of sent_states) place ≡ Some by
 
 -- the position that was noted for a name
 abbrev pub position_of : SentStates → Railway → ℕ → Option ℕ

@@ -1,8 +1,9 @@
 //! The table of the railways that sent messages.
-ghost use Rattle.std.specs.Prelude.{◌≡◌, ℕ, true, Some, None, IfOk, IsOk, if◌then◌else◌};
+ghost use Rattle.std.specs.Prelude.{◌≡◌, ℕ, true, false, length, is_some, Some, None, IfSome, IfOk, OnOk, IsOk, if◌then◌else◌};
+ghost use Rattle.std.specs.Map.{keys_of};
 ghost use Rattle.taf_codes.specs.declared.code.Railway.{Railway};
 ghost use Rattle.replay_numbers.specs.Names.{same_name};
-ghost use Rattle.replay_numbers.specs.SentPositions.{position_of, has_room};
+ghost use Rattle.replay_numbers.specs.SentPositions.{IsAt, has_railway, position_of, has_room};
 
 use crate::sent::Sent;
 use indexmap::IndexMap;
@@ -20,39 +21,129 @@ pub(crate) fn find(railways: &Railways, by: Railway, number: u64) -> Option<u32>
     }
 }
 
-/// The position that was noted for a name. Where there is none, room is made for it.
+/// The place of a railway among all, with the position that was noted for a name of it. Where there is none, room is made for
+/// the name.
 pub(crate) fn find_or_make_room(
     railways: &mut Railways,
     by: Railway,
     number: u64,
-) -> Result<Option<u32>, Memory>
+) -> Result<(usize, Option<u32>), Memory>
     ensures positions { (also : Railway) (n : ℕ) → position_of railways.new.entries also n
         ≡ position_of railways.old.entries also n }
     ensures stay_roomy { (also : Railway) (n : ℕ) → has_room railways.old.entries also n ≡ true
         → has_room railways.new.entries also n ≡ true }
+    ensures place { IfOk result (λ found. IsAt railways.new.entries found.0 by) }
+    ensures found { IfOk result (λ found. found.1 ≡ position_of railways.old.entries by number) }
+    ensures room { IfOk result (λ found. found.1 ≡ None
+        → has_room railways.new.entries by number ≡ true) }
+    ensures succeeds { has_room railways.old.entries by number ≡ true → IsOk result }
+{
+    match place_of(railways, by) {
+        Some(place) => {
+            let position = find_or_make_room_at(railways, place, by, number)?;
+            Ok((place, position))
+        }
+        None => {
+            let place = railways.len();
+            add(railways, by, number)?;
+            Ok((place, None))
+        }
+    }
+}
+
+// The place of a railway among all.
+fn place_of(railways: &Railways, by: Railway) -> Option<usize>
+    ensures found { IfSome result (λ place. IsAt railways.now.entries place by) }
+    ensures has { is_some result ≡ has_railway railways.now.entries by }
+{
+    match railways.get_full(&by) {
+        Some((place, _, _)) => Some(place),
+        None => None,
+    }
+}
+
+// The position that was noted for a name of the railway at a place. Where there is none, room is made for it.
+fn find_or_make_room_at(
+    railways: &mut Railways,
+    place: usize,
+    by: Railway,
+    number: u64,
+) -> Result<Option<u32>, Memory>
+    requires { IsAt railways.old.entries place by }
+    ensures positions { (also : Railway) (n : ℕ) → position_of railways.new.entries also n
+        ≡ position_of railways.old.entries also n }
+    ensures stay_roomy { (also : Railway) (n : ℕ) → has_room railways.old.entries also n ≡ true
+        → has_room railways.new.entries also n ≡ true }
+    ensures places { keys_of railways.new.entries ≡ keys_of railways.old.entries }
     ensures found { IfOk result (λ found. found ≡ position_of railways.old.entries by number) }
     ensures room { IfOk result (λ found. found ≡ None
         → has_room railways.new.entries by number ≡ true) }
     ensures succeeds { has_room railways.old.entries by number ≡ true → IsOk result }
 {
-    if let Some(sent) = railways.get_mut(&by) {
-        return sent.find_or_make_room(number);
+    let _by = by;
+    match railways.get_index_mut(place) {
+        Some(sent) => sent.find_or_make_room(number),
+        None => unreachable!(),
     }
+}
+
+// Adds a railway that is not among them yet, with room for a number. Its place is behind all others.
+fn add(railways: &mut Railways, by: Railway, number: u64) -> Result<(), Memory>
+    requires { has_railway railways.old.entries by ≡ false }
+    ensures positions { (also : Railway) (n : ℕ) → position_of railways.new.entries also n
+        ≡ position_of railways.old.entries also n }
+    ensures stay_roomy { (also : Railway) (n : ℕ) → has_room railways.old.entries also n ≡ true
+        → has_room railways.new.entries also n ≡ true }
+    ensures place { OnOk result (IsAt railways.new.entries (length railways.old.entries) by) }
+    ensures room { OnOk result (has_room railways.new.entries by number ≡ true) }
+{
     let mut sent = Sent::new(*railways.allocator(), number);
     sent.reserve(number)?;
     railways.insert(by, sent)?;
-    Ok(None)
+    Ok(())
 }
 
-/// Notes the position of a name that is new, for which there is room.
-pub(crate) fn note(railways: &mut Railways, by: Railway, number: u64, position: u32)
+/// Notes the position of a name that is new, for which there is room. The railway is looked for at this place first, and may
+/// have another.
+pub(crate) fn note(railways: &mut Railways, place: usize, by: Railway, number: u64, position: u32)
     requires room { has_room railways.old.entries by number ≡ true }
     requires new { position_of railways.old.entries by number ≡ None }
     ensures { (also : Railway) (other : ℕ) → position_of railways.new.entries also other
         ≡ (if same_name by number also other then Some position
         else position_of railways.old.entries also other) }
 {
-    match railways.get_mut(&by) {
+    if is_at(railways, place, by) {
+        note_at(railways, place, by, number, position);
+        return;
+    }
+    match place_of(railways, by) {
+        Some(found) => note_at(railways, found, by, number, position),
+        None => unreachable!(),
+    }
+}
+
+// Whether a railway is at a place.
+fn is_at(railways: &Railways, place: usize, by: Railway) -> bool
+    ensures { result ≡ true → IsAt railways.now.entries place by }
+{
+    match railways.get_index(place) {
+        Some((found, _)) => *found == by,
+        None => false,
+    }
+}
+
+// Notes the position of a name of the railway at a place.
+#[tactic(auto, using(crate::proofs::PlaceLemmas::found, crate::proofs::PlaceLemmas::no_place))]
+fn note_at(railways: &mut Railways, place: usize, by: Railway, number: u64, position: u32)
+    requires at { IsAt railways.old.entries place by }
+    requires room { has_room railways.old.entries by number ≡ true }
+    requires new { position_of railways.old.entries by number ≡ None }
+    ensures { (also : Railway) (other : ℕ) → position_of railways.new.entries also other
+        ≡ (if same_name by number also other then Some position
+        else position_of railways.old.entries also other) }
+{
+    let _by = by;
+    match railways.get_index_mut(place) {
         Some(sent) => sent.put(number, position),
         None => unreachable!(),
     }

@@ -14,6 +14,9 @@ use taf_messages::MessageNumber;
 #[derive(Drop)]
 pub struct Seen {
     railways: Railways,
+    // The place of the railway for which `find_or_make_room` was called last. `note_reserved` looks there first, and looks the
+    // railway up where another is there, so any place is right.
+    place: usize,
 }
 
 impl Model for Seen {
@@ -31,6 +34,7 @@ impl Seen {
     {
         Seen {
             railways: IndexMap::new(alloc),
+            place: 0,
         }
     }
 
@@ -55,7 +59,9 @@ impl Seen {
         ensures room { IfOk result (λ found. found ≡ None → has_room self.new by number ≡ true) }
         ensures succeeds { has_room self.old by number ≡ true → IsOk result }
     {
-        railways::find_or_make_room(&mut self.railways, by, number.get())
+        let (place, position) = railways::find_or_make_room(&mut self.railways, by, number.get())?;
+        self.place = place;
+        Ok(position)
     }
 
     /// Notes the position of a name that is new, for which there is room. Takes no memory.
@@ -66,7 +72,7 @@ impl Seen {
             ≡ (if same_name by number also other then Some position
             else position_of self.old also other) }
     {
-        railways::note(&mut self.railways, by, number.get(), position);
+        railways::note(&mut self.railways, self.place, by, number.get(), position);
     }
 
     /// Notes the position of a name that is new. Where memory is refused, the notes stay.
