@@ -16,6 +16,7 @@ use crate::next_events::NextEvents;
 use crate::tables::Tables;
 use interchange::Offer;
 use std::alloc::Global;
+use std::collections::VecDeque;
 use taf_codes::{Memory, Railway, UnitCode};
 use taf_messages::{Body, Message, MessageNumber, OfferedWagons, TrainAnswer, TrainOffer};
 use trip_plan::{Plan, UnitLoad};
@@ -132,7 +133,9 @@ impl Tables {
         match events {
             NextEvents::Planned => unreachable!(),
             NextEvents::Alone(event) => add(&mut self.wagons, event),
-            NextEvents::Each(events) => add_each(&mut self.wagons, &mut events.into_iter()),
+            NextEvents::Each(events) => {
+                add_each(&mut self.wagons, &mut VecDeque::from_vec(events))
+            }
         }
     }
 

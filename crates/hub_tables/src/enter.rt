@@ -1,7 +1,6 @@
 //! Entries and events that are put into tables.
 ghost use Rattle.std.specs.Prelude.{◌≡◌, ℕ, ◌≤◌, Some, OnErr, OnOk, fold, length, slice_get};
 ghost use Rattle.std.specs.Map.{keys_of, update_all};
-ghost use Rattle.std.specs.Vec.Iter.{into_iter_items};
 ghost use Rattle.indexmap.specs.IndexMap.{get, insert_all, spare};
 ghost use Rattle.journey.specs.TrackStates.{without_newest};
 ghost use Rattle.hub_tables.specs.TableStates.{AreJourneyEntries, events_in};
@@ -10,8 +9,8 @@ ghost use Rattle.hub_tables.specs.Acceptance.{AreAdmitted, IsStateOf, MayComeNex
 use crate::next_events::EventAt;
 use crate::wagon::{Wagon, WagonState};
 use indexmap::IndexMap;
+use std::collections::VecDeque;
 use std::hash::Hash;
-use std::vec::IntoIter;
 use taf_codes::Memory;
 use wagon_number::WagonNumber;
 
@@ -28,6 +27,7 @@ pub(crate) fn enter<K: Eq + Hash + Drop, V: Drop>(table: &mut IndexMap<K, V>, en
 }
 
 /// Adds an event at the end of its wagon's journey. Where memory is refused, all journeys are as they were.
+#[inline(always)]
 pub(crate) fn add(wagons: &mut IndexMap<WagonNumber, Wagon>, next: EventAt) -> Result<(), Memory>
     requires journeys { AreJourneyEntries wagons.old.entries }
     requires position { slice_get (keys_of wagons.old.entries) next.position ≡ Some next.wagon }
@@ -54,21 +54,24 @@ pub(crate) fn add(wagons: &mut IndexMap<WagonNumber, Wagon>, next: EventAt) -> R
 /// that all journeys are as they were.
 pub(crate) fn add_each(
     wagons: &mut IndexMap<WagonNumber, Wagon>,
-    events: &mut IntoIter<EventAt>,
+    events: &mut VecDeque<EventAt>,
 ) -> Result<(), Memory>
     requires journeys { AreJourneyEntries wagons.old.entries }
     requires admitted { AreAdmitted (keys_of wagons.old.entries) (events_in wagons.old.entries)
-        (into_iter_items events.old) }
+        events.old.items }
     ensures ok { OnOk result ((w : ℕ) → events_in wagons.new.entries w
-        ≡ fold with_event_on (events_in wagons.old.entries) (into_iter_items events.old) w) }
+        ≡ fold with_event_on (events_in wagons.old.entries) events.old.items w) }
     ensures err { OnErr result ((w : ℕ) → events_in wagons.new.entries w
         ≡ events_in wagons.old.entries w) }
     ensures keys { keys_of wagons.new.entries ≡ keys_of wagons.old.entries }
     ensures journeys { AreJourneyEntries wagons.new.entries }
 {
-    let Some(next) = events.next() else {
+    let Some(next) = events.pop_front() else {
         return Ok(());
     };
+    if events.is_empty() {
+        return add(wagons, next);
+    }
     let wagon = next.wagon;
     let position = next.position;
     let before = state_at(wagons, wagon, position);

@@ -23,9 +23,9 @@
 //!
 //! [`Tables::accept`] takes a message that may be accepted (`IsAcceptable`), and what is known then is what `after_acceptance` of
 //! `hub_model` says. It is given the events of the message's wagons ([`NextEvents`]), each with its wagon's position in the fleet, so
-//! that no wagon is looked up again. Those of a message that may name several wagons are in memory of their own. First comes all
-//! that may be refused memory: copies of a plan, room in each table. Then come steps that cannot fail, or the one step of a single
-//! wagon's journey, which changes nothing where it fails. So where it answers [`Memory`](taf_codes::Memory), all is as it was.
+//! that no wagon is looked up again. First comes all that may be refused memory: copies of a plan, room in each table. Then come
+//! steps that cannot fail, or the events of journeys that go on, each of which leaves its journey as it was where it fails: the
+//! events that were added before it are then taken back. So where it answers [`Memory`](taf_codes::Memory), all is as it was.
 #![tactic(auto)]
 
 mod accept;

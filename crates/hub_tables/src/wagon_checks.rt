@@ -21,6 +21,7 @@ use wagon_number::WagonNumber;
 
 /// Checks a wagon that the message names: by its own events, and then by the calendar. Gives its event, or why the message is
 /// refused there.
+#[inline(always)]
 pub(crate) fn check_wagon(
     tables: &Tables,
     message: &Message,

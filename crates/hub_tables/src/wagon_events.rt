@@ -123,6 +123,7 @@ impl Tables {
 
     /// The wagon's event of a message that names it, and is not refused as a whole: an event of its journey. `Memory` as in
     /// [`Tables::event_body`].
+    #[inline(always)]
     pub(crate) fn event_for(&self, message: &Message, wagon: WagonNumber) -> Result<Event, Memory>
         requires { whole_fault (table_state self.now) message.now.by message.now.body ≡ None }
         ensures { IfOk result (λ e. e ≡ event_for (table_state self.now).offer message.now wagon) }

@@ -25,7 +25,7 @@ unfolding AreNextEvents
 add_each-requires-clause-admitted c =
     let s = table_state c.args.self.now in
     let of = subst (AreNextEvents s c.args.message.now) c.in-Each.is c.requires.events in
-    subst (AreAdmitted (keys_of c.self.inside.wagons.entries) (events_in c.self.inside.wagons.entries)) (sym c.into_iter.ensures.rest)
+    subst (AreAdmitted (keys_of c.self.inside.wagons.entries) (events_in c.self.inside.wagons.entries)) (sym c.from_vec.ensures.items)
     (subst (λ (t : TableEntries). AreAdmitted (keys_of t.wagons) (events_in t.wagons) c.in-Each.events.items) (sym c.self.view_is)
     (next_admitted s c.args.message.now c.requires.acceptable _ of.0 c.requires.differ))
 
@@ -55,7 +55,7 @@ returns-in-Each-clause-ok c =
     on_ok c.add_each.result
     (λ put. record {
       events = λ w.
-          put w ∙ ap (λ (xs : List EventAt). fold with_event_on (events_in c.self.inside.wagons.entries) xs w) c.into_iter.ensures.rest ∙
+          put w ∙ ap (λ (xs : List EventAt). fold with_event_on (events_in c.self.inside.wagons.entries) xs w) c.from_vec.ensures.items ∙
           ap (λ (t : TableEntries). fold with_event_on (events_in t.wagons) es w) c.self.view_is ∙ next_after s m c.requires.acceptable es of.0 c.requires.differ w;
       keys = c.add_each.ensures.keys ∙ ap (λ (t : TableEntries). keys_of t.wagons) c.self.view_is;
       plans = ap (λ (t : TableEntries). t.plans) c.self.view_is;
