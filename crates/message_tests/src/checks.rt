@@ -1,6 +1,6 @@
 //! Checks that the tests share. What fails shows the line or the text that it fails at.
 use call_reader::read_call;
-use reply_writer::{append_reply, write_fault, write_reply};
+use reply_writer::{Buffer, append_reply, write_fault, write_reply};
 use std::alloc::Global;
 use std::str;
 use std::test::Fail;
@@ -104,9 +104,9 @@ fn add_list(whole: &mut String, count: u32, element: &str) -> Result<(), Fail> {
 /// Fails unless the reply has this text, alone and behind other text.
 pub(crate) fn is_written(alloc: Global, reply: &Reply, text: &str) -> Result<(), Fail> {
     is_text(write_reply(alloc, reply), text)?;
-    let mut out = Vec::from_slice(alloc, b"before\n")?;
+    let mut out = Buffer::new(Vec::from_slice(alloc, b"before\n")?);
     append_reply(alloc, &mut out, reply)?;
-    match shown(&out).strip_prefix("before\n") {
+    match shown(out.as_slice()).strip_prefix("before\n") {
         Some(rest) if rest == text => Ok(()),
         _ => Err(Fail::new(text)),
     }

@@ -3,7 +3,7 @@ use crate::checks::{has_fault, have_faults, is_text, shown};
 use crate::lists::{ANSWERS, OFFERS};
 use crate::numbers::NUMBERS;
 use crate::plans::{LISTS, PLANS, ROUTES};
-use reply_writer::{append_fault, write_fault};
+use reply_writer::{Buffer, append_fault, write_fault};
 use std::alloc::Global;
 use std::test::Fail;
 use taf_messages::{Field, RecordFault};
@@ -184,9 +184,9 @@ fn is_written(alloc: Global, fault: RecordFault, text: &str) -> Result<(), Fail>
         return Err(Fail::new("no text"));
     }
     is_text(write_fault(alloc, &fault), text)?;
-    let mut out = Vec::from_slice(alloc, b"before")?;
+    let mut out = Buffer::new(Vec::from_slice(alloc, b"before")?);
     append_fault(alloc, &mut out, &fault)?;
-    match shown(&out).strip_prefix("before") {
+    match shown(out.as_slice()).strip_prefix("before") {
         Some(rest) if rest == text => Ok(()),
         _ => Err(Fail::new(text)),
     }

@@ -10,7 +10,7 @@ use crate::replies::replies;
 use call_reader::read_call;
 use memory_limit::MemoryLimit;
 use reply_writer::{
-    append_fault, append_reply, write_fault, write_item, write_record, write_reply,
+    Buffer, append_fault, append_reply, write_fault, write_item, write_record, write_reply,
 };
 use std::alloc::Global;
 use std::test::Fail;
@@ -40,13 +40,13 @@ enum Attempt<'a> {
 
 impl Attempt<'_> {
     // Whether it is made as with ample memory: none where memory was refused. What is appended goes to `out`.
-    fn is_made(&self, alloc: Global, out: &mut Vec<u8>) -> Option<bool> {
+    fn is_made(&self, alloc: Global, out: &mut Buffer) -> Option<bool> {
         match self {
             Attempt::Read(line, whole) => is_read(read_call(alloc, line.as_bytes()), whole),
             Attempt::Reply(reply, text) => is_text(write_reply(alloc, reply), text),
             Attempt::AppendedReply(reply, text) => {
                 let appended = append_reply(alloc, out, reply);
-                is_appended(appended, out, text)
+                is_appended(appended, out.as_slice(), text)
             }
             Attempt::Item(item, text) => is_text(write_item(alloc, item), text),
             Attempt::Record(known, text) => is_text(write_record(alloc, known), text),
@@ -90,7 +90,7 @@ fn is_fault(alloc: Global, fault: RecordFault, text: &[u8]) -> Option<bool> {
 
 fn is_fault_appended(
     alloc: Global,
-    out: &mut Vec<u8>,
+    out: &mut Buffer,
     fault: RecordFault,
     text: &[u8],
 ) -> Option<bool> {
@@ -98,7 +98,7 @@ fn is_fault_appended(
         return None;
     }
     let appended = append_fault(alloc, out, &fault);
-    is_appended(appended, out, text)
+    is_appended(appended, out.as_slice(), text)
 }
 
 fn planned_again(alloc: Global, plan: &Plan) -> Result<Plan, PlanFault> {
@@ -133,7 +133,7 @@ fn refusals(
     attempt: &Attempt,
 ) -> Result<usize, Fail> {
     for budget in 0..BUDGETS {
-        let mut out = Vec::from_slice(alloc, b"before")?;
+        let mut out = Buffer::new(Vec::from_slice(alloc, b"before")?);
         memory_limit.limit_to(budget * 16)?;
         let made = attempt.is_made(alloc, &mut out);
         memory_limit.release();
