@@ -1,5 +1,5 @@
 //! Bytes that grow by short texts. Some room behind them is filled ahead, so that a text is stored after one test, in words.
-ghost use Rattle.std.specs.Prelude.{◌≡◌, ◌+◌, ◌<◌, ◌≤◌, ◌++◌, ◌∷◌, [], cond, decimal, length, take, OnOk};
+ghost use Rattle.std.specs.Prelude.{◌≡◌, ◌+◌, ◌<◌, ◌≤◌, ◌++◌, ◌∷◌, [], cond, decimal, length, take, OnOk, OnErr};
 ghost use Rattle.json.specs.Filled.{Placed};
 
 use itoa::write_digits;
@@ -8,11 +8,11 @@ use std::marker::Model;
 use std::simd::Simd;
 
 // So many bytes are filled at once.
-const AHEAD: usize = 512;
+const AHEAD: usize = 256;
 
 static ZEROS: [u8; AHEAD] = [0; AHEAD];
 
-/// A list of bytes, and how many more are ready to be written.
+/// A list of bytes, and how many more are ready to be written. Those that are ready stay so where the list gets shorter.
 #[derive(Drop)]
 pub struct Buffer {
     // The bytes, and behind them those that are ready.
@@ -38,6 +38,7 @@ impl Model for Buffer {
 }
 
 impl Buffer {
+    /// A list of these bytes.
     pub fn new(bytes: Vec<u8>) -> Buffer
         ensures { result.items ≡ bytes.items }
     {
@@ -45,6 +46,7 @@ impl Buffer {
         Buffer { bytes, len }
     }
 
+    /// The bytes of the list alone.
     pub fn into_vec(self) -> Vec<u8>
         ensures { result.items ≡ self.items }
     {
@@ -53,10 +55,45 @@ impl Buffer {
         bytes
     }
 
+    /// How many bytes the list has.
     pub fn len(&self) -> usize
         ensures { result ≡ length self.now.items }
     {
         self.len
+    }
+
+    /// The bytes of the list.
+    pub fn as_slice(&self) -> &[u8]
+        ensures value { result.now ≡ self.now.items }
+    {
+        &self.bytes[..self.len]
+    }
+
+    /// Removes all bytes.
+    pub fn clear(&mut self)
+        ensures items { self.new.items ≡ [] }
+        ensures ready { self.old.ready ≤ self.new.ready }
+    {
+        self.len = 0;
+    }
+
+    /// Keeps the first bytes, so many of them, or all where there are fewer.
+    pub fn truncate(&mut self, len: usize)
+        ensures items { self.new.items ≡ take len self.old.items }
+        ensures ready { self.old.ready ≤ self.new.ready }
+    {
+        self.len = self.len.min(len);
+    }
+
+    /// Adds a text. Where memory is refused, the bytes stay.
+    #[inline(always)]
+    pub fn push_text(&mut self, text: &[u8]) -> Result<(), AllocError>
+        ensures ok { OnOk result (self.new.items ≡ self.old.items ++ text.now) }
+        ensures err { OnErr result (self.new.items ≡ self.old.items) }
+    {
+        self.reserve(text.len() + 1)?;
+        self.put(false, text, b"", b"");
+        Ok(())
     }
 
     /// Makes so many bytes ready. Where memory is refused, the bytes stay.

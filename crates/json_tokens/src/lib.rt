@@ -1,6 +1,7 @@
 //! Tokens of JSON: a writer whose texts need no escape, and readers of records without a tree.
 //!
-//! - [`Writer`] appends JSON to a buffer, a token at a time. Each text is plain (nothing in it that JSON escapes), so it
+//! - [`Buffer`] is a list of bytes that grows by short texts, and keeps the room that it made ready for them.
+//! - [`Writer`] appends JSON to such a buffer, a token at a time. Each text is plain (nothing in it that JSON escapes), so it
 //!   is copied as it is, and each number is a whole one of 64 bits. What is written is read by `serde_json` as the tree
 //!   that was written (`specs/SmallNumbers.antt`).
 //! - [`FlatRecord`] reads an object of texts and whole numbers that is written without blanks and escapes, by one scan
@@ -21,6 +22,7 @@ mod scan;
 mod tape;
 mod writer;
 
+pub use buffer::Buffer;
 pub use flat::{FlatRecord, Scalar};
 pub use json_value::{JsonItems, JsonValue};
 pub use tape::{JsonTape, TapeItems, TapeValue};

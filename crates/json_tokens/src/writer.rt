@@ -40,11 +40,10 @@ impl Model for Writer {
 
 impl Writer {
     /// It writes behind what the buffer holds.
-    pub fn new(out: Vec<u8>) -> Writer
+    pub fn new(out: Buffer) -> Writer
         ensures before { result.before ≡ out.items }
         ensures tokens { result.tokens ≡ [] }
     {
-        let out = Buffer::new(out);
         let start = out.len();
         Writer {
             out,
@@ -54,12 +53,12 @@ impl Writer {
     }
 
     /// The buffer with what was written.
-    pub fn into_inner(self) -> Vec<u8>
+    pub fn into_inner(self) -> Buffer
         ensures items { result.items ≡ self.before ++ print self.tokens }
         ensures small { AreSmall self.tokens }
     {
         let Writer { out, .. } = self;
-        out.into_vec()
+        out
     }
 
     // Appends a token whose text these parts make, behind a comma where one is wanted.

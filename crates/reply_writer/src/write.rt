@@ -10,7 +10,7 @@ ghost use Rattle.taf_messages.specs.declared.fault.RecordFault.TheVariants.{Memo
 
 use crate::accepted::append_accepted;
 use crate::put::Json;
-use json_tokens::Writer;
+use json_tokens::{Buffer, Writer};
 use std::alloc::Global;
 use std::mem;
 use taf_codes::Memory;
@@ -50,7 +50,7 @@ pub fn write_fault(alloc: Global, fault: &RecordFault) -> Result<Vec<u8>, Memory
 }
 
 /// Appends the text of a reply. Where memory is refused, nothing is appended.
-pub fn append_reply(alloc: Global, out: &mut Vec<u8>, reply: &Reply) -> Result<(), Memory>
+pub fn append_reply(alloc: Global, out: &mut Buffer, reply: &Reply) -> Result<(), Memory>
     ensures ok { OnOk result (out.new.items ≡ out.old.items
         ++ compact_text (reply_data reply.now)) }
     ensures read_back { OnOk result (read (compact_text (reply_data reply.now))
@@ -64,7 +64,7 @@ pub fn append_reply(alloc: Global, out: &mut Vec<u8>, reply: &Reply) -> Result<(
 }
 
 /// Appends the text of a record's fault. Where memory is refused, nothing is appended.
-pub fn append_fault(alloc: Global, out: &mut Vec<u8>, fault: &RecordFault) -> Result<(), Memory>
+pub fn append_fault(alloc: Global, out: &mut Buffer, fault: &RecordFault) -> Result<(), Memory>
     requires { fault.now ≢ NoMemory }
     ensures ok { OnOk result (out.new.items ≡ out.old.items
         ++ compact_text (fault_data fault.now)) }
@@ -79,18 +79,18 @@ fn text_of<T: Json>(alloc: Global, value: &T) -> Result<Vec<u8>, Memory>
     ensures text { IfOk result (λ text. text.items ≡ compact_text (T.shape value.now)) }
     ensures small { OnOk result (AreSmall (json_tokens (outline (T.shape value.now)))) }
 {
-    let mut out = Writer::new(Vec::with_capacity(alloc, 512)?);
+    let mut out = Writer::new(Buffer::new(Vec::with_capacity(alloc, 512)?));
     value.put(&mut out)?;
-    Ok(out.into_inner())
+    Ok(out.into_inner().into_vec())
 }
 
-fn append<T: Json>(alloc: Global, out: &mut Vec<u8>, value: &T) -> Result<(), Memory>
+fn append<T: Json>(alloc: Global, out: &mut Buffer, value: &T) -> Result<(), Memory>
     ensures ok { OnOk result (out.new.items ≡ out.old.items ++ compact_text (T.shape value.now)) }
     ensures small { OnOk result (AreSmall (json_tokens (outline (T.shape value.now)))) }
     ensures err { OnErr result (out.new.items ≡ out.old.items) }
 {
     let before = out.len();
-    let mut writer = Writer::new(mem::replace(out, Vec::new(alloc)));
+    let mut writer = Writer::new(mem::replace(out, Buffer::new(Vec::new(alloc))));
     let put = value.put(&mut writer);
     *out = writer.into_inner();
     match put {

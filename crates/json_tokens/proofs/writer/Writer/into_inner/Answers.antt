@@ -7,7 +7,7 @@ returns-clause-items c =
     let w = c.self.inside in
     let h = c.self.invariant in
     let printed : h.printed ≡ c.args.self.tokens = sym (shows_printed w h) ∙ ap (λ v. v.tokens) c.self.view_is in
-    c.into_vec.ensures ∙ sym (take-append-drop w.start w.out.items) ∙ ap (λ l. take w.start w.out.items ++ l) h.text ∙ (λ i. (c.self.view_is i).before ++ print (printed i))
+    sym (take-append-drop w.start w.out.items) ∙ ap (λ l. take w.start w.out.items ++ l) h.text ∙ (λ i. (c.self.view_is i).before ++ print (printed i))
 
 pub returns-clause-small : goal.returns-clause-small
 returns-clause-small c =

@@ -9,10 +9,10 @@ invariant_of-result c =
       printed = [];
       printable = tt;
       small = All-nil IsSmallToken;
-      text = drop_all c.len-start.result c.new-out.result.items (search rules);
+      text = drop_all c.len-start.result c.args.out.items (search rules);
       place = refl;
     }
 
 pub returns-clause-tokens : goal.returns-clause-tokens
 unfolding lex punctuate
-returns-clause-tokens c = ap tokens (drop_all c.len-start.result c.new-out.result.items (search rules))
+returns-clause-tokens c = ap tokens (drop_all c.len-start.result c.args.out.items (search rules))
