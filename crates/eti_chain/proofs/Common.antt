@@ -16,7 +16,7 @@ pub use Rattle.taf_messages.specs.declared.record.EstimateAt.{EstimateAt}
 pub use Rattle.taf_messages.specs.declared.record.Stage.{Stage}
 pub use Rattle.taf_messages.specs.declared.reply.Why.TheVariants.{WrongStage}
 pub use Rattle.journey.specs.Checks.{refusal, movement_checks}
-pub use Rattle.journey.specs.Journey.{NextEvent, after}
+pub use Rattle.journey.specs.Journey.{NextEvent, next_event, after}
 pub use Rattle.journey.specs.JourneyStates.{journey_state}
 pub use Rattle.journey.specs.Legs.{legs, legs_after}
 pub use Rattle.journey.specs.Stages.{leg_index, is_reception, stage, stage_after}

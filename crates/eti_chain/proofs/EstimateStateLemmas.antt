@@ -2,15 +2,6 @@
 use Rattle.eti_chain.proofs.Common.{◌≡◌, ℕ, ◌≤◌, cond, List, [], ◌∷◌, ◌++◌, Option, Some, None, ap, ◌∙◌, sym, option_map, le-leb, last_minute, moment_at, Event, JourneyState, NextEvent, after, journey_state, refusal, plan-kept, Anchor, anchor, EstimateBasis, basis_from, estimate_basis, commitment, anchor_after, EstimatesState, state_with_commitment, estimates_state, EstimateAnchor, anchor_with_commitment, estimate_anchor}
 use Rattle.eti_chain.proofs.EstimateLemmas.{anchor_push}
 
--- what the estimates are counted from
-pub estimate_basis-transition : (events : List Event) (e : Event) (s : JourneyState) (a next : Option Anchor) → s ≡ journey_state (events ++ e ∷ []) → a ≡ anchor events → next ≡ anchor_after a e →
-    basis_from s.leg_index s.legs next ≡ estimate_basis (events ++ e ∷ [])
-estimate_basis-transition events e s a next situated newest is =
-    let indexes = ap (λ (t : JourneyState). t.leg_index) situated in
-    let courses = ap (λ (t : JourneyState). t.legs) situated in
-    let anchors = is ∙ ap (λ b. anchor_after b e) newest ∙ sym (anchor_push events e) in
-    λ i. basis_from (indexes i) (courses i) (anchors i)
-
 -- the plan, and so the commitment, stays
 commitment-kept : (events : List Event) (e : Event) → refusal events e.by e.body ≡ None → commitment events ≡ commitment (events ++ e ∷ [])
 commitment-kept events e r = ap (option_map (λ p. p.commit)) (sym (plan-kept events e r))
@@ -28,6 +19,13 @@ estimate_anchor-transition events e k next was r is =
     let anchors = is ∙ ap (λ (a : EstimateAnchor). anchor_after a.newest e) was ∙ sym (anchor_push events e) in
     let commits = ap (λ (a : EstimateAnchor). a.commit) was ∙ commitment-kept events e r in
     λ i. anchor_with_commitment (anchors i) (commits i)
+
+-- the same after a transition
+pub estimate_anchor-after : (o : NextEvent) (newest : Option Anchor) (commit : ℕ) (r : EstimateBasis) → anchor_with_commitment newest (Some commit) ≡ estimate_anchor o.before → refusal o.before o.event.by o.event.body ≡ None → r ≡ estimate_basis (after o) →
+    anchor_with_commitment r.anchor (Some commit) ≡ estimate_anchor (after o)
+estimate_anchor-after o newest commit r was admitted is =
+    let commits = ap (λ (a : EstimateAnchor). a.commit) was ∙ commitment-kept o.before o.event admitted in
+    λ i. anchor_with_commitment (is i).anchor (commits i)
 
 -- a minute of the calendar is a moment
 pub moment_is : (minutes : ℕ) → minutes ≤ last_minute → moment_at minutes ≡ Some minutes

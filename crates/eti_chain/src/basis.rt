@@ -67,11 +67,25 @@ impl<'a> EstimateBasis<'a> {
         ensures admitted { refusal transition.now.before transition.now.event.by
             transition.now.event.body ≡ None }
     {
+        let newest = anchor_after(anchor, transition.event());
+        EstimateBasis::with_newest(newest, transition)
+    }
+
+    /// The same by the newest anchor after the transition.
+    pub(crate) fn with_newest(
+        newest: Option<Anchor>,
+        transition: &'a Transition<'_>,
+    ) -> EstimateBasis<'a>
+        requires newest { newest ≡ of.anchor (after transition.now) }
+        requires small { of.delays_of newest < 2 ^ 127 }
+        ensures value { result ≡ of.estimate_basis (after transition.now) }
+        ensures on_a_leg { result.leg_index < length result.legs }
+    {
         let next = transition.journey_state();
         EstimateBasis {
             leg_index: next.leg_index,
             legs: &next.legs,
-            anchor: anchor_after(anchor, transition.event()),
+            anchor: newest,
         }
     }
 

@@ -1,11 +1,12 @@
 ghost use Rattle.std.specs.Prelude.{◌≡◌, [], ◌∷◌, ◌++◌, true, None, OnOk, OnErr};
 ghost use Rattle.journey.specs.Checks.{refusal};
+ghost use Rattle.journey.specs.Journey.{after};
 ghost use Rattle.eti_chain.specs.Estimates as of;
 
 use crate::anchor::{Anchor, anchor_after};
 use crate::basis::EstimateBasis;
 use crate::estimates::Estimates;
-use journey::{Event, Track};
+use journey::{Event, Track, Transition};
 use std::marker::Model;
 use taf_codes::Memory;
 use taf_moment::Moment;
@@ -43,6 +44,31 @@ impl EstimateAnchor {
             newest: EstimateBasis::of(track).anchor,
             commit: track.plan().commit(),
         }
+    }
+
+    /// What is kept after a transition of the track that this is kept for, with which no estimate passes the calendar. It
+    /// takes no walk.
+    pub fn followed(&self, transition: &Transition<'_>) -> EstimateAnchor
+        requires of_track { self.now ≡ estimate_anchor transition.now.before }
+        requires fits { of.fits (after transition.now) ≡ true }
+        ensures { result ≡ estimate_anchor (after transition.now) }
+    {
+        EstimateAnchor {
+            newest: EstimateBasis::after(self.newest, transition).anchor,
+            commit: self.commit,
+        }
+    }
+
+    /// The estimates after the transition that this is kept for. It takes no walk.
+    pub fn estimates_after<'a>(&self, transition: &'a Transition<'_>) -> Estimates<'a>
+        requires of_transition { self.now ≡ estimate_anchor (after transition.now) }
+        requires fits { of.fits (after transition.now) ≡ true }
+        ensures { result ≡ estimates_state (after transition.now) }
+    {
+        Estimates::by(
+            EstimateBasis::with_newest(self.newest, transition),
+            self.commit,
+        )
     }
 
     /// The same.

@@ -8,7 +8,7 @@ ghost use Rattle.eti_chain.specs.EstimateStates.{keeps_legs};
 use crate::anchor::Anchor;
 use crate::basis::EstimateBasis;
 use crate::held_legs::HeldLegs;
-use journey::{Event, EventBody, Track, Transition};
+use journey::{Event, EventBody, Track};
 use std::marker::Model;
 use taf_moment::Moment;
 
@@ -83,7 +83,8 @@ impl<'a> Estimates<'a> {
         ensures { self.new ≡ estimates_state (track.now.events ++ event.now ∷ []) }
     {
         let transition = track.transition(event);
-        *self = self.followed(&transition).owned();
+        let basis = EstimateBasis::after(self.anchor, &transition);
+        *self = Estimates::by(basis, self.commit).owned();
     }
 
     /// Whether with the event, which may come next, an estimate of the track would pass the last minute of the
@@ -98,16 +99,6 @@ impl<'a> Estimates<'a> {
         }
         let transition = track.transition(event);
         !EstimateBasis::after(self.anchor, &transition).fits()
-    }
-
-    /// The estimates of the track with the event of a transition, which does not pass the calendar. It takes
-    /// no walk.
-    pub fn followed<'b>(&self, transition: &'b Transition<'_>) -> Estimates<'b>
-        requires of_track { self.now ≡ estimates_state transition.now.before }
-        requires fits { of.fits (after transition.now) ≡ true }
-        ensures { result ≡ estimates_state (after transition.now) }
-    {
-        Estimates::by(EstimateBasis::after(self.anchor, transition), self.commit)
     }
 
     /// When the wagon is expected at the end of this leg: none without an event to count from,

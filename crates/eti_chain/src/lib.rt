@@ -18,8 +18,8 @@
 //!   and goes on with it.
 //! - [`Estimates::follow`] goes from the estimates of a track to those of the track with one event more.
 //!   [`Estimates::would_pass_calendar`] says beforehand whether one would pass the calendar.
-//! - [`Estimates::followed`] does the same as `follow` by a [`Transition`](journey::Transition), whose state it does not make anew and
-//!   whose legs it borrows.
+//! - [`EstimateAnchor::followed`] is what is kept after a [`Transition`](journey::Transition), and
+//!   [`EstimateAnchor::estimates_after`] gives the estimates by it, which borrow the legs of the transition's state.
 //! - [`Estimates::estimate`], [`Estimates::eta`], [`Estimates::late`] and [`Estimates::late_by`] read them.
 //!
 //! Promised: each answer is that of the definitions over the track's events, and what `add` keeps is what `of` would

@@ -7,7 +7,7 @@ use Rattle.journey.specs.declared.event.EventBody.{EventBody}
 use Rattle.journey.specs.declared.event.EventBody.TheVariants.{Moved, EstimateAsked, Offered, Withdrawn}
 use Rattle.journey.specs.Journey.{Journey, NextEvent, after}
 use Rattle.journey.specs.Checks.{refusal}
-use Rattle.eti_chain.specs.EstimateStates.{EstimatesState, estimates_state}
+use Rattle.eti_chain.specs.EstimateStates.{EstimateAnchor, estimate_anchor}
 use Rattle.eti_chain.specs.Estimates.{estimate, fits}
 use Rattle.hub_model.specs.declared.addressed_item.AddressedItem.{AddressedItem}
 use Rattle.hub_model.specs.HubState.{HubState, event_body_for, journey_after}
@@ -25,11 +25,12 @@ pub record IsNextBy (s : HubState) (m : Message) (w : ℕ) (o : NextEvent) : Typ
   pub events_after : after o ≡ journey_after s m w
   pub says : o.event.body ≡ event_body_for s.offer m.by m.body w
 
--- the transition is of this wagon, and the estimates are those of the events with the next one
-pub record IsTransitionOf (j : Journey) (o : NextEvent) (c : EstimatesState) : Type 0 where
+-- the transition is of this wagon, and this is kept for the estimates of the events with the next one, which stay in the calendar
+pub record IsTransitionOf (j : Journey) (o : NextEvent) (k : EstimateAnchor) : Type 0 where
   pub wagon_is : o.wagon ≡ j.wagon
   pub before_is : o.before ≡ j.events
-  pub estimates_are : c ≡ estimates_state (after o)
+  pub kept_is : k ≡ estimate_anchor (after o)
+  pub fits_after : fits (after o) ≡ true
 
 -- an event that leaves the legs and the anchor of the estimates as they are, and delays nothing (4.2.6)
 abbrev pub keeps_estimates : EventBody → Bool

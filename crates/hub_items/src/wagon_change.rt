@@ -3,6 +3,7 @@ ghost use Rattle.std.specs.Prelude.{◌≡◌, ℕ, ◌≤◌, [], length, true,
 ghost use Rattle.journey.specs.Stages as stages;
 ghost use Rattle.journey.specs.Legs as legs_of;
 ghost use Rattle.eti_chain.specs.Estimates as of;
+ghost use Rattle.eti_chain.specs.EstimateStates.{estimates_state};
 ghost use Rattle.hub_model.specs.Items.{alert_items, estimate_items};
 ghost use Rattle.hub_tables.specs.TableStates.{IsEventOf, table_state, named_alone};
 ghost use Rattle.hub_items.specs.MessageItems.{MayBeAccepted};
@@ -11,7 +12,7 @@ ghost use Rattle.journey.specs.declared.event.EventBody.TheVariants.{Moved};
 ghost use Rattle.journey.specs.Journey.{after};
 
 use crate::acceptable::Acceptable;
-use eti_chain::Estimates;
+use eti_chain::{EstimateAnchor, Estimates};
 use hub_tables::{NextEvents, Wagon};
 use journey::{Event, EventBody, Transition};
 use std::marker::Model;
@@ -108,7 +109,7 @@ impl<'a> WagonEvent<'a> {
         WagonChange {
             wagon: self.wagon,
             transition,
-            estimates: self.wagon.estimates().followed(transition),
+            kept: self.wagon.anchor_after(transition),
         }
     }
 }
@@ -142,8 +143,8 @@ fn is_in_yard(what: MovementKind) -> bool
 pub(crate) struct WagonChange<'a> {
     wagon: &'a Wagon,
     transition: &'a Transition<'a>,
-    // When the wagon is expected with the event.
-    estimates: Estimates<'a>,
+    // What is kept for its estimates with the event.
+    kept: EstimateAnchor,
 }
 
 impl<'a> Model for WagonChange<'a> {
@@ -154,7 +155,7 @@ impl<'a> Model for WagonChange<'a> {
 
     ghost view = { λ p. p.transition.now };
 
-    ghost invariant = { λ p. IsTransitionOf p.wagon.now p.transition.now p.estimates };
+    ghost invariant = { λ p. IsTransitionOf p.wagon.now p.transition.now p.kept };
 }
 
 impl<'a> WagonChange<'a> {
@@ -204,6 +205,13 @@ impl<'a> WagonChange<'a> {
             .map(|leg| leg.ru)
     }
 
+    // When the wagon is expected with the event.
+    fn estimates(&self) -> Estimates<'_>
+        ensures { result ≡ estimates_state (after self.now) }
+    {
+        self.kept.estimates_after(self.transition)
+    }
+
     /// When the wagon was expected at the end of a leg before the event.
     pub(crate) fn estimate_before(&self, leg: usize) -> Option<Moment>
         ensures { result ≡ of.estimate self.now.before leg }
@@ -215,7 +223,7 @@ impl<'a> WagonChange<'a> {
     pub(crate) fn estimate_after(&self, leg: usize) -> Option<Moment>
         ensures { result ≡ of.estimate (after self.now) leg }
     {
-        self.estimates.estimate(leg)
+        self.estimates().estimate(leg)
     }
 
     /// Whether the wagon was late before the event.
@@ -229,13 +237,13 @@ impl<'a> WagonChange<'a> {
     pub(crate) fn is_late(&self) -> bool
         ensures { result ≡ of.is_late (after self.now) }
     {
-        self.estimates.late()
+        self.estimates().late()
     }
 
     /// By how many minutes the wagon is late with the event, if it is.
     pub(crate) fn late_by(&self) -> Option<u32>
         ensures { result ≡ of.late_by (after self.now) }
     {
-        self.estimates.late_by()
+        self.estimates().late_by()
     }
 }

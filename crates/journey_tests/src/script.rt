@@ -263,7 +263,8 @@ impl Run {
         }
         let transition = self.track.transition(&next);
         let stage = transition.journey_state().stage;
-        let eta = self.estimates().followed(&transition).eta();
+        let kept = self.kept.followed(&transition);
+        let eta = kept.estimates_after(&transition).eta();
         self.kept.add(&mut self.track, next)?;
         Ok(stage == Some(self.track.stage()) && eta == self.estimates().eta())
     }
