@@ -16,7 +16,7 @@ const FRONT: &[u8; 6] = b"{\"no\":";
 // How many digits that number has at most.
 const MAX_DIGITS: usize = 12;
 
-// What comes behind them.
+// What comes behind the digits.
 const BACK: &[u8; 20] = b",\"reply\":\"accepted\"}";
 
 /// Appends the text of the reply to a message that is accepted. Where memory is refused, nothing is appended.
