@@ -5,7 +5,7 @@ use crate::measured::Measured;
 use crate::samples;
 use anyhow::{Result, bail};
 use call_reader::{CallReader, FlatRecord};
-use reply_writer::append_reply;
+use reply_writer::{Buffer, append_reply};
 use serde_json::Value;
 use std::alloc::Global;
 use std::time::{Clock, Instant};
@@ -69,7 +69,7 @@ pub(crate) fn items(clock: &impl Clock, alloc: Global, count: u64) -> Result<Mea
 
 // The reply, written many times into one buffer.
 fn written(clock: &impl Clock, alloc: Global, reply: &Reply, count: u64) -> Result<Measured> {
-    let mut out = Vec::new(alloc);
+    let mut out = Buffer::new(Vec::new(alloc));
     let start = Instant::now(clock)?;
     for _ in 0..count {
         out.clear();

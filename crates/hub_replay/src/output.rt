@@ -8,7 +8,7 @@ ghost use Rattle.hub_replay.specs.Outcomes.{one_fault_more, one_call_more};
 
 use crate::counts::Counts;
 use crate::fault::RunFault;
-use reply_writer::{append_fault, append_reply};
+use reply_writer::{Buffer, append_fault, append_reply};
 use std::alloc::Global;
 use taf_codes::{Failed, Sink};
 use taf_messages::{RecordFault, Reply};
@@ -17,7 +17,7 @@ use taf_messages::{RecordFault, Reply};
 #[derive(Drop)]
 pub(crate) struct Output {
     pub(crate) alloc: Global,
-    pub(crate) pending: Vec<u8>,
+    pub(crate) pending: Buffer,
     pub(crate) counts: Counts,
 }
 
@@ -28,7 +28,7 @@ impl Output {
     {
         Output {
             alloc,
-            pending: Vec::new(alloc),
+            pending: Buffer::new(Vec::new(alloc)),
             counts: Counts {
                 lines: 0,
                 calls: 0,
@@ -45,7 +45,7 @@ impl Output {
         ensures counts { OnOk result (self.new.counts ≡ one_fault_more self.old.counts) }
         ensures err { IfErr result (λ f. f ≡ RunFault.Memory) }
     {
-        self.pending.extend_from_slice(text)?;
+        self.pending.push_text(text)?;
         self.end_fault_line()
     }
 
@@ -71,7 +71,7 @@ impl Output {
         ensures err { IfErr result (λ f. f ≡ RunFault.Memory) }
     {
         append_reply(self.alloc, &mut self.pending, reply)?;
-        self.pending.push(b'\n')?;
+        self.pending.push_text(b"\n")?;
         self.counts.lines += 1;
         self.counts.calls += 1;
         Ok(())
@@ -84,7 +84,7 @@ impl Output {
         ensures counts { OnOk result (self.new.counts ≡ one_fault_more self.old.counts) }
         ensures err { IfErr result (λ f. f ≡ RunFault.Memory) }
     {
-        self.pending.push(b'\n')?;
+        self.pending.push_text(b"\n")?;
         self.counts.lines += 1;
         self.counts.faults += 1;
         Ok(())

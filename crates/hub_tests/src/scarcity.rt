@@ -5,7 +5,7 @@ use crate::trains::AFTER_INTERCHANGE;
 use call_reader::read_call;
 use hub_core::{Hub, View};
 use memory_limit::MemoryLimit;
-use reply_writer::append_reply;
+use reply_writer::{Buffer, append_reply};
 use std::alloc::Global;
 use std::test::Fail;
 use std::thread::Threads;
@@ -66,11 +66,11 @@ impl Scarcity {
         alloc: Global,
         hub: &mut Hub,
         line: &str,
-        lines: &mut Vec<u8>,
+        lines: &mut Buffer,
     ) -> Result<(), Fail> {
         let reply = self.reply(alloc, hub, line)?;
         append_reply(alloc, lines, &reply)?;
-        lines.push(b'\n')?;
+        lines.push_text(b"\n")?;
         Ok(())
     }
 
@@ -80,7 +80,7 @@ impl Scarcity {
         alloc: Global,
         hub: &mut Hub,
         part: &str,
-        lines: &mut Vec<u8>,
+        lines: &mut Buffer,
     ) -> Result<(), Fail> {
         for line in part.lines() {
             if !line.starts_with("> ") {
@@ -90,8 +90,8 @@ impl Scarcity {
         Ok(())
     }
 
-    fn replies(&mut self, alloc: Global, hub: &mut Hub) -> Result<Vec<u8>, Fail> {
-        let mut lines = Vec::new(alloc);
+    fn replies(&mut self, alloc: Global, hub: &mut Hub) -> Result<Buffer, Fail> {
+        let mut lines = Buffer::new(Vec::new(alloc));
         for part in INTERCHANGE {
             self.add_replies(alloc, hub, part, &mut lines)?;
         }
@@ -102,7 +102,7 @@ impl Scarcity {
     fn interchange(&mut self, alloc: Global, hub: &mut Hub) -> Result<(), Fail> {
         let lines = self.replies(alloc, hub)?;
         let script = Script::of(alloc, INTERCHANGE)?;
-        no_difference(&lines, &script.wanted)
+        no_difference(lines.as_slice(), &script.wanted)
     }
 
     // The view of the hub, which is asked for again where memory is refused.

@@ -4,7 +4,7 @@ use crate::script_runner::{HELLO, ID};
 use hub_core::Hub;
 use inbox::Job;
 use memory_limit::MemoryLimit;
-use reply_writer::append_reply;
+use reply_writer::{Buffer, append_reply};
 use session_lines::{Done, Line, Session, Step};
 use std::alloc::Global;
 use std::mem::replace;
@@ -69,12 +69,12 @@ fn is_refused(step: &Step) -> bool {
 
 // The line of an answer.
 fn line_of(alloc: Global, done: &Done) -> Result<Vec<u8>, Fail> {
-    let mut line = Vec::new(alloc);
+    let mut line = Buffer::new(Vec::new(alloc));
     match &done.answer {
         Ok((_, reply)) => append_reply(alloc, &mut line, reply)?,
         Err(_) => return Err(Fail::new("a fault of the hub")),
     }
-    Ok(line)
+    Ok(line.into_vec())
 }
 
 impl Scarce {

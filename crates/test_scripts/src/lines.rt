@@ -1,6 +1,6 @@
 ghost use Rattle.std.specs.Prelude.{◌≡◌, ◌++◌, ◌∷◌, [], OnOk};
 
-use reply_writer::append_reply;
+use reply_writer::{Buffer, append_reply};
 use std::alloc::{AllocError, Global};
 use taf_codes::Memory;
 use tallies::Tally;
@@ -50,10 +50,10 @@ pub fn first_lines(lines: &[u8], many: usize) -> &[u8] {
 
 /// The lines of the replies in a tally.
 pub fn replies_of(alloc: Global, tally: &Tally) -> Result<Vec<u8>, Memory> {
-    let mut lines = Vec::new(alloc);
+    let mut lines = Buffer::new(Vec::new(alloc));
     for told in tally.entries() {
         append_reply(alloc, &mut lines, &told.reply)?;
-        lines.push(b'\n')?;
+        lines.push_text(b"\n")?;
     }
-    Ok(lines)
+    Ok(lines.into_vec())
 }
