@@ -116,7 +116,7 @@ impl<'a> EstimateBasis<'a> {
             return None;
         }
         let minutes = minutes_of(&legs[self.leg_index + 1..leg + 1]);
-        Some(self.base()? + self.delays() + minutes)
+        Some(u128::from(self.base()? + minutes) + self.delays())
     }
 
     /// The end of the last leg, in minutes since 1970.
@@ -156,22 +156,22 @@ impl<'a> EstimateBasis<'a> {
     }
 
     // The end of the current leg by the anchor, without delays.
-    fn base(&self) -> Option<u128>
+    fn base(&self) -> Option<u64>
         ensures value { result ≡ of.base_in self.now }
         ensures small { IfSome result (λ at. at < 2 ^ 33) }
     {
         let anchor = self.anchor?;
         let minutes = if anchor.runs_leg { self.minutes() } else { 0 };
-        Some(u128::from(anchor.at.minutes()) + minutes)
+        Some(u64::from(anchor.at.minutes()) + minutes)
     }
 
     // The minutes of the current leg.
-    fn minutes(&self) -> u128
+    fn minutes(&self) -> u64
         ensures value { result ≡ of.minutes_in self.now }
         ensures small { result < 2 ^ 32 }
     {
         match self.legs.leg(self.leg_index) {
-            Some(leg) => u128::from(leg.minutes),
+            Some(leg) => u64::from(leg.minutes),
             None => 0,
         }
     }
@@ -201,14 +201,14 @@ fn newest_anchor(events: &[Event]) -> Option<Anchor>
 }
 
 // The minutes of at most eight legs: below 2^35, since each takes less than 2^32.
-fn minutes_of(legs: &[Leg]) -> u128
+fn minutes_of(legs: &[Leg]) -> u64
     requires { length legs.now ≤ 8 }
     ensures value { result ≡ sum_by (λ l. l.minutes) legs.now }
     ensures small { result < 2 ^ 36 }
 {
-    let mut sum: u128 = 0;
+    let mut sum: u64 = 0;
     for leg in legs {
-        sum += u128::from(leg.minutes);
+        sum += u64::from(leg.minutes);
     }
     sum
 }

@@ -111,9 +111,13 @@ fn answer_receivers(
         ∷ filter_map (λ w. legs_of.lead_of ((table_state tables.now).journey w))
         (answer.now.received ++ answer.now.refused)) }
 {
-    let mut railways = listed(alloc, Some(answer.offerer))?;
-    put_leads(&mut railways, tables, answer.received.as_slice())?;
-    put_leads(&mut railways, tables, answer.refused.as_slice())?;
+    let received = answer.received.as_slice();
+    let refused = answer.refused.as_slice();
+    let wagons = received.len().saturating_add(refused.len());
+    let mut railways = Vec::with_capacity(alloc, wagons.saturating_add(1))?;
+    railways.push(answer.offerer)?;
+    put_leads(&mut railways, tables, received)?;
+    put_leads(&mut railways, tables, refused)?;
     Ok(railways)
 }
 

@@ -120,6 +120,7 @@ impl Tables {
     }
 
     // The journeys of the named wagons go on by these events.
+    #[inline(always)]
     fn accept_events(&mut self, message: &Message, events: NextEvents) -> Result<(), Memory>
         requires acceptable { IsAcceptable (table_state self.old) message.now }
         requires events { AreNextEvents (table_state self.old) message.now events }

@@ -78,6 +78,7 @@ pub(crate) fn is_delivered(tables: &Tables, wagon: WagonNumber) -> bool
 }
 
 // Why a wagon that is known may not have the event: by its own events, or since an estimate would pass the calendar.
+#[inline(always)]
 fn event_fault(wagon: &Wagon, event: &Event) -> Option<Why>
     ensures { result ≡ option_or (refusal wagon.now.events event.now.by event.now.body)
         (if estimates.is_calendar_checked event.now.body && not

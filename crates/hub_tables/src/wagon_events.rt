@@ -89,6 +89,7 @@ impl Tables {
 
     /// What a message, which is not refused as a whole, says of a wagon that it names. Plans and routes are shared, not
     /// copied. `Memory` where one is shared too often.
+    #[inline(always)]
     pub(crate) fn event_body(
         &self,
         message: &Message,

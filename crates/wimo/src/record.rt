@@ -114,8 +114,9 @@ fn estimates_of(
     requires { estimates.now ≡ estimates_state track.now.events }
     ensures { IfOk result (λ l. l ≡ of.estimates track.now.events) }
 {
-    let mut shown = Vec::new(alloc);
-    for leg in 0..track.legs().len() {
+    let legs = track.legs().len();
+    let mut shown = Vec::with_capacity(alloc, legs)?;
+    for leg in 0..legs {
         if let Some(at) = estimates.estimate(leg) {
             let leg = leg_number(leg);
             shown.push(EstimateAt { leg, at })?;

@@ -1,8 +1,10 @@
 //! The lines of a view.
-ghost use Rattle.std.specs.Prelude.{◌≡◌, ◌∷◌, ◌++◌, map, length, IfOk, OnOk, string_bytes};
+ghost use Rattle.std.specs.Prelude.{◌≡◌, ◌∷◌, flat_map, map, IfOk, string_bytes};
+ghost use Rattle.std.specs.List.{AllZip};
 ghost use Rattle.hub_model.specs.Histories.{state_of};
 ghost use Rattle.hub_model.specs.Replies.{view};
 ghost use Rattle.wimo_report.specs.Report.{first_line, line_of, report_of};
+ghost use Rattle.wimo_report.specs.Parts.{AreStarts, IsPart};
 
 use crate::line::line;
 use hub_core::{Hub, View};
@@ -13,11 +15,11 @@ use std::thread::Threads;
 use taf_codes::Memory;
 use taf_messages::Record;
 
-// How many records of a hub are held at once.
-const PART: usize = 2_048;
+// How many wagons of a hub a thread takes at once.
+const PART: usize = 256;
 
-/// The report of the view of the hub, as [`lines`] gives it. The records are made and dropped part by part, so that they do not
-/// take memory all at once.
+/// The report of the view of the hub, as [`lines`] gives it. The records are made by the threads that make their lines, and dropped
+/// part by part, so that they do not take memory all at once.
 pub fn hub_lines(
     rt: &(impl Threads + Sync),
     alloc: Global,
@@ -27,17 +29,59 @@ pub fn hub_lines(
         ≡ report_of (view (state_of hub.now))) }
 {
     let count = hub.wagon_count();
-    let mut lines = Vec::with_capacity(alloc, count.saturating_add(1))?;
-    let mut from = 0;
-    'parts: while from < count {
-        let size = PART.min(count - from);
-        let part = hub.view_part(from, size)?;
-        append(&mut lines, parallel_lines(rt, alloc, part.records())?)?;
-        from += size;
-    }
+    let starts = starts_of(alloc, count)?;
+    let parts = parallel_parts(rt, alloc, hub, starts.as_slice())?;
+    let lines = joined(alloc, count.saturating_add(1), parts)?;
     let wagons = lines.len();
     let report = with_first_line(alloc, wagons, lines)?;
     Ok(report)
+}
+
+// The places of the fleet at which its parts begin.
+fn starts_of(alloc: Global, count: usize) -> Result<Vec<usize>, AllocError>
+    ensures { IfOk result (λ starts. AreStarts 0 count starts.items) }
+{
+    let mut starts = Vec::new(alloc);
+    let mut from = 0;
+    'starts: while from < count {
+        starts.push(from)?;
+        if count - from <= PART {
+            return Ok(starts);
+        }
+        from += PART;
+    }
+    Ok(starts)
+}
+
+// The lines of the parts that begin at these places, by several threads.
+fn parallel_parts(
+    rt: &(impl Threads + Sync),
+    alloc: Global,
+    hub: &Hub,
+    starts: &[usize],
+) -> Result<Vec<Vec<String>>, Memory>
+    ensures { IfOk result (λ parts. AllZip (λ from part. IsPart (state_of hub.now) from
+        (map string_bytes part.items)) starts.now parts.items) }
+{
+    let parts: Result<Vec<Vec<String>>, Memory> = starts
+        .par_iter()
+        .map(
+            |from: &usize| -> Result<Vec<String>, Memory>
+                ensures { IfOk result (λ part. IsPart (state_of hub.entry.now) from.now
+                    (map string_bytes part.items)) }
+            { part_lines(alloc, hub, *from) },
+        )
+        .collect(rt, alloc)?;
+    parts
+}
+
+// The lines of the part of the fleet that begins at a place.
+fn part_lines(alloc: Global, hub: &Hub, from: usize) -> Result<Vec<String>, Memory>
+    ensures { IfOk result (λ part. IsPart (state_of hub.now) from (map string_bytes part.items)) }
+{
+    let part = hub.view_part(from, PART)?;
+    let lines = lines_of(alloc, part.records())?;
+    Ok(lines)
 }
 
 /// The report of the view, its lines made by as many threads as there are processors.
@@ -54,11 +98,19 @@ pub fn plain_lines(alloc: Global, view: &View) -> Result<Vec<String>, Memory>
     ensures { IfOk result (λ lines. map string_bytes lines.items ≡ report_of view.now) }
 {
     let records = view.records();
+    let lines = lines_of(alloc, records)?;
+    with_first_line(alloc, records.len(), lines)
+}
+
+// The lines of the records, one after another.
+fn lines_of(alloc: Global, records: &[Record]) -> Result<Vec<String>, AllocError>
+    ensures { IfOk result (λ lines. map string_bytes lines.items ≡ map line_of records.now) }
+{
     let mut lines = Vec::with_capacity(alloc, records.len())?;
     for shown in records {
         lines.push(line(alloc, shown)?)?;
     }
-    with_first_line(alloc, records.len(), lines)
+    Ok(lines)
 }
 
 // The lines of the records, by several threads.
@@ -80,14 +132,15 @@ fn parallel_lines(
     lines
 }
 
-// Appends more lines.
-fn append(lines: &mut Vec<String>, more: Vec<String>) -> Result<(), AllocError>
-    ensures { OnOk result (lines.new.items ≡ lines.old.items ++ more.items) }
+// The lines of the parts, one after another, in a list with room for so many.
+fn joined(alloc: Global, room: usize, parts: Vec<Vec<String>>) -> Result<Vec<String>, AllocError>
+    ensures { IfOk result (λ lines. lines.items ≡ flat_map (λ part. part.items) parts.items) }
 {
-    for line in more {
-        lines.push(line)?;
+    let mut lines = Vec::with_capacity(alloc, room)?;
+    for mut part in parts {
+        lines.append(&mut part)?;
     }
-    Ok(())
+    Ok(lines)
 }
 
 // The lines after the one that counts the wagons.
