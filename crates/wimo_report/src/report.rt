@@ -65,6 +65,7 @@ fn parallel_parts(
 {
     let parts: Result<Vec<Vec<String>>, Memory> = starts
         .par_iter()
+        .with_min_len(1)
         .map(
             |from: &usize| -> Result<Vec<String>, Memory>
                 ensures { IfOk result (λ part. IsPart (state_of hub.entry.now) from.now

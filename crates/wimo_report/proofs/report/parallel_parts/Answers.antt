@@ -1,6 +1,7 @@
 use Rattle.std.proofs.Common.{◌≡◌, ◌∙◌, List, ℕ, ap, sym, subst, map, string_bytes, IfOk, Vec, String, Global}
 use Rattle.std.specs.List.{AllZip}
 use Rattle.rayon.proofs.ToStd.{slice-AllZip}
+use Rattle.rayon.specs.Lists.{min_len_base}
 use Rattle.hub_model.specs.HubState.{HubState}
 use Rattle.hub_model.specs.Histories.{state_of}
 use Rattle.wimo_report.specs.Parts.{IsPart}
@@ -16,7 +17,8 @@ returns g c =
     let starts = c.args.starts.now in
     let there = state_of c.map.result.f.1.now in
     let same : there ≡ state_of c.args.hub.now = ap (λ f. state_of f.1.now) c.map.ensures.f in
-    let slice = ap (λ it. it.slice.now) c.map.ensures.base ∙ c.par_iter.ensures in
+    let base = ap min_len_base c.map.ensures.base ∙ c.with_min_len.ensures.base in
+    let slice = ap (λ it. it.slice.now) base ∙ c.par_iter.ensures in
     let h = c.in_ok-parts.ensures in
     if_ok c.in_ok-parts.parts _ _ _ h.2 (λ v m.
     let told = slice-AllZip h.1.0 starts (h.1.1 ∙ slice) (λ from r. IfOk r (λ part. IsPart there from (map string_bytes part.items))) h.0 h.1.2 in
