@@ -10,6 +10,7 @@ use taf_codes::Memory;
 use taf_messages::{Call, Reply};
 
 /// Takes a call, and gives the reply. Where memory is refused, nothing that is looked up changes.
+#[inline(always)]
 pub(crate) fn apply_call(alloc: Global, state: &mut State, call: Call) -> Result<Reply, Memory>
     requires ready { MayTake state.old }
     ensures { Applies state.old state.new call result }

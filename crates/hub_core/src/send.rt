@@ -58,6 +58,7 @@ fn apply_new(alloc: Global, state: &mut State, message: Shared<Message>) -> Resu
 }
 
 /// Takes a message, new or sent before.
+#[inline(always)]
 pub(crate) fn apply_send(
     alloc: Global,
     state: &mut State,

@@ -1,11 +1,11 @@
 //! The lines that a session says.
-ghost use Rattle.std.specs.Prelude.{◌≡◌, ◌≢◌, ◌⊎◌, Err, IfOk};
+ghost use Rattle.std.specs.Prelude.{◌≡◌, ◌≢◌, ◌⊎◌, [], Err, IfOk};
 ghost use Rattle.taf_messages.specs.declared.fault.RecordFault.TheVariants.{Memory as MemoryRefused};
 ghost use Rattle.call_lines.specs.Lines.{fault_text, reply_text};
 ghost use Rattle.session_lines.specs.Texts.{line_fault_text, hello_text, answer_text};
 
 use crate::fault::LineFault;
-use reply_writer::{write_fault, write_reply};
+use reply_writer::{Buffer, append_reply, write_fault};
 use std::alloc::Global;
 use std::marker::Model;
 use taf_codes::{Memory, Railway};
@@ -16,7 +16,7 @@ use tallies::HubFault;
 #[derive(Drop)]
 pub enum LineText {
     Fixed(LineFault),
-    Written(Vec<u8>),
+    Written(Buffer),
 }
 
 /// A line that is said. Contracts see its bytes, without a newline.
@@ -51,7 +51,7 @@ impl Line {
     {
         let text = write_fault(alloc, fault)?;
         Ok(Line {
-            text: LineText::Written(text),
+            text: LineText::Written(Buffer::new(text)),
         })
     }
 
@@ -65,7 +65,7 @@ impl Line {
         text.extend_from_slice(railway.as_str().as_bytes())?;
         text.extend_from_slice(b"\"}")?;
         Ok(Line {
-            text: LineText::Written(text),
+            text: LineText::Written(Buffer::new(text)),
         })
     }
 
@@ -79,15 +79,25 @@ impl Line {
         }
     }
 
-    /// The line of a reply. Where its memory is refused, it is the line that says so.
-    pub(crate) fn of_reply(alloc: Global, reply: &Reply) -> Line
+    /// The line of a reply, in an empty buffer. Where its memory is refused, it is the line that says so.
+    pub(crate) fn of_reply(alloc: Global, buffer: Buffer, reply: &Reply) -> Line
+        requires empty { buffer.items ≡ [] }
         ensures { (result ≡ reply_text reply.now) ⊎ (result ≡ line_fault_text LineFault.NoMemory) }
     {
-        match write_reply(alloc, reply) {
-            Ok(text) => Line {
+        let mut text = buffer;
+        match append_reply(alloc, &mut text, reply) {
+            Ok(()) => Line {
                 text: LineText::Written(text),
             },
             Err(_) => Line::of_fault(LineFault::NoMemory),
+        }
+    }
+
+    /// The buffer that it was written into, if there is one.
+    pub(crate) fn into_buffer(self) -> Option<Buffer> {
+        match self.text {
+            LineText::Fixed(_) => None,
+            LineText::Written(text) => Some(text),
         }
     }
 

@@ -1,7 +1,8 @@
 //! The session with its slots.
-ghost use Rattle.std.specs.Prelude.{◌≡◌, ◌≢◌, ◌+◌, ◌<◌, ◌≤◌, ◌^◌, length, [], true, false, Ok};
+ghost use Rattle.std.specs.Prelude.{◌≡◌, ◌≢◌, ◌+◌, ◌<◌, ◌≤◌, ◌^◌, ◌⊎◌, length, [], true, false, Ok};
 ghost use Rattle.session_lines.specs.declared.meaning.Meaning.TheVariants.{Hello, Calls};
 ghost use Rattle.session_lines.specs.States.{new_state};
+ghost use Rattle.call_lines.specs.Lines.{reply_text};
 ghost use Rattle.session_lines.specs.Texts.{line_fault_text};
 ghost use Rattle.session_lines.specs.Meanings.{text_meaning};
 ghost use Rattle.session_lines.specs.Steps.{saying_step, after_saying, SoundTakes, TakesLine, IsDoneLine, is_own, after_stranger, after_done, with_entry, is_job_in_front, front_line, after_front};
@@ -12,9 +13,11 @@ use crate::meaning::{Meaning, meaning_of};
 use call_lines::{LONGEST, is_blank_line};
 use call_reader::CallReader;
 use inbox::Job;
+use reply_writer::Buffer;
 use std::alloc::Global;
 use std::collections::VecDeque;
 use std::marker::Model;
+use std::mem;
 use taf_codes::Railway;
 use taf_messages::{Call, Reply, copy_call};
 use tallies::{HubFault, Tally, Told};
@@ -58,6 +61,8 @@ pub enum Slot {
 pub struct Session {
     alloc: Global,
     reader: CallReader,
+    // Where the next answer is written.
+    text: Buffer,
     id: u32,
     railway: Option<Railway>,
     job_count: u64,
@@ -98,6 +103,7 @@ impl Session {
         Session {
             alloc,
             reader: CallReader::new(alloc),
+            text: Buffer::new(Vec::new(alloc)),
             id,
             railway: None,
             job_count: 0,
@@ -255,11 +261,31 @@ impl Session {
         self.out_count -= 1;
         match done.answer {
             Ok((position, reply)) => {
-                let line = Line::of_reply(self.alloc, &reply);
+                let line = self.line_of(&reply);
                 note_answer(&mut self.tally, position, call, reply);
                 line
             }
             Err(fault) => Line::of_hub_fault(&fault),
+        }
+    }
+
+    // The line of a reply.
+    fn line_of(&mut self, reply: &Reply) -> Line
+        ensures line { (result ≡ reply_text reply.now)
+            ⊎ (result ≡ line_fault_text LineFault.NoMemory) }
+        ensures kept { self.new ≡ self.old }
+    {
+        let mut text = mem::replace(&mut self.text, Buffer::new(Vec::new(self.alloc)));
+        text.clear();
+        Line::of_reply(self.alloc, text, reply)
+    }
+
+    /// Takes a line back that was said. The next answer is written into its memory.
+    pub fn take_back(&mut self, line: Line)
+        ensures { self.new ≡ self.old }
+    {
+        if let Some(text) = line.into_buffer() {
+            self.text = text;
         }
     }
 

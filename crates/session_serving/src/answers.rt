@@ -27,7 +27,9 @@ fn answer<K: Sink>(
     ensures fits { HasRoom out.new }
 {
     let line = session.on_done(done);
-    put_line(writer, out, &line)
+    let put = put_line(writer, out, &line);
+    session.take_back(line);
+    put
 }
 
 // Puts the lines that were held until now.
