@@ -1,5 +1,17 @@
 use hub_faults::Fault;
-use std::io::Write;
+use std::alloc::Global;
+use std::io::{BufWriter, Write};
+
+// How many bytes are gathered before they are written.
+const GATHERED: usize = 65_536;
+
+/// The output, with room to gather what is written.
+pub(crate) fn gathering<W: Write + Drop>(alloc: Global, output: W) -> Result<BufWriter<W>, Fault> {
+    match BufWriter::with_capacity(alloc, GATHERED, output) {
+        Ok(gathering) => Ok(gathering),
+        Err(_) => Err(Fault::Memory),
+    }
+}
 
 /// Prints lines, and sends them on.
 pub(crate) fn print<W: Write>(output: &mut W, lines: &[String]) -> Result<(), Fault> {

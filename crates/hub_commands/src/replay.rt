@@ -1,16 +1,13 @@
-use crate::print::print;
+use crate::print::{gathering, print};
 use hub_core::Hub;
 use hub_faults::Fault;
 use hub_replay::run;
 use std::alloc::Global;
-use std::io::{BufWriter, Read, Write};
+use std::io::{Read, Write};
 use std::mem::forget;
 use std::thread::Threads;
 use taf_codes::{Sink, Source, Std};
 use wimo_report::hub_lines;
-
-// How many bytes of replies are gathered before they are written.
-const GATHERED: usize = 65_536;
 
 /// Answers the lines of the input on the output, on a new hub, and then prints the report of all
 /// wagons.
@@ -20,10 +17,7 @@ pub fn perform<R: Read + Drop, W: Write + Drop>(
     input: R,
     output: W,
 ) -> Result<u8, Fault> {
-    let Ok(gathered) = BufWriter::with_capacity(alloc, GATHERED, output) else {
-        return Err(Fault::Memory);
-    };
-    let mut writer = Std::new(gathered);
+    let mut writer = Std::new(gathering(alloc, output)?);
     let report = answer(rt, alloc, &mut Std::new(input), &mut writer)?;
     print(&mut writer.into_inner(), &report)?;
     Ok(0)

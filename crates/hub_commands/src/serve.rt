@@ -1,4 +1,4 @@
-use crate::print::print;
+use crate::print::{gathering, print};
 use hub_faults::Fault;
 use hub_server::{SettledShift, serve_connections};
 use shift_size::ShiftSize;
@@ -40,11 +40,12 @@ pub(crate) fn serve<L: OpenListener, R: Threads + Wait + Sync, W: Write + Drop>(
     alloc: Global,
     listener: &L,
     size: ShiftSize,
-    mut output: W,
+    output: W,
 ) -> Result<u8, Fault>
 where
     L::Stream: Read + Write + OpenStream + Send + Drop,
 {
+    let mut output = gathering(alloc, output)?;
     let SettledShift { shift, calls } = serve_connections(rt, alloc, listener, size)?;
     let lines = hub_lines(rt, alloc, &shift.hub);
     // The program ends here. To give back the memory of each call would take as long as many calls.

@@ -13,10 +13,14 @@ use crate::verdicts::entry_of;
 use hub_items::put_items;
 use hub_model::items_and_events_are_bounded;
 use hub_tables::NextEvents;
+use memory_ahead::ask_ahead;
 use outbox::boxes_keep_the_lists;
 use std::alloc::Global;
 use taf_codes::Memory;
 use taf_messages::{Message, Reply, Shared};
+
+// After so many calls the allocator is asked ahead for what the next ones take.
+const CALLS_ASKED_FOR: usize = 256;
 
 // Makes room for one entry more and for the items in the list. Nothing that is looked up changes.
 fn make_room(state: &mut State) -> Result<(), Memory>
@@ -51,6 +55,9 @@ pub(crate) fn accept(
 {
     boxes_keep_the_lists();
     items_and_events_are_bounded();
+    if state.history.len() % CALLS_ASKED_FOR == 0 {
+        ask_ahead(alloc);
+    }
     let sent = message.get();
     let content = sent.content();
     let by = content.by;

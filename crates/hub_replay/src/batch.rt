@@ -4,16 +4,14 @@ ghost use Rattle.hub_replay.specs.Batches.{IsBatch, IsScanned};
 
 use call_lines::{ParsedLine, next_newline, parse_line};
 use call_reader::{CallReader, FlatRecord};
-use std::alloc::{AllocError, Global};
+use memory_ahead::ask_ahead;
+use std::alloc::Global;
 use std::collections::VecDeque;
 use std::mem::replace;
 use taf_codes::Memory;
 
 // After so many lines the allocator is asked ahead for what the next ones take.
 const LINES_ASKED_FOR: usize = 1024;
-
-// So many bytes are asked for, which the allocator keeps: from 131,072 on it would give them back to the system.
-const AHEAD: usize = 122_880;
 
 /// What lines in a row say, and where the last of them ends.
 #[derive(Drop)]
@@ -54,10 +52,4 @@ pub(crate) fn parse_batch(
         place = from;
     }
     Ok(Batch { lines, end: from })
-}
-
-// Takes memory and gives it back, so that the allocator gets it from the system at once and not page by page.
-fn ask_ahead(alloc: Global) {
-    let room: Result<Vec<u8>, AllocError> = Vec::with_capacity(alloc, AHEAD);
-    drop(room);
 }

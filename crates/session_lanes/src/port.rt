@@ -120,4 +120,8 @@ impl<'a, B: Begun, R: Wait> Port for ShiftPort<'a, B, R> {
     fn is_ready(&self) -> bool {
         self.answers.is_ready()
     }
+
+    fn wait_for(&self, count: u64) {
+        self.answers.wait_for(self.rt, count);
+    }
 }

@@ -11,7 +11,7 @@ use session_lines::{Done, WINDOW};
 use std::alloc::Global;
 use std::marker::Model;
 use std::sync::Wait;
-use std::sync::atomic::{AtomicBool, Ordering};
+use std::sync::atomic::{AtomicBool, AtomicU64, Ordering};
 use std::thread;
 use taf_codes::Memory;
 
@@ -139,6 +139,8 @@ impl JobQueue {
 #[derive(Drop)]
 pub struct AnswerQueue {
     answers: ArrayQueue<Done>,
+    // For how many answers the session sleeps, where it does.
+    awaited: AtomicU64,
     arrived: EventCount,
     ended: AtomicBool,
 }
@@ -149,38 +151,63 @@ impl AnswerQueue {
         let answers = ArrayQueue::new(alloc, WINDOW).map_err(|_| Memory)?;
         Ok(AnswerQueue {
             answers,
+            awaited: AtomicU64::new(1),
             arrived: EventCount::new(),
             ended: AtomicBool::new(false),
         })
     }
 
-    /// Puts an answer, and wakes the session where it sleeps. One that comes to a full queue is dropped.
+    /// Puts an answer, and wakes the session where it sleeps until so many are there. One that comes to a full queue is dropped.
     pub fn push<R: Wait>(&self, rt: &R, done: Done) {
         let _ = self.answers.push(rt, done);
-        self.arrived.notify_one();
+        if self.has(rt, self.awaited.load(Ordering::SeqCst)) {
+            self.arrived.notify_one();
+        }
     }
 
     /// The answer that was put first. It sleeps while there is none; none comes once the queue was ended and is found empty.
     pub fn next<R: Wait>(&self, rt: &R) -> Option<Done> {
-        if let Some(done) = self.answers.pop(rt) {
-            return Some(done);
-        }
         for _ in rt.forever() {
-            let waiting = self.arrived.prepare_wait();
-            let last = self.ended.load(Ordering::SeqCst);
+            let last = self.has_ended();
             let done = self.answers.pop(rt);
             if done.is_some() || last {
                 return done;
             }
-            waiting.wait(rt);
+            self.wait_for(rt, 1);
         }
         unreachable!()
     }
 
-    /// Whether an answer is there, or comes while others run.
+    /// Whether an answer is there.
     pub fn is_ready(&self) -> bool {
+        !self.answers.is_empty()
+    }
+
+    /// Where no answer is there, waits until so many are, or until the queue was ended. It sleeps once it has let others run a few
+    /// times.
+    pub fn wait_for<R: Wait>(&self, rt: &R, count: u64) {
+        if self.is_ready() || self.come_soon(rt, count) {
+            return;
+        }
+        self.awaited.store(count, Ordering::SeqCst);
+        for _ in rt.forever() {
+            let waiting = self.arrived.prepare_wait();
+            if self.has(rt, count) || self.has_ended() {
+                return;
+            }
+            waiting.wait(rt);
+        }
+    }
+
+    // Whether so many answers are there.
+    fn has<R: Wait>(&self, rt: &R, count: u64) -> bool {
+        self.answers.len(rt) as u64 >= count
+    }
+
+    // Whether so many answers are there, or come while others run.
+    fn come_soon<R: Wait>(&self, rt: &R, count: u64) -> bool {
         for _ in 0..YIELDS {
-            if !self.answers.is_empty() {
+            if self.has(rt, count) {
                 return true;
             }
             thread::yield_now();

@@ -1,7 +1,7 @@
 //! The session with its slots.
 ghost use Rattle.std.specs.Prelude.{◌≡◌, ◌≢◌, ◌+◌, ◌<◌, ◌≤◌, ◌^◌, ◌⊎◌, length, [], true, false, Ok};
 ghost use Rattle.session_lines.specs.declared.meaning.Meaning.TheVariants.{Hello, Calls};
-ghost use Rattle.session_lines.specs.States.{new_state};
+ghost use Rattle.session_lines.specs.States.{jobs_out, new_state};
 ghost use Rattle.call_lines.specs.Lines.{reply_text};
 ghost use Rattle.session_lines.specs.Texts.{line_fault_text};
 ghost use Rattle.session_lines.specs.Meanings.{text_meaning};
@@ -13,6 +13,7 @@ use crate::meaning::{Meaning, meaning_of};
 use call_lines::{LONGEST, is_blank_line};
 use call_reader::CallReader;
 use inbox::Job;
+use memory_ahead::ask_ahead;
 use reply_writer::Buffer;
 use std::alloc::Global;
 use std::collections::VecDeque;
@@ -24,6 +25,9 @@ use tallies::{HubFault, Tally, Told};
 
 /// How many slots a session has.
 pub const WINDOW: usize = 16;
+
+// After so many jobs the allocator is asked ahead for what the next ones take.
+const JOBS_ASKED_FOR: u64 = 512;
 
 /// What a session does at a line.
 #[derive(Drop)]
@@ -145,6 +149,13 @@ impl Session {
         self.has_failed
     }
 
+    /// How many of its jobs are out.
+    pub fn jobs_out(&self) -> u64
+        ensures { result ≡ jobs_out self.now.slots }
+    {
+        self.out_count
+    }
+
     /// How many jobs it gave out.
     pub fn job_count(&self) -> u64
         ensures { result ≡ self.now.job_count }
@@ -224,6 +235,9 @@ impl Session {
         requires sound { self.old.has_failed ≡ false }
         ensures { SoundTakes self.old (Calls call) result self.new }
     {
+        if self.job_count % JOBS_ASKED_FOR == 0 {
+            ask_ahead(self.alloc);
+        }
         let Ok(copy) = copy_call(&call) else {
             return self.say(Line::of_fault(LineFault::NoMemory));
         };
@@ -261,23 +275,12 @@ impl Session {
         self.out_count -= 1;
         match done.answer {
             Ok((position, reply)) => {
-                let line = self.line_of(&reply);
+                let line = line_of(self.alloc, &mut self.text, &reply);
                 note_answer(&mut self.tally, position, call, reply);
                 line
             }
             Err(fault) => Line::of_hub_fault(&fault),
         }
-    }
-
-    // The line of a reply.
-    fn line_of(&mut self, reply: &Reply) -> Line
-        ensures line { (result ≡ reply_text reply.now)
-            ⊎ (result ≡ line_fault_text LineFault.NoMemory) }
-        ensures kept { self.new ≡ self.old }
-    {
-        let mut text = mem::replace(&mut self.text, Buffer::new(Vec::new(self.alloc)));
-        text.clear();
-        Line::of_reply(self.alloc, text, reply)
     }
 
     /// Takes a line back that was said. The next answer is written into its memory.
@@ -328,6 +331,15 @@ impl Session {
         let Session { tally, .. } = self;
         tally
     }
+}
+
+// The line of a reply, written into the memory of this buffer.
+fn line_of(alloc: Global, buffer: &mut Buffer, reply: &Reply) -> Line
+    ensures { (result ≡ reply_text reply.now) ⊎ (result ≡ line_fault_text LineFault.NoMemory) }
+{
+    let mut text = mem::replace(buffer, Buffer::new(Vec::new(alloc)));
+    text.clear();
+    Line::of_reply(alloc, text, reply)
 }
 
 // Enters an answer into a tally that has room for it.

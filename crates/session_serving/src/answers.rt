@@ -93,6 +93,7 @@ pub(crate) fn take_next<K: Sink, P: Port>(
     let Ok(()) = write_unless_ready(writer, out, port) else {
         return Err(SessionFault::Write);
     };
+    port.wait_for(session.jobs_out());
     let Ok(done) = port.next() else {
         return Err(SessionFault::Port);
     };

@@ -43,4 +43,8 @@ pub trait Port {
     fn is_ready(&self) -> bool {
         false
     }
+
+    /// Where no answer is there, it may wait until so many are. One that cannot wait so returns at
+    /// once. Where fewer answers will come, it waits no longer than [`Port::next`] would.
+    fn wait_for(&self, _count: u64) {}
 }
