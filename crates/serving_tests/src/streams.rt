@@ -305,7 +305,7 @@ impl Port for HubPort {
         Ok(done)
     }
 
-    fn is_ready(&self) -> bool {
-        self.answers.reach.is_telling && !self.answers.waiting.is_empty()
+    fn is_ready(&self, count: u64) -> bool {
+        self.answers.reach.is_telling && self.answers.waiting.len() as u64 >= count
     }
 }

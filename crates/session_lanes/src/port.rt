@@ -117,8 +117,8 @@ impl<'a, B: Begun, R: Wait> Port for ShiftPort<'a, B, R> {
         }
     }
 
-    fn is_ready(&self) -> bool {
-        self.answers.is_ready()
+    fn is_ready(&self, count: u64) -> bool {
+        self.answers.has(self.rt, count)
     }
 
     fn wait_for(&self, count: u64) {

@@ -16,7 +16,7 @@ use std::thread;
 use taf_codes::Memory;
 
 // How often a thread lets others run before it sleeps.
-const YIELDS: u32 = 4;
+const YIELDS: u64 = 4;
 
 /// The jobs of a lane on their way to its worker, which sleeps while there is none.
 ///
@@ -178,15 +178,15 @@ impl AnswerQueue {
         unreachable!()
     }
 
-    /// Whether an answer is there.
-    pub fn is_ready(&self) -> bool {
-        !self.answers.is_empty()
+    /// Whether so many answers are there.
+    pub fn has<R: Wait>(&self, rt: &R, count: u64) -> bool {
+        self.answers.len(rt) as u64 >= count
     }
 
-    /// Where no answer is there, waits until so many are, or until the queue was ended. It sleeps once it has let others run a few
-    /// times.
+    /// Waits until so many answers are there, or until the queue was ended. It sleeps once it has let others run a few times, the
+    /// fewer the more answers it waits for.
     pub fn wait_for<R: Wait>(&self, rt: &R, count: u64) {
-        if self.is_ready() || self.come_soon(rt, count) {
+        if self.come_soon(rt, count) {
             return;
         }
         self.awaited.store(count, Ordering::SeqCst);
@@ -199,18 +199,13 @@ impl AnswerQueue {
         }
     }
 
-    // Whether so many answers are there.
-    fn has<R: Wait>(&self, rt: &R, count: u64) -> bool {
-        self.answers.len(rt) as u64 >= count
-    }
-
-    // Whether so many answers are there, or come while others run.
+    // Whether so many answers come while others run.
     fn come_soon<R: Wait>(&self, rt: &R, count: u64) -> bool {
         for _ in 0..YIELDS {
+            thread::yield_now();
             if self.has(rt, count) {
                 return true;
             }
-            thread::yield_now();
         }
         false
     }

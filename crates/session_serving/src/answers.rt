@@ -52,12 +52,15 @@ fn put_held<K: Sink>(writer: &mut K, out: &mut Vec<u8>, session: &mut Session) -
     Ok(())
 }
 
-// Writes what is pending, unless the next answer is there.
+// Waits until the jobs that are out are answered, unless so many answers are there. What is pending
+// is written before.
 #[tactic(auto, using(crate::proofs::WriteLemmas::writes_none))]
-fn write_unless_ready<K: Sink, P: Port>(
+fn await_answers<K: Sink, P: Port>(
     writer: &mut K,
     out: &mut Vec<u8>,
     port: &P,
+    session: &Session,
+    count: u64,
 ) -> Result<(), Failed>
     requires fits { HasRoom out.old }
     ensures writes { Writes (output_of (K.contents writer.old) out.old.items)
@@ -65,19 +68,22 @@ fn write_unless_ready<K: Sink, P: Port>(
     ensures failures { CountsFailure result (K.failures writer.old) (K.failures writer.new) }
     ensures fits { HasRoom out.new }
 {
-    if port.is_ready() {
+    if port.is_ready(count) {
         return Ok(());
     }
-    write_out(writer, out)
+    let written = write_out(writer, out);
+    port.wait_for(session.jobs_out());
+    written
 }
 
-/// Takes the next answer, and puts its line and those that were held behind it. False where the
-/// session has failed.
+/// Takes the next answer, and puts its line and those that were held behind it. It waits where fewer
+/// answers are there than so many. False where the session has failed.
 pub(crate) fn take_next<K: Sink, P: Port>(
     writer: &mut K,
     out: &mut Vec<u8>,
     port: &mut P,
     session: &mut Session,
+    count: u64,
 ) -> Result<bool, SessionFault>
     requires job { is_job_in_front session.old.slots ≡ true }
     requires fits { HasRoom out.old }
@@ -90,10 +96,9 @@ pub(crate) fn take_next<K: Sink, P: Port>(
     ensures ready { IsReadyOrOver result session.new }
     ensures fits { HasRoom out.new }
 {
-    let Ok(()) = write_unless_ready(writer, out, port) else {
+    let Ok(()) = await_answers(writer, out, port, session, count) else {
         return Err(SessionFault::Write);
     };
-    port.wait_for(session.jobs_out());
     let Ok(done) = port.next() else {
         return Err(SessionFault::Port);
     };
@@ -131,7 +136,7 @@ pub(crate) fn make_room<K: Sink, P: Port>(
     if !session.busy() {
         return Ok(true);
     }
-    take_next(writer, out, port, session)
+    take_next(writer, out, port, session, 1)
 }
 
 /// Takes all answers. False where the session has failed.
@@ -153,7 +158,8 @@ pub(crate) fn take_all<K: Sink, P: Port>(
     ensures fits { HasRoom out.new }
 {
     while session.has_job_in_front() {
-        match take_next(writer, out, port, session) {
+        let count = session.jobs_out();
+        match take_next(writer, out, port, session, count) {
             Ok(true) => {}
             Ok(false) => return Ok(false),
             Err(fault) => return Err(fault),

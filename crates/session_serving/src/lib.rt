@@ -8,8 +8,9 @@
 //!
 //! It reads only while no job is out, so the reader may wait. What is said is gathered, and written
 //! before the reader is asked, before it waits for an answer, and where 65,536 bytes are pending.
-//! An answer that is there already ([`Port::is_ready`]) is taken first. So many answers take one
-//! write, and none is kept back while the session waits.
+//! Answers that are there already ([`Port::is_ready`]) are taken first, and where it waits, it waits
+//! until the jobs that are out are answered ([`Port::wait_for`]). So many answers take one write, and
+//! none that was taken is kept back while the session waits.
 //!
 //! For a session it takes 131,073 bytes of memory at the beginning, 65,537 of them for a line and
 //! 65,536 for what is pending, and 16,384 bytes of the stack for what is read at once; beside these

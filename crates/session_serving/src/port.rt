@@ -38,13 +38,13 @@ pub trait Port {
         ensures counted { failures self.new
             ≡ (if is_ok result then failures self.old else failures self.old + 1) };
 
-    /// Whether the next answer is there, so that [`Port::next`] would not wait. One that cannot
-    /// tell says no.
-    fn is_ready(&self) -> bool {
+    /// Whether so many answers are there, so that [`Port::next`] would not wait for any of them. One
+    /// that cannot tell says no.
+    fn is_ready(&self, _count: u64) -> bool {
         false
     }
 
-    /// Where no answer is there, it may wait until so many are. One that cannot wait so returns at
-    /// once. Where fewer answers will come, it waits no longer than [`Port::next`] would.
+    /// It may wait until so many answers are there. One that cannot wait so returns at once. Where
+    /// fewer will come, it waits no longer than [`Port::next`] would.
     fn wait_for(&self, _count: u64) {}
 }

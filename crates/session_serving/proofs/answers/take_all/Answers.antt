@@ -2,8 +2,8 @@ use Rattle.session_serving.proofs.Common.{true, refl, ◌∙◌}
 use Rattle.session_serving.proofs.ServeLemmas.{says-then, says_none}
 use Rattle.session_serving.proofs.answers.take_all.Goals as goal
 
-pub loop-writer-init : goal.loop-writer-init
-loop-writer-init g c = record {
+pub loop-session-init : goal.loop-session-init
+loop-session-init g c = record {
   says = says_none _ _ true;
   writer = refl;
   port = refl;
@@ -13,9 +13,9 @@ loop-writer-init g c = record {
   fits = c.requires.fits;
 }
 
-pub loop-writer-preserved : goal.loop-writer-preserved
-loop-writer-preserved g c =
-    let i = c.loop-writer.invariant in
+pub loop-session-preserved : goal.loop-session-preserved
+loop-session-preserved g c =
+    let i = c.loop-session.invariant in
     let t = c.in-Ok-true.ensures in
     record {
       says = says-then _ _ _ _ _ _ true i.says t.says;
@@ -28,7 +28,7 @@ loop-writer-preserved g c =
     }
 
 pub returns-in-Ok-false-clause-says : goal.returns-in-Ok-false-clause-says
-returns-in-Ok-false-clause-says g c = says-then _ _ _ _ _ _ true c.loop-writer.invariant.says c.in-Ok-false.ensures.says
+returns-in-Ok-false-clause-says g c = says-then _ _ _ _ _ _ true c.loop-session.invariant.says c.in-Ok-false.ensures.says
 
 pub returns-in-Err-clause-says : goal.returns-in-Err-clause-says
-returns-in-Err-clause-says g c = says-then _ _ _ _ _ _ _ c.loop-writer.invariant.says c.in-Err.ensures.says
+returns-in-Err-clause-says g c = says-then _ _ _ _ _ _ _ c.loop-session.invariant.says c.in-Err.ensures.says

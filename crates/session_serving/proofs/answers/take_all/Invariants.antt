@@ -1,8 +1,8 @@
 use Rattle.session_serving.proofs.Common.{◌≡◌, true, length, output_of, Says, HasRoom, IsReady}
 use Rattle.session_serving.proofs.answers.take_all.Given as goal
 
-abbrev pub invariant-loop-writer : goal.invariant-loop-writer
-invariant-loop-writer g l = record {
+abbrev pub invariant-loop-session : goal.invariant-loop-session
+invariant-loop-session g l = record {
   says : Says l.initial.session (output_of (g.K.Sink.contents l.initial.writer) l.initial.out.items) l.session (output_of (g.K.Sink.contents l.writer) l.out.items) true;
   writer : g.K.Sink.failures l.writer ≡ g.K.Sink.failures l.initial.writer;
   port : g.P.Port.failures l.port ≡ g.P.Port.failures l.initial.port;
@@ -12,5 +12,5 @@ invariant-loop-writer g l = record {
   fits : HasRoom l.out;
 }
 
-abbrev pub decreases-loop-writer : goal.decreases-loop-writer
-decreases-loop-writer g l = length l.session.slots
+abbrev pub decreases-loop-session : goal.decreases-loop-session
+decreases-loop-session g l = length l.session.slots
