@@ -20,9 +20,10 @@ pub(crate) fn make_room_for(
     ensures ready { OnOk result (AreReady outboxes.new (2 ^ 62) (length items.now) items.now) }
 {
     places.clear();
+    places.reserve(items.len())?;
     for item in items {
         let place = outboxes.make_room(item.to, items.len())?;
-        places.push(place)?;
+        places.push_reserved(place);
     }
     Ok(())
 }

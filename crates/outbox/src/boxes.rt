@@ -6,13 +6,45 @@ ghost use Rattle.outbox.specs.OutboxStates.{IsAt, outbox_state_of, has_box, room
 
 use crate::outbox::Outbox;
 use indexmap::IndexMap;
+use railway_places::RailwayPlaces;
 use taf_codes::{Memory, Railway};
 use taf_messages::ItemBody;
 
 pub(crate) type Boxes = IndexMap<Railway, Outbox>;
 
-/// Makes room for so many items in the box of a railway, and the box where there is none. Gives its place among the boxes.
-pub(crate) fn make_room(boxes: &mut Boxes, railway: Railway, count: usize) -> Result<usize, Memory>
+/// Makes room for so many items in the box of a railway, and the box where there is none. Gives its place among the boxes. The
+/// box is looked for at the railway's place among these first, and may have another, which is noted then.
+pub(crate) fn make_room(
+    boxes: &mut Boxes,
+    places: &mut RailwayPlaces,
+    railway: Railway,
+    count: usize,
+) -> Result<usize, Memory>
+    ensures kept { (also : Railway) → outbox_state_of boxes.new.entries also
+        ≡ outbox_state_of boxes.old.entries also }
+    ensures stay_open { (also : Railway) → has_box boxes.old.entries also ≡ true
+        → has_box boxes.new.entries also ≡ true }
+    ensures stay_roomy { (also : Railway) → room_for boxes.old.entries also
+        ≤ room_for boxes.new.entries also }
+    ensures place { IfOk result (λ place. IsAt boxes.new.entries place railway) }
+    ensures open { OnOk result (has_box boxes.new.entries railway ≡ true) }
+    ensures room { OnOk result (count ≤ room_for boxes.new.entries railway) }
+    ensures few { OnOk result (last_of (outbox_state_of boxes.new.entries railway) < 2 ^ 62) }
+    ensures err { OnErr result ((also : Railway) → has_box boxes.new.entries also
+        ≡ has_box boxes.old.entries also) }
+{
+    let place = places.place(railway);
+    if is_at(boxes, place, railway) {
+        make_room_at(boxes, place, railway, count)?;
+        return Ok(place);
+    }
+    let found = look_up_or_open(boxes, railway, count)?;
+    places.note(railway, found);
+    Ok(found)
+}
+
+// Makes room in the box of a railway, which is looked up, and the box where there is none. Gives its place among the boxes.
+fn look_up_or_open(boxes: &mut Boxes, railway: Railway, count: usize) -> Result<usize, Memory>
     ensures kept { (also : Railway) → outbox_state_of boxes.new.entries also
         ≡ outbox_state_of boxes.old.entries also }
     ensures stay_open { (also : Railway) → has_box boxes.old.entries also ≡ true
@@ -122,7 +154,8 @@ pub(crate) fn put(boxes: &mut Boxes, place: usize, railway: Railway, body: ItemB
 
 // Whether the box at a place is that of the railway.
 fn is_at(boxes: &Boxes, place: usize, railway: Railway) -> bool
-    ensures { result ≡ true → IsAt boxes.now.entries place railway }
+    ensures at { result ≡ true → IsAt boxes.now.entries place railway }
+    ensures has { result ≡ true → has_box boxes.now.entries railway ≡ true }
 {
     match boxes.get_index(place) {
         Some((found, _)) => *found == railway,

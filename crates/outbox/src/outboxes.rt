@@ -6,6 +6,7 @@ use crate::boxes::{self, Boxes};
 use crate::fault::AckAhead;
 use crate::outbox::Outbox;
 use indexmap::IndexMap;
+use railway_places::RailwayPlaces;
 use std::alloc::Global;
 use std::marker::Model;
 use taf_codes::{Memory, Railway};
@@ -15,6 +16,9 @@ use taf_messages::{FetchLimit, ItemBody, ItemList};
 #[derive(Drop)]
 pub struct Outboxes {
     boxes: Boxes,
+    // Where boxes were found last. `make_room` looks there first, and looks the box up where another railway's is there, so
+    // any places are right.
+    places: RailwayPlaces,
 }
 
 impl Model for Outboxes {
@@ -34,6 +38,7 @@ impl Outboxes {
     {
         Outboxes {
             boxes: IndexMap::new(alloc),
+            places: RailwayPlaces::new(),
         }
     }
 
@@ -93,7 +98,7 @@ impl Outboxes {
         ensures err { OnErr result ((also : Railway) → has_box self.new also
             ≡ has_box self.old also) }
     {
-        boxes::make_room(&mut self.boxes, railway, count)
+        boxes::make_room(&mut self.boxes, &mut self.places, railway, count)
     }
 
     /// Adds an item for a railway whose box has room for it, and gives its number: 1 for the first one. The box is looked for at

@@ -7,6 +7,7 @@ ghost use Rattle.replay_numbers.specs.SentPositions.{IsAt, has_railway, position
 
 use crate::sent::Sent;
 use indexmap::IndexMap;
+use railway_places::RailwayPlaces;
 use taf_codes::{Memory, Railway};
 
 pub(crate) type Railways = IndexMap<Railway, Sent>;
@@ -21,9 +22,35 @@ pub(crate) fn find(railways: &Railways, by: Railway, number: u64) -> Option<u32>
     }
 }
 
-/// The place of a railway among all, with the position that was noted for a name of it. Where there is none, room is made for
-/// the name.
+/// The position that was noted for a name. Where there is none, room is made for the name. The railway is looked for at its
+/// place among these first, and may have another, which is noted then.
 pub(crate) fn find_or_make_room(
+    railways: &mut Railways,
+    places: &mut RailwayPlaces,
+    by: Railway,
+    number: u64,
+) -> Result<Option<u32>, Memory>
+    ensures positions { (also : Railway) (n : ℕ) → position_of railways.new.entries also n
+        ≡ position_of railways.old.entries also n }
+    ensures stay_roomy { (also : Railway) (n : ℕ) → has_room railways.old.entries also n ≡ true
+        → has_room railways.new.entries also n ≡ true }
+    ensures found { IfOk result (λ found. found ≡ position_of railways.old.entries by number) }
+    ensures room { IfOk result (λ found. found ≡ None
+        → has_room railways.new.entries by number ≡ true) }
+    ensures succeeds { has_room railways.old.entries by number ≡ true → IsOk result }
+{
+    let place = places.place(by);
+    if is_at(railways, place, by) {
+        return find_or_make_room_at(railways, place, by, number);
+    }
+    let (place, position) = look_up_or_make_room(railways, by, number)?;
+    places.note(by, place);
+    Ok(position)
+}
+
+// The place of a railway among all, with the position that was noted for a name of it. Where there is none, room is made for
+// the name.
+fn look_up_or_make_room(
     railways: &mut Railways,
     by: Railway,
     number: u64,

@@ -5,6 +5,7 @@ ghost use Rattle.replay_numbers.specs.SentPositions.{position_of, has_room};
 
 use crate::railways::{self, Railways};
 use indexmap::IndexMap;
+use railway_places::RailwayPlaces;
 use std::alloc::Global;
 use std::marker::Model;
 use taf_codes::{Memory, Railway};
@@ -14,9 +15,9 @@ use taf_messages::MessageNumber;
 #[derive(Drop)]
 pub struct Seen {
     railways: Railways,
-    // The place of the railway for which `find_or_make_room` was called last. `note_reserved` looks there first, and looks the
-    // railway up where another is there, so any place is right.
-    place: usize,
+    // Where railways were found last. `find_or_make_room` and `note_reserved` look there first, and look the railway up where
+    // another is there, so any places are right.
+    places: RailwayPlaces,
 }
 
 impl Model for Seen {
@@ -34,7 +35,7 @@ impl Seen {
     {
         Seen {
             railways: IndexMap::new(alloc),
-            place: 0,
+            places: RailwayPlaces::new(),
         }
     }
 
@@ -59,9 +60,7 @@ impl Seen {
         ensures room { IfOk result (λ found. found ≡ None → has_room self.new by number ≡ true) }
         ensures succeeds { has_room self.old by number ≡ true → IsOk result }
     {
-        let (place, position) = railways::find_or_make_room(&mut self.railways, by, number.get())?;
-        self.place = place;
-        Ok(position)
+        railways::find_or_make_room(&mut self.railways, &mut self.places, by, number.get())
     }
 
     /// Notes the position of a name that is new, for which there is room. Takes no memory.
@@ -72,7 +71,8 @@ impl Seen {
             ≡ (if same_name by number also other then Some position
             else position_of self.old also other) }
     {
-        railways::note(&mut self.railways, self.place, by, number.get(), position);
+        let place = self.places.place(by);
+        railways::note(&mut self.railways, place, by, number.get(), position);
     }
 
     /// Notes the position of a name that is new. Where memory is refused, the notes stay.

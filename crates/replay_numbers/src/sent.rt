@@ -54,6 +54,7 @@ impl Sent {
     {
         match self.in_row(number) {
             Some(position) => Some(position),
+            None if self.aside.is_empty() => None,
             None => self.aside.get(&number).copied(),
         }
     }
