@@ -2,7 +2,7 @@
 pub use Rattle.std.specs.Option.{option_or}
 pub use Rattle.std.specs.Prelude.{Result, Ok, Err, IsOk, IfOk, IfErr, OnOk, OnErr, ◌↔◌, max, bytes_eq, filter, map, is_some, if◌then◌else◌}
 pub use Rattle.std.specs.Vec.Iter.{drain_items}
-pub use Rattle.std.proofs.Common.{◌≡◌, ℕ, ◌<◌, Bool, true, false, cond, length, List, [], ◌∷◌, ◌++◌, Option, Some, None, refl, ap, ◌∙◌, sym, subst, ◌≤◌, leb, inl, inr, ◌+◌, arith, append_assoc, append-nil, ◌^◌, rules, suc, take}
+pub use Rattle.std.proofs.Common.{◌≡◌, ℕ, ◌<◌, Bool, true, false, cond, length, List, [], ◌∷◌, ◌++◌, Option, Some, None, refl, ap, ◌∙◌, sym, subst, ◌≤◌, leb, inl, inr, ◌+◌, ◌-◌, arith, append_assoc, append-nil, ◌^◌, rules, suc, take, vec_len, vec_capacity}
 pub use Rattle.std.proofs.Math.Seq.{take-suc}
 pub use Rattle.std.proofs.lemmas.Bool.{le-ltb, lt-ltb, leb-true, leb-false, cases_Bool, false≢true}
 pub use Rattle.std.proofs.lemmas.List.{length-append}
