@@ -13,7 +13,7 @@ use taf_messages::ItemBody;
 pub(crate) type Boxes = IndexMap<Railway, Outbox>;
 
 /// Makes room for so many items in the box of a railway, and the box where there is none. Gives its place among the boxes. The
-/// box is looked for at the railway's place among these first, and may have another, which is noted then.
+/// box is looked for at its place among these first.
 pub(crate) fn make_room(
     boxes: &mut Boxes,
     places: &mut RailwayPlaces,
@@ -33,32 +33,7 @@ pub(crate) fn make_room(
     ensures err { OnErr result ((also : Railway) → has_box boxes.new.entries also
         ≡ has_box boxes.old.entries also) }
 {
-    let place = places.place(railway);
-    if is_at(boxes, place, railway) {
-        make_room_at(boxes, place, railway, count)?;
-        return Ok(place);
-    }
-    let found = look_up_or_open(boxes, railway, count)?;
-    places.note(railway, found);
-    Ok(found)
-}
-
-// Makes room in the box of a railway, which is looked up, and the box where there is none. Gives its place among the boxes.
-fn look_up_or_open(boxes: &mut Boxes, railway: Railway, count: usize) -> Result<usize, Memory>
-    ensures kept { (also : Railway) → outbox_state_of boxes.new.entries also
-        ≡ outbox_state_of boxes.old.entries also }
-    ensures stay_open { (also : Railway) → has_box boxes.old.entries also ≡ true
-        → has_box boxes.new.entries also ≡ true }
-    ensures stay_roomy { (also : Railway) → room_for boxes.old.entries also
-        ≤ room_for boxes.new.entries also }
-    ensures place { IfOk result (λ place. IsAt boxes.new.entries place railway) }
-    ensures open { OnOk result (has_box boxes.new.entries railway ≡ true) }
-    ensures room { OnOk result (count ≤ room_for boxes.new.entries railway) }
-    ensures few { OnOk result (last_of (outbox_state_of boxes.new.entries railway) < 2 ^ 62) }
-    ensures err { OnErr result ((also : Railway) → has_box boxes.new.entries also
-        ≡ has_box boxes.old.entries also) }
-{
-    match place_of(boxes, railway) {
+    match find_place(boxes, places, railway) {
         Some(place) => {
             make_room_at(boxes, place, railway, count)?;
             Ok(place)
@@ -70,7 +45,23 @@ fn look_up_or_open(boxes: &mut Boxes, railway: Railway, count: usize) -> Result<
     }
 }
 
-// The place of a railway's box among the boxes.
+// The place of a railway's box among the boxes. It is looked for at its place among these first, and where another box is there,
+// it is looked up and its place is noted.
+#[inline(always)]
+fn find_place(boxes: &Boxes, places: &mut RailwayPlaces, railway: Railway) -> Option<usize>
+    ensures found { IfSome result (λ place. IsAt boxes.now.entries place railway) }
+    ensures has { is_some result ≡ has_box boxes.now.entries railway }
+{
+    let place = places.place(railway);
+    if is_at(boxes, place, railway) {
+        return Some(place);
+    }
+    let found = place_of(boxes, railway)?;
+    places.note(railway, found);
+    Some(found)
+}
+
+// The place of a railway's box among the boxes, by a look-up.
 fn place_of(boxes: &Boxes, railway: Railway) -> Option<usize>
     ensures found { IfSome result (λ place. IsAt boxes.now.entries place railway) }
     ensures has { is_some result ≡ has_box boxes.now.entries railway }

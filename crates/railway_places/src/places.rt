@@ -5,6 +5,10 @@ ghost use Rattle.railway_places.specs.Slots.{slot_of};
 use std::marker::Model;
 use taf_codes::Railway;
 
+// By it the four letters count some 40, 36, 10 and 1 in the slot, as the digits of 1000, 100, 10 and 1 do where one counts round
+// 64. So codes of digits that follow one another have slots of their own.
+const SPREAD: usize = 2_693_801_988;
+
 /// The place of the railway that was found last, of each slot.
 #[derive(Drop)]
 pub struct RailwayPlaces {
@@ -44,16 +48,16 @@ impl RailwayPlaces {
     }
 }
 
-// The slot of a railway.
+// The slot of a railway. Its letters are one number of four bytes, and the slot is six bits of this number times `SPREAD`.
 #[inline(always)]
 fn slot_of(railway: Railway) -> usize
     ensures slot { result ≡ slot_of railway }
     ensures within { result < 64 }
 {
     let letters = railway.as_str().as_bytes();
-    (1000 * letters[0] as usize
-        + 100 * letters[1] as usize
-        + 10 * letters[2] as usize
-        + letters[3] as usize)
-        % 64
+    let number = letters[0] as usize
+        + 256 * letters[1] as usize
+        + 65_536 * letters[2] as usize
+        + 16_777_216 * letters[3] as usize;
+    number * SPREAD % 4_294_967_296 / 67_108_864
 }

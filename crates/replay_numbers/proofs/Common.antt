@@ -2,7 +2,7 @@
 pub use Rattle.std.specs.List.{slice_get}
 pub use Rattle.std.specs.Map.{keys_of, lookup}
 pub use Rattle.std.specs.Option.{option_map_or, option_flatten, option_copied_mut}
-pub use Rattle.std.specs.Prelude.{◌==◌, ◌&&◌, option_and_then, option_map, IfOk}
+pub use Rattle.std.specs.Prelude.{◌==◌, ◌&&◌, option_and_then, option_map, is_some, IfOk}
 pub use Rattle.std.proofs.Common.{◌≡◌, ℕ, Bool, true, false, cond, List, Option, Some, bytes_eq, refl, ap, sym, ◌∙◌, subst, ◌<◌, ◌≤◌, zero, suc, [], ◌∷◌, ◌++◌, length, map, None, arith, set, rules, ◌+◌, ◌-◌}
 pub use Rattle.std.proofs.Math.Dec.{eqb-suc-suc, eqb-zero-suc, eqb-suc-zero}
 pub use Rattle.std.proofs.lemmas.Map.Entries.{lookup_from_place}

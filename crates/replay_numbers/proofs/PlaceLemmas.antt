@@ -30,11 +30,3 @@ no_place (e ∷ es) (suc i) by h g = no_place es i by h g
 -- what was put in is found
 pub now_found : (old new : List (Railway × SentState)) (by : Railway) (sent : SentState) → IsPutIn old by sent new → lookup (bytes_eq by) new ≡ Some sent
 now_found old new by sent put = put by ∙ ap (λ b. cond b (Some sent) (lookup (bytes_eq by) old)) (texts.itself by)
-
--- a railway that is new goes to the end
-pub last_place : {S : Type 0} (railways : IndexMap Railway SentState S) (by : Railway) (sent : SentState) → get bytes_eq railways by ≡ None → IsAt (insert_entry bytes_eq railways.entries by sent) (length railways.entries) by
-last_place railways by sent none = ap (λ es. slice_get (keys_of es) (length railways.entries)) (insert_entry-new bytes_eq railways by sent none) ∙ behind railways.entries
-  where
-    behind : (es : List (Railway × SentState)) → IsAt (es ++ (by, sent) ∷ []) (length es) by
-    behind [] = λ i. Some by
-    behind (e ∷ es) = behind es

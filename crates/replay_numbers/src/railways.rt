@@ -23,7 +23,7 @@ pub(crate) fn find(railways: &Railways, by: Railway, number: u64) -> Option<u32>
 }
 
 /// The position that was noted for a name. Where there is none, room is made for the name. The railway is looked for at its
-/// place among these first, and may have another, which is noted then.
+/// place among these first.
 pub(crate) fn find_or_make_room(
     railways: &mut Railways,
     places: &mut RailwayPlaces,
@@ -39,46 +39,43 @@ pub(crate) fn find_or_make_room(
         → has_room railways.new.entries by number ≡ true) }
     ensures succeeds { has_room railways.old.entries by number ≡ true → IsOk result }
 {
+    match find_place(railways, places, by) {
+        Some(place) => find_or_make_room_at(railways, place, by, number),
+        None => {
+            add(railways, by, number)?;
+            Ok(None)
+        }
+    }
+}
+
+// The place of a railway among all. It is looked for at its place among these first, and where another railway is there, it is
+// looked up and its place is noted.
+#[inline(always)]
+fn find_place(railways: &Railways, places: &mut RailwayPlaces, by: Railway) -> Option<usize>
+    ensures found { IfSome result (λ place. IsAt railways.now.entries place by) }
+    ensures has { is_some result ≡ has_railway railways.now.entries by }
+{
     let place = places.place(by);
     if is_at(railways, place, by) {
-        return find_or_make_room_at(railways, place, by, number);
+        return Some(place);
     }
-    let (place, position) = look_up_or_make_room(railways, by, number)?;
-    places.note(by, place);
-    Ok(position)
+    let found = place_of(railways, by)?;
+    places.note(by, found);
+    Some(found)
 }
 
-// The place of a railway among all, with the position that was noted for a name of it. Where there is none, room is made for
-// the name.
-fn look_up_or_make_room(
-    railways: &mut Railways,
-    by: Railway,
-    number: u64,
-) -> Result<(usize, Option<u32>), Memory>
-    ensures positions { (also : Railway) (n : ℕ) → position_of railways.new.entries also n
-        ≡ position_of railways.old.entries also n }
-    ensures stay_roomy { (also : Railway) (n : ℕ) → has_room railways.old.entries also n ≡ true
-        → has_room railways.new.entries also n ≡ true }
-    ensures place { IfOk result (λ found. IsAt railways.new.entries found.0 by) }
-    ensures found { IfOk result (λ found. found.1 ≡ position_of railways.old.entries by number) }
-    ensures room { IfOk result (λ found. found.1 ≡ None
-        → has_room railways.new.entries by number ≡ true) }
-    ensures succeeds { has_room railways.old.entries by number ≡ true → IsOk result }
+// Whether a railway is at a place.
+fn is_at(railways: &Railways, place: usize, by: Railway) -> bool
+    ensures at { result ≡ true → IsAt railways.now.entries place by }
+    ensures has { result ≡ true → has_railway railways.now.entries by ≡ true }
 {
-    match place_of(railways, by) {
-        Some(place) => {
-            let position = find_or_make_room_at(railways, place, by, number)?;
-            Ok((place, position))
-        }
-        None => {
-            let place = railways.len();
-            add(railways, by, number)?;
-            Ok((place, None))
-        }
+    match railways.get_index(place) {
+        Some((found, _)) => *found == by,
+        None => false,
     }
 }
 
-// The place of a railway among all.
+// The place of a railway among all, by a look-up.
 fn place_of(railways: &Railways, by: Railway) -> Option<usize>
     ensures found { IfSome result (λ place. IsAt railways.now.entries place by) }
     ensures has { is_some result ≡ has_railway railways.now.entries by }
@@ -114,14 +111,13 @@ fn find_or_make_room_at(
     }
 }
 
-// Adds a railway that is not among them yet, with room for a number. Its place is behind all others.
+// Adds a railway that is not among them yet, with room for a number.
 fn add(railways: &mut Railways, by: Railway, number: u64) -> Result<(), Memory>
     requires { has_railway railways.old.entries by ≡ false }
     ensures positions { (also : Railway) (n : ℕ) → position_of railways.new.entries also n
         ≡ position_of railways.old.entries also n }
     ensures stay_roomy { (also : Railway) (n : ℕ) → has_room railways.old.entries also n ≡ true
         → has_room railways.new.entries also n ≡ true }
-    ensures place { OnOk result (IsAt railways.new.entries (length railways.old.entries) by) }
     ensures room { OnOk result (has_room railways.new.entries by number ≡ true) }
 {
     let mut sent = Sent::new(*railways.allocator(), number);
@@ -130,32 +126,23 @@ fn add(railways: &mut Railways, by: Railway, number: u64) -> Result<(), Memory>
     Ok(())
 }
 
-/// Notes the position of a name that is new, for which there is room. The railway is looked for at this place first, and may
-/// have another.
-pub(crate) fn note(railways: &mut Railways, place: usize, by: Railway, number: u64, position: u32)
+/// Notes the position of a name that is new, for which there is room. The railway is looked for at its place among these first.
+pub(crate) fn note(
+    railways: &mut Railways,
+    places: &mut RailwayPlaces,
+    by: Railway,
+    number: u64,
+    position: u32,
+)
     requires room { has_room railways.old.entries by number ≡ true }
     requires new { position_of railways.old.entries by number ≡ None }
     ensures { (also : Railway) (other : ℕ) → position_of railways.new.entries also other
         ≡ (if same_name by number also other then Some position
         else position_of railways.old.entries also other) }
 {
-    if is_at(railways, place, by) {
-        note_at(railways, place, by, number, position);
-        return;
-    }
-    match place_of(railways, by) {
-        Some(found) => note_at(railways, found, by, number, position),
+    match find_place(railways, places, by) {
+        Some(place) => note_at(railways, place, by, number, position),
         None => unreachable!(),
-    }
-}
-
-// Whether a railway is at a place.
-fn is_at(railways: &Railways, place: usize, by: Railway) -> bool
-    ensures { result ≡ true → IsAt railways.now.entries place by }
-{
-    match railways.get_index(place) {
-        Some((found, _)) => *found == by,
-        None => false,
     }
 }
 
