@@ -1,5 +1,5 @@
 -- A railway at a place among all, and what is put there.
-use Rattle.replay_numbers.proofs.Common.{◌≡◌, ℕ, zero, suc, List, [], ◌∷◌, ◌++◌, length, map, Some, None, bytes_eq, cond, ap, ◌∙◌, keys_of, lookup, slice_get, same_Some, lookup_from_place, insert_entry, insert_entry-new, updates-with_value_at, IndexMap, values, with_value_at, get, IsUnique, texts, is_equivalence, Railway, SentState, IsAt}
+use Rattle.replay_numbers.proofs.Common.{◌≡◌, ℕ, zero, suc, List, [], ◌∷◌, map, Some, None, bytes_eq, cond, ap, ◌∙◌, keys_of, lookup, slice_get, same_Some, lookup_from_place, updates-with_value_at, IndexMap, values, with_value_at, IsUnique, texts, is_equivalence, Railway, SentState, IsAt}
 use Rattle.replay_numbers.proofs.SentLemmas.{IsPutIn}
 
 -- a key and a value at a place are the entry there

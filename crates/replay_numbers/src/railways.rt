@@ -1,5 +1,5 @@
 //! The table of the railways that sent messages.
-ghost use Rattle.std.specs.Prelude.{◌≡◌, ℕ, true, false, length, is_some, Some, None, IfSome, IfOk, OnOk, IsOk, if◌then◌else◌};
+ghost use Rattle.std.specs.Prelude.{◌≡◌, ℕ, true, false, is_some, Some, None, IfSome, IfOk, OnOk, IsOk, if◌then◌else◌};
 ghost use Rattle.std.specs.Map.{keys_of};
 ghost use Rattle.taf_codes.specs.declared.code.Railway.{Railway};
 ghost use Rattle.replay_numbers.specs.Names.{same_name};
@@ -75,7 +75,9 @@ fn is_at(railways: &Railways, place: usize, by: Railway) -> bool
     }
 }
 
-// The place of a railway among all, by a look-up.
+// The place of a railway among all, by a look-up: most railways are found without one.
+#[cold]
+#[inline(never)]
 fn place_of(railways: &Railways, by: Railway) -> Option<usize>
     ensures found { IfSome result (λ place. IsAt railways.now.entries place by) }
     ensures has { is_some result ≡ has_railway railways.now.entries by }
@@ -112,6 +114,8 @@ fn find_or_make_room_at(
 }
 
 // Adds a railway that is not among them yet, with room for a number.
+#[cold]
+#[inline(never)]
 fn add(railways: &mut Railways, by: Railway, number: u64) -> Result<(), Memory>
     requires { has_railway railways.old.entries by ≡ false }
     ensures positions { (also : Railway) (n : ℕ) → position_of railways.new.entries also n

@@ -71,7 +71,13 @@ impl Seen {
             ≡ (if same_name by number also other then Some position
             else position_of self.old also other) }
     {
-        railways::note(&mut self.railways, &mut self.places, by, number.get(), position);
+        railways::note(
+            &mut self.railways,
+            &mut self.places,
+            by,
+            number.get(),
+            position,
+        );
     }
 
     /// Notes the position of a name that is new. Where memory is refused, the notes stay.
