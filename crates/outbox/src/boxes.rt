@@ -61,9 +61,7 @@ fn find_place(boxes: &Boxes, places: &mut RailwayPlaces, railway: Railway) -> Op
     Some(found)
 }
 
-// The place of a railway's box among the boxes, by a look-up: most boxes are found without one.
-#[cold]
-#[inline(never)]
+// The place of a railway's box among the boxes, by a look-up.
 fn place_of(boxes: &Boxes, railway: Railway) -> Option<usize>
     ensures found { IfSome result (λ place. IsAt boxes.now.entries place railway) }
     ensures has { is_some result ≡ has_box boxes.now.entries railway }

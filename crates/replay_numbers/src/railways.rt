@@ -75,9 +75,7 @@ fn is_at(railways: &Railways, place: usize, by: Railway) -> bool
     }
 }
 
-// The place of a railway among all, by a look-up: most railways are found without one.
-#[cold]
-#[inline(never)]
+// The place of a railway among all, by a look-up.
 fn place_of(railways: &Railways, by: Railway) -> Option<usize>
     ensures found { IfSome result (λ place. IsAt railways.now.entries place by) }
     ensures has { is_some result ≡ has_railway railways.now.entries by }
@@ -114,8 +112,6 @@ fn find_or_make_room_at(
 }
 
 // Adds a railway that is not among them yet, with room for a number.
-#[cold]
-#[inline(never)]
 fn add(railways: &mut Railways, by: Railway, number: u64) -> Result<(), Memory>
     requires { has_railway railways.old.entries by ≡ false }
     ensures positions { (also : Railway) (n : ℕ) → position_of railways.new.entries also n
