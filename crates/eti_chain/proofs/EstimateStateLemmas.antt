@@ -1,5 +1,5 @@
 -- What is kept for the estimates goes along with the events.
-use Rattle.eti_chain.proofs.Common.{◌≡◌, ℕ, ◌≤◌, cond, List, [], ◌∷◌, ◌++◌, Option, Some, None, ap, ◌∙◌, sym, option_map, le-leb, last_minute, moment_at, Event, JourneyState, NextEvent, after, journey_state, refusal, plan-kept, Anchor, anchor, EstimateBasis, basis_from, estimate_basis, commitment, anchor_after, EstimatesState, state_with_commitment, estimates_state, EstimateAnchor, anchor_with_commitment, estimate_anchor}
+use Rattle.eti_chain.proofs.Common.{◌≡◌, ℕ, ◌≤◌, cond, List, [], ◌∷◌, ◌++◌, Option, Some, None, ap, ◌∙◌, sym, option_map, le-leb, last_minute, moment_at, Event, NextEvent, after, refusal, plan-kept, Anchor, EstimateBasis, estimate_basis, commitment, anchor_after, EstimatesState, state_with_commitment, estimates_state, EstimateAnchor, anchor_with_commitment, estimate_anchor}
 use Rattle.eti_chain.proofs.EstimateLemmas.{anchor_push}
 
 -- the plan, and so the commitment, stays

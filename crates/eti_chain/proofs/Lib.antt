@@ -3,3 +3,4 @@ pub mod EstimateLemmas
 pub mod CalendarLemmas
 pub mod LegEndLemmas
 pub mod EstimateStateLemmas
+pub mod EstimateTurnLemmas

@@ -1,12 +1,12 @@
 -- What is kept for the estimates of a wagon, from one event to the next.
-use Rattle.std.specs.Prelude.{ℕ, Bool, ◌≡◌, ◌≤◌, ◌<◌, ◌^◌, true, false, List, length, Option, option_map}
+use Rattle.std.specs.Prelude.{ℕ, Bool, ◌≡◌, ◌+◌, ◌≤◌, ◌<◌, ◌^◌, true, false, List, length, sum_by, slice_range, Option, option_map}
 use Rattle.std.specs.Option.{option_or}
 use Rattle.taf_moment.specs.Calendar.{last_minute}
 use Rattle.journey.specs.declared.event.Event.{Event}
 use Rattle.journey.specs.declared.event.EventBody.{EventBody}
 use Rattle.journey.specs.declared.event.EventBody.TheVariants.{Moved, EstimateAsked, Offered, Withdrawn}
 use Rattle.eti_chain.specs.declared.anchor.Anchor.{Anchor}
-use Rattle.eti_chain.specs.Estimates.{EstimateBasis, estimate_basis, anchor, anchor_in, delay_in, delayed_by, delays_of, fits_in, commitment}
+use Rattle.eti_chain.specs.Estimates.{EstimateBasis, estimate_basis, anchor, anchor_in, delay_in, delayed_by, delays_of, base_in, fits_in, commitment}
 
 -- an event that says nothing of legs, and receives nothing
 abbrev pub keeps_legs : EventBody → Bool
@@ -60,3 +60,22 @@ pub record IsWithin (r : EstimateBasis) : Type 0 where
   pub on_a_leg : r.leg_index < length r.legs
   pub fit : fits_in r ≡ true
   pub small : delays_of r.anchor ≤ last_minute
+
+-- the estimates of the legs in turn: what they are counted from, and the leg whose turn it is
+pub record EstimatesInTurn : Type 0 where
+  pub estimate_basis : EstimateBasis
+  pub leg : ℕ
+
+-- the estimates by this basis, from this leg on
+abbrev pub in_turn_from : EstimateBasis → ℕ → EstimatesInTurn
+in_turn_from r j = record { estimate_basis = r; leg = j }
+
+-- the end of the leg before leg j, and of the current leg up to that
+abbrev pub end_before : EstimateBasis → ℕ → Option ℕ
+end_before r j =
+    option_map (λ at. at + delays_of r.anchor + sum_by (λ l. l.minutes) (slice_range r.legs (r.leg_index + 1) j)) (base_in r)
+
+-- no estimate passes the calendar, and this is the end of the leg before leg j
+pub record IsInTurn (r : EstimateBasis) (j : ℕ) (at : Option ℕ) : Type 0 where
+  pub within : IsWithin r
+  pub summed : at ≡ end_before r j

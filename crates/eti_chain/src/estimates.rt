@@ -7,6 +7,7 @@ ghost use Rattle.eti_chain.specs.EstimateStates.{keeps_legs};
 
 use crate::anchor::Anchor;
 use crate::basis::EstimateBasis;
+use crate::estimates_in_turn::EstimatesInTurn;
 use crate::held_legs::HeldLegs;
 use journey::{Event, EventBody, Track};
 use std::marker::Model;
@@ -39,7 +40,7 @@ impl<'a> Model for Estimates<'a> {
 
 impl<'a> Estimates<'a> {
     ghost use Rattle.std.specs.Prelude.{Some};
-    ghost use Rattle.eti_chain.specs.EstimateStates.{IsWithin, estimates_state, state_with_commitment};
+    ghost use Rattle.eti_chain.specs.EstimateStates.{IsWithin, estimates_state, in_turn_from, state_with_commitment};
 
     /// The estimates that are counted from this.
     pub(crate) fn by(basis: EstimateBasis<'a>, commit: Moment) -> Estimates<'a>
@@ -108,6 +109,13 @@ impl<'a> Estimates<'a> {
             ≡ of.estimate events leg }
     {
         self.basis().moment(leg)
+    }
+
+    /// The estimates of all legs, from the first one on.
+    pub fn in_turn(&self) -> EstimatesInTurn<'_>
+        ensures { result ≡ in_turn_from self.now.estimate_basis 0 }
+    {
+        EstimatesInTurn::of(self.basis())
     }
 
     /// When the wagon is expected at the end of its last leg.

@@ -21,6 +21,7 @@
 //! - [`EstimateAnchor::followed`] is what is kept after a [`Transition`](journey::Transition), and
 //!   [`EstimateAnchor::estimates_after`] gives the estimates by it, which borrow the legs of the transition's state.
 //! - [`Estimates::estimate`], [`Estimates::eta`], [`Estimates::late`] and [`Estimates::late_by`] read them.
+//!   [`EstimatesInTurn`], by [`Estimates::in_turn`], gives those of all legs, one after another.
 //!
 //! Promised: each answer is that of the definitions over the track's events, and what `add` keeps is what `of` would
 //! give. Only `add` takes memory. Sums are made in 128 bits: fewer than 2^64 events delay a wagon by at most 100,000 minutes
@@ -31,7 +32,9 @@ mod anchor;
 mod basis;
 mod estimate_anchor;
 mod estimates;
+mod estimates_in_turn;
 mod held_legs;
 
 pub use estimate_anchor::EstimateAnchor;
 pub use estimates::Estimates;
+pub use estimates_in_turn::EstimatesInTurn;

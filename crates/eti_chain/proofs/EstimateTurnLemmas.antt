@@ -1,0 +1,38 @@
+-- The end of a leg goes on from the end of the leg before.
+use Rattle.eti_chain.proofs.Common.{◌≡◌, ℕ, ◌+◌, ◌-◌, ◌≤◌, ◌<◌, leb, ltb, List, length, get_or, take, drop, Option, Some, None, refl, ap, ◌∙◌, sym, arith, ◌&&◌, sum_by, sum_by_push, take_more, get_or-drop, length-drop, option_map, IfSome, and_from, le-leb, lt-ltb, cond-true, last_minute, Leg, EstimateBasis, base_in, delays_of, end_in, end_before, IsWithin}
+use Rattle.eti_chain.proofs.CalendarLemmas.{end-fits}
+
+abbrev minutes_of : List Leg → ℕ
+minutes_of ls = sum_by (λ l. l.minutes) ls
+
+goes_on : (base : Option ℕ) (delays so_far more minutes : ℕ) → more ≡ so_far + minutes →
+    option_map (λ at. at + delays + more) base ≡ option_map (λ m. m + minutes) (option_map (λ at. at + delays + so_far) base)
+goes_on None delays so_far more minutes e = refl
+goes_on (Some at) delays so_far more minutes e =
+    let sum : at + delays + more ≡ at + delays + so_far + minutes = omega arith in
+    ap (λ (n : ℕ). Some n) sum
+
+-- the minutes of a leg after the current one come on top of the end before it
+pub end_later : (r : EstimateBasis) (j : ℕ) (l : Leg) → r.leg_index < j → j < length r.legs →
+    end_in r j ≡ option_map (λ m. m + (get_or r.legs j l).minutes) (end_before r j)
+end_later r j l low high =
+    let c = r.leg_index in
+    let n = j - (c + 1) in
+    let later = drop (c + 1) r.legs in
+    let sum : minutes_of (take (n + 1) later) ≡ minutes_of (take n later) + (get_or later n l).minutes =
+        ap (λ ls. minutes_of ls) (take_more later n l (omega (arith, length-drop (c + 1) r.legs))) ∙ sum_by_push (λ x. x.minutes) (take n later) (get_or later n l) in
+    let count : j + 1 - (c + 1) ≡ n + 1 = omega arith in
+    let place : c + 1 + n ≡ j = omega arith in
+    let leg : get_or later n l ≡ get_or r.legs j l = get_or-drop (c + 1) r.legs n l ∙ ap (λ i. get_or r.legs i l) place in
+    let more : minutes_of (take (j + 1 - (c + 1)) later) ≡ minutes_of (take n later) + (get_or r.legs j l).minutes =
+        ap (λ i. minutes_of (take i later)) count ∙ sum ∙ ap (λ (x : Leg). minutes_of (take n later) + x.minutes) leg in
+    cond-true (leb c j && ltb j (length r.legs)) (end_before r (j + 1)) None (and_from (leb c j) (ltb j (length r.legs)) (le-leb c j (omega arith)) (lt-ltb j (length r.legs) high)) ∙
+    goes_on (base_in r) (delays_of r.anchor) (minutes_of (take n later)) (minutes_of (take (j + 1 - (c + 1)) later)) (get_or r.legs j l).minutes more
+
+-- and stay within the calendar
+pub later_fits : (r : EstimateBasis) (j : ℕ) (l : Leg) (at : Option ℕ) → IsWithin r → r.leg_index < j → j < length r.legs → at ≡ end_before r j →
+    IfSome at (λ m. m + (get_or r.legs j l).minutes ≤ last_minute)
+later_fits r j l None within low high e = tt
+later_fits r j l (Some m) within low high e =
+    let minutes = (get_or r.legs j l).minutes in
+    end-fits r j (m + minutes) within.fit (end_later r j l low high ∙ ap (option_map (λ n. n + minutes)) (sym e))
