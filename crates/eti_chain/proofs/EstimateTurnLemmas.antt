@@ -20,12 +20,12 @@ end_later r j l low high =
     let n = j - (c + 1) in
     let later = drop (c + 1) r.legs in
     let sum : minutes_of (take (n + 1) later) ≡ minutes_of (take n later) + (get_or later n l).minutes =
-        ap (λ ls. minutes_of ls) (take_more later n l (omega (arith, length-drop (c + 1) r.legs))) ∙ sum_by_push (λ x. x.minutes) (take n later) (get_or later n l) in
+    ap (λ ls. minutes_of ls) (take_more later n l (omega (arith, length-drop (c + 1) r.legs))) ∙ sum_by_push (λ x. x.minutes) (take n later) (get_or later n l) in
     let count : j + 1 - (c + 1) ≡ n + 1 = omega arith in
     let place : c + 1 + n ≡ j = omega arith in
     let leg : get_or later n l ≡ get_or r.legs j l = get_or-drop (c + 1) r.legs n l ∙ ap (λ i. get_or r.legs i l) place in
     let more : minutes_of (take (j + 1 - (c + 1)) later) ≡ minutes_of (take n later) + (get_or r.legs j l).minutes =
-        ap (λ i. minutes_of (take i later)) count ∙ sum ∙ ap (λ (x : Leg). minutes_of (take n later) + x.minutes) leg in
+    ap (λ i. minutes_of (take i later)) count ∙ sum ∙ ap (λ (x : Leg). minutes_of (take n later) + x.minutes) leg in
     cond-true (leb c j && ltb j (length r.legs)) (end_before r (j + 1)) None (and_from (leb c j) (ltb j (length r.legs)) (le-leb c j (omega arith)) (lt-ltb j (length r.legs) high)) ∙
     goes_on (base_in r) (delays_of r.anchor) (minutes_of (take n later)) (minutes_of (take (j + 1 - (c + 1)) later)) (get_or r.legs j l).minutes more
 

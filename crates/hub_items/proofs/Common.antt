@@ -35,6 +35,7 @@ pub use Rattle.journey.specs.declared.event.EventBody.TheVariants.{Planned, Move
 pub use Rattle.journey.specs.declared.journey_state.JourneyState.{JourneyState}
 pub use Rattle.journey.proofs.LegPositionLemmas.{plan-push}
 pub use Rattle.journey.proofs.SoundStateLemmas.{plan-kept}
+pub use Rattle.eti_chain.specs.EstimateStates.{EstimatesInTurn, in_turn_from}
 pub use Rattle.eti_chain.specs.Estimates.{estimate, estimates, EstimateBasis, estimate_basis, end_in, eta_in, eta, commitment, late_by, lateness, is_late, fits}
 pub use Rattle.eti_chain.proofs.CalendarLemmas.{no_end, same_test}
 pub use Rattle.eti_chain.proofs.EstimateLemmas.{IsSilent, basis-silent, silent_yard_arrival, silent_yard_departure, silent_offered, silent_withdrawn, silent_asked}

@@ -41,9 +41,13 @@ keeps_estimates (Offered place to) = true
 keeps_estimates (Withdrawn place) = true
 keeps_estimates _ = false
 
--- the estimate of a leg with the event
+-- the estimate of a leg, which ends at this moment
+abbrev pub estimate_at : ℕ → Option ℕ → Option EstimateAt
+estimate_at leg at = option_map (λ m. record { leg = leg; at = m }) at
+
+-- that of a leg with the event
 abbrev pub estimate_of : NextEvent → ℕ → Option EstimateAt
-estimate_of o leg = option_map (λ at. record { leg = leg; at = at }) (estimate (after o) leg)
+estimate_of o leg = estimate_at leg (estimate (after o) leg)
 
 -- its item, if it is news
 abbrev pub news_of : NextEvent → ℕ → List AddressedItem

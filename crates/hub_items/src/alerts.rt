@@ -66,13 +66,12 @@ fn alert(change: &WagonChange<'_>) -> Option<ItemBody>
     ensures { result ≡ of.alert change.now.before (after change.now) change.now.wagon }
 {
     let wagon = change.wagon();
-    if !change.was_late() {
-        let late_by = change.late_by()?;
-        Some(ItemBody::AlertBegins { wagon, late_by })
-    } else if change.is_late() {
-        None
-    } else {
-        Some(ItemBody::AlertEnds { wagon })
+    let was_late = change.estimates_before().late();
+    match change.estimates_after().late_by() {
+        Some(_) if was_late => None,
+        Some(late_by) => Some(ItemBody::AlertBegins { wagon, late_by }),
+        None if was_late => Some(ItemBody::AlertEnds { wagon }),
+        None => None,
     }
 }
 

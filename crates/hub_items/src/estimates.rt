@@ -2,12 +2,14 @@
 ghost use Rattle.std.specs.Prelude.{◌≡◌, ◌++◌, ◌<◌, [], if◌then◌else◌, OnOk, option_to_list};
 ghost use Rattle.hub_model.specs.Items as of;
 ghost use Rattle.journey.specs.Journey.{after};
-ghost use Rattle.hub_items.specs.Transitions.{estimate_of, news_of};
+ghost use Rattle.eti_chain.specs.Estimates as chain;
+ghost use Rattle.hub_items.specs.Transitions.{estimate_at, news_of};
 
 use crate::wagon_change::WagonChange;
 use hub_model::AddressedItem;
 use taf_codes::Memory;
 use taf_messages::{EstimateAt, ItemBody, LegIndex};
+use taf_moment::Moment;
 
 /// Adds the items of the estimates that are news.
 pub(crate) fn put_estimates(
@@ -17,8 +19,12 @@ pub(crate) fn put_estimates(
     ensures { OnOk result (items.new.items ≡ items.old.items
         ++ of.estimate_items change.now.before (after change.now) change.now.wagon) }
 {
+    let (before, after) = (change.estimates_before(), change.estimates_after());
+    let (mut each_before, mut each_after) = (before.in_turn(), after.in_turn());
     for leg in 0..change.leg_count() {
-        put_of_leg(items, change, leg)?;
+        let was = each_before.next_estimate();
+        let at = each_after.next_estimate();
+        put_of_leg(items, change, leg, was, at)?;
     }
     Ok(())
 }
@@ -28,58 +34,69 @@ fn put_of_leg(
     items: &mut Vec<AddressedItem>,
     change: &WagonChange<'_>,
     leg: usize,
+    was: Option<Moment>,
+    at: Option<Moment>,
 ) -> Result<(), Memory>
-    requires { leg < 8 }
+    requires few { leg < 8 }
+    requires before { was ≡ chain.estimate change.now.before leg }
+    requires after { at ≡ chain.estimate (after change.now) leg }
     ensures { OnOk result (items.new.items ≡ items.old.items ++ news_of change.now leg) }
 {
-    if let Some(estimate) = estimate_of(change, leg) {
-        put_news(items, change, &estimate)?;
+    if let Some(estimate) = estimate_of(leg, at) {
+        put_news(items, change, was, &estimate)?;
     }
     Ok(())
 }
 
-// The estimate of a leg with the event.
-fn estimate_of(change: &WagonChange<'_>, leg: usize) -> Option<EstimateAt>
+// The estimate of a leg.
+fn estimate_of(leg: usize, at: Option<Moment>) -> Option<EstimateAt>
     requires { leg < 8 }
-    ensures { result ≡ estimate_of change.now leg }
+    ensures { result ≡ estimate_at leg at }
 {
-    let at = change.estimate_after(leg)?;
+    let at = at?;
     let leg = LegIndex::new(leg as u64)?;
     Some(EstimateAt { leg, at })
 }
 
 // The estimate is not what it was, or the next leg has another railway, or there was or is no next leg.
-fn is_news(change: &WagonChange<'_>, estimate: &EstimateAt) -> bool
+fn is_news(change: &WagonChange<'_>, was: Option<Moment>, estimate: &EstimateAt) -> bool
+    requires { was ≡ chain.estimate change.now.before estimate.now.leg }
     ensures { result ≡ of.is_news change.now.before (after change.now) estimate.now }
 {
-    let leg = estimate.leg.get() as usize;
-    change.estimate_before(leg) != Some(estimate.at)
-        || change.runner_before(leg + 1) != change.runner_after(leg + 1)
+    let next = estimate.leg.get() as usize + 1;
+    was != Some(estimate.at) || change.runner_before(next) != change.runner_after(next)
 }
 
 // Adds the item of the estimate, if that is news.
 fn put_news(
     items: &mut Vec<AddressedItem>,
     change: &WagonChange<'_>,
+    was: Option<Moment>,
     estimate: &EstimateAt,
 ) -> Result<(), Memory>
+    requires { was ≡ chain.estimate change.now.before estimate.now.leg }
     ensures { OnOk result (items.new.items ≡ items.old.items
         ++ (if of.is_news change.now.before (after change.now) estimate.now
         then of.estimate_item (after change.now) change.now.wagon estimate.now else [])) }
 {
-    if let Some(item) = news_item(change, estimate) {
+    if let Some(item) = news_item(change, was, estimate) {
         items.push(item)?;
     }
     Ok(())
 }
 
 // The item of the estimate, if that is news.
-fn news_item(change: &WagonChange<'_>, estimate: &EstimateAt) -> Option<AddressedItem>
+fn news_item(
+    change: &WagonChange<'_>,
+    was: Option<Moment>,
+    estimate: &EstimateAt,
+) -> Option<AddressedItem>
+    requires { was ≡ chain.estimate change.now.before estimate.now.leg }
     ensures { option_to_list result
         ≡ (if of.is_news change.now.before (after change.now) estimate.now
         then of.estimate_item (after change.now) change.now.wagon estimate.now else []) }
 {
-    if is_news(change, estimate) {
+    if is_news(change, was, estimate) {
         estimate_item(change, estimate)
     } else {
         None

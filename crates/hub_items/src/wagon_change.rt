@@ -2,7 +2,6 @@
 ghost use Rattle.std.specs.Prelude.{◌≡◌, ℕ, ◌≤◌, [], length, true, Some, None};
 ghost use Rattle.journey.specs.Stages as stages;
 ghost use Rattle.journey.specs.Legs as legs_of;
-ghost use Rattle.eti_chain.specs.Estimates as of;
 ghost use Rattle.eti_chain.specs.EstimateStates.{estimates_state};
 ghost use Rattle.hub_model.specs.Items.{alert_items, estimate_items};
 ghost use Rattle.hub_tables.specs.TableStates.{IsEventOf, table_state, named_alone};
@@ -18,7 +17,6 @@ use journey::{Event, EventBody, Transition};
 use std::marker::Model;
 use taf_codes::Railway;
 use taf_messages::MovementKind;
-use taf_moment::Moment;
 use wagon_number::WagonNumber;
 
 /// A wagon, and an event that its journey admits and with which its estimates stay in the calendar.
@@ -205,45 +203,17 @@ impl<'a> WagonChange<'a> {
             .map(|leg| leg.ru)
     }
 
-    // When the wagon is expected with the event.
-    fn estimates(&self) -> Estimates<'_>
+    /// When the wagon was expected before the event.
+    pub(crate) fn estimates_before(&self) -> Estimates<'_>
+        ensures { result ≡ estimates_state self.now.before }
+    {
+        self.wagon.estimates()
+    }
+
+    /// When the wagon is expected with the event.
+    pub(crate) fn estimates_after(&self) -> Estimates<'_>
         ensures { result ≡ estimates_state (after self.now) }
     {
         self.kept.estimates_after(self.transition)
-    }
-
-    /// When the wagon was expected at the end of a leg before the event.
-    pub(crate) fn estimate_before(&self, leg: usize) -> Option<Moment>
-        ensures { result ≡ of.estimate self.now.before leg }
-    {
-        self.wagon.estimates().estimate(leg)
-    }
-
-    /// When the wagon is expected at the end of a leg with the event.
-    pub(crate) fn estimate_after(&self, leg: usize) -> Option<Moment>
-        ensures { result ≡ of.estimate (after self.now) leg }
-    {
-        self.estimates().estimate(leg)
-    }
-
-    /// Whether the wagon was late before the event.
-    pub(crate) fn was_late(&self) -> bool
-        ensures { result ≡ of.is_late self.now.before }
-    {
-        self.wagon.estimates().late()
-    }
-
-    /// Whether the wagon is late with the event.
-    pub(crate) fn is_late(&self) -> bool
-        ensures { result ≡ of.is_late (after self.now) }
-    {
-        self.estimates().late()
-    }
-
-    /// By how many minutes the wagon is late with the event, if it is.
-    pub(crate) fn late_by(&self) -> Option<u32>
-        ensures { result ≡ of.late_by (after self.now) }
-    {
-        self.estimates().late_by()
     }
 }
