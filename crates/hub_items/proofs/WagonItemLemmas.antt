@@ -1,5 +1,5 @@
 -- The items of the wagons that a message names.
-use Rattle.hub_items.proofs.Common.{◌≡◌, ℕ, Bool, true, false, List, [], ◌∷◌, ◌++◌, refl, ap, ◌∙◌, sym, subst, ◌||◌, map, flat_map, append-nil, or_right, Ok, Err, Result, OnOk, has, Message, Body, Event, AddressedItem, HubState, named_wagons, estimates_at, continues_journeys, EventAt, true≢false}
+use Rattle.hub_items.proofs.Common.{◌≡◌, ℕ, Bool, true, false, List, [], ◌∷◌, ◌++◌, refl, ap, ◌∙◌, sym, subst, ◌||◌, map, flat_map, append-nil, or_right, Ok, Err, Result, OnOk, has, Message, Body, AddressedItem, HubState, named_wagons, estimates_at, continues_journeys, EventAt, true≢false}
 use Rattle.taf_messages.specs.declared.message.Body.TheVariants as body
 use Rattle.hub_items.proofs.PlanLemmas.{planned_estimates}
 use Rattle.hub_items.proofs.UnchangedEstimateLemmas.{same_number}

@@ -1,4 +1,4 @@
-use Rattle.hub_items.proofs.Common.{◌∙◌, ◌++◌, List, ap, take_all, flat_map, alerts_at, table_state, Event, EventAt}
+use Rattle.hub_items.proofs.Common.{◌∙◌, ◌++◌, List, ap, take_all, flat_map, alerts_at, table_state, EventAt}
 use Rattle.hub_items.proofs.wagons.put_of_each.Goals as goal
 
 pub returns-clause-alerts : goal.returns-clause-alerts

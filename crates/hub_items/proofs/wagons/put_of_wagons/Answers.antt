@@ -1,4 +1,4 @@
-use Rattle.hub_items.proofs.Common.{◌≡◌, [], List, ◌++◌, ap, sym, subst, ◌∙◌, map, OnOk, All, All-head, ℕ, Event, AddressedItem, estimate_items, alert_items, estimates_at, alerts_at, table_state, EventAt, IsEventOf, AreNextEvents}
+use Rattle.hub_items.proofs.Common.{◌≡◌, [], List, ◌++◌, ap, sym, subst, ◌∙◌, map, OnOk, All, All-head, ℕ, AddressedItem, estimate_items, alert_items, estimates_at, alerts_at, table_state, EventAt, IsEventOf, AreNextEvents}
 use Rattle.hub_items.proofs.MessageItemLemmas.{of_one}
 use Rattle.hub_items.proofs.WagonItemLemmas.{nothing_planned, put_of_each}
 use Rattle.hub_items.proofs.wagons.put_of_wagons.Goals as goal
