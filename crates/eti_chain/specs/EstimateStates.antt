@@ -70,7 +70,7 @@ pub record EstimatesInTurn : Type 0 where
 abbrev pub in_turn_from : EstimateBasis → ℕ → EstimatesInTurn
 in_turn_from r j = record { estimate_basis = r; leg = j }
 
--- the end of the leg before leg j, and of the current leg up to that
+-- the end of the leg before leg j, or of the current leg where j is not after it
 abbrev pub end_before : EstimateBasis → ℕ → Option ℕ
 end_before r j =
     option_map (λ at. at + delays_of r.anchor + sum_by (λ l. l.minutes) (slice_range r.legs (r.leg_index + 1) j)) (base_in r)

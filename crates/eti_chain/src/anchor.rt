@@ -1,5 +1,6 @@
 //! The event from which estimates are counted.
-ghost use Rattle.std.specs.Prelude.{◌≡◌, ◌+◌, ◌<◌, ◌≤◌, ◌^◌, IfSome};
+ghost use Rattle.std.specs.Prelude.{◌≡◌, ◌+◌, ◌<◌, ◌≤◌, ◌^◌, option_map};
+ghost use Rattle.std.specs.Option.{option_or};
 ghost use Rattle.eti_chain.specs.Estimates as of;
 ghost use Rattle.eti_chain.specs.EstimateStates as states;
 
@@ -23,24 +24,26 @@ pub(crate) fn anchor_after(before: Option<Anchor>, event: &Event) -> Option<Anch
     ensures value { result ≡ states.anchor_after before event.now }
     ensures bound { of.delays_of result ≤ of.delays_of before + 100000 }
 {
-    anchor_in(event).or(with_delay_of(before, &event.body))
+    let mut newest = before;
+    go_on(&mut newest, anchor_in(event), delay_in(&event.body));
+    newest
 }
 
-// The anchor with the delay of one event more.
-fn with_delay_of(before: Option<Anchor>, body: &EventBody) -> Option<Anchor>
-    requires { of.delays_of before < 2 ^ 127 }
-    ensures value { result ≡ states.with_delay_of before body.now }
-    ensures bound { of.delays_of result ≤ of.delays_of before + 100000 }
+/// Goes on by an event that is this anchor, or else delays the wagon by these minutes.
+pub(crate) fn go_on(newest: &mut Option<Anchor>, new: Option<Anchor>, delay: u128)
+    requires small { of.delays_of newest.old < 2 ^ 127 }
+    requires delay { delay ≤ 100000 }
+    ensures { newest.new ≡ option_or new (option_map (of.delayed_by delay) newest.old) }
 {
-    let anchor = before?;
-    Some(Anchor {
-        at: anchor.at,
-        runs_leg: anchor.runs_leg,
-        delays: anchor.delays + delay_in(body),
-    })
+    if new.is_some() {
+        *newest = new;
+    } else if let Some(anchor) = newest {
+        anchor.delays += delay;
+    }
 }
 
-fn anchor_in(event: &Event) -> Option<Anchor>
+/// The anchor that an event is, if it is one.
+pub(crate) fn anchor_in(event: &Event) -> Option<Anchor>
     ensures value { result ≡ of.anchor_in event.now.at event.now.body }
     ensures bound { of.delays_of result ≡ 0 }
 {
@@ -75,8 +78,8 @@ fn anchor_at(at: Option<Moment>, runs_leg: bool) -> Option<Anchor>
     })
 }
 
-// The minutes that an event delays the wagon by: at most 100,000.
-fn delay_in(body: &EventBody) -> u128
+/// The minutes that an event delays the wagon by: at most 100,000.
+pub(crate) fn delay_in(body: &EventBody) -> u128
     ensures value { result ≡ of.delay_in body.now }
     ensures bound { result ≤ 100000 }
 {

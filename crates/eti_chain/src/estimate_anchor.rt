@@ -3,7 +3,7 @@ ghost use Rattle.journey.specs.Checks.{refusal};
 ghost use Rattle.journey.specs.Journey.{after};
 ghost use Rattle.eti_chain.specs.Estimates as of;
 
-use crate::anchor::{Anchor, anchor_after};
+use crate::anchor::{Anchor, anchor_in, delay_in, go_on};
 use crate::basis::EstimateBasis;
 use crate::estimates::Estimates;
 use journey::{Event, Track, Transition};
@@ -102,9 +102,9 @@ impl EstimateAnchor {
         ensures same_track { OnErr result (track.new ≡ track.old) }
         ensures same { OnErr result (self.new ≡ self.old) }
     {
-        let newest = anchor_after(self.newest, &event);
+        let (new, delay) = (anchor_in(&event), delay_in(&event.body));
         track.add(event)?;
-        self.newest = newest;
+        go_on(&mut self.newest, new, delay);
         Ok(())
     }
 }

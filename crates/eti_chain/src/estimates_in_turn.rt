@@ -1,3 +1,4 @@
+//! The estimates of the legs, one after another.
 ghost use Rattle.std.specs.Prelude.{◌≡◌, ◌+◌, ◌<◌, ◌≤◌, length, IfSome, option_map};
 ghost use Rattle.taf_moment.specs.Calendar.{last_minute};
 ghost use Rattle.eti_chain.specs.Estimates as of;
@@ -18,7 +19,7 @@ pub struct EstimatesInTurn<'a> {
     anchor: Option<Anchor>,
     // The leg whose turn it is.
     leg: usize,
-    // The end of the leg before it, and of the current leg up to that.
+    // The end of the leg before it, or of the current leg where it is not after that. None without an event to count from.
     at: Option<Moment>,
 }
 
