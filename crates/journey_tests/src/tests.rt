@@ -227,12 +227,21 @@ fn expected(estimates: &Estimates<'_>) -> [Option<Moment>; 3] {
     ]
 }
 
+// The same, one after another.
+fn expected_in_turn(estimates: &Estimates<'_>) -> [Option<Moment>; 3] {
+    let mut each = estimates.in_turn();
+    let first = each.next_estimate();
+    let second = each.next_estimate();
+    [first, second, each.next_estimate()]
+}
+
 #[test]
 fn estimates_of_a_track(rt: HostRuntime) -> Result<(), Fail> {
     let run = two_legs(rt.alloc(), DEPARTED)?;
     let first = Some(moment(rt.alloc(), "11:00")?);
     let second = Some(moment(rt.alloc(), "15:00")?);
     assert!(rt; expected(&run.estimates()) == [first, second, None]);
+    assert!(rt; expected_in_turn(&run.estimates()) == [first, second, None]);
     assert!(rt; !run.estimates().late());
     Ok(())
 }
