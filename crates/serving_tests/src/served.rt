@@ -486,7 +486,7 @@ fn add_many(script: &mut Script) -> Result<(), Fail> {
     repeat(script, ASK, UNKNOWN, 16)
 }
 
-// What a reader gives at once, whether the port tells that an answer is there, how many answers waited at most, and how
+// What a reader gives at once, whether the port tells that answers are there, how many answers waited at most, and how
 // many writes there were: one for each line where a read gives one byte; one for all, where all are there at once; and one
 // before each answer that may have to be waited for, beside the last.
 const MANY_LINES: [(usize, bool, usize, usize); 3] = [

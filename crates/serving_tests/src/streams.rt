@@ -45,7 +45,7 @@ pub(crate) struct Reach {
     pub(crate) calls: usize,
     /// Whose answers the port gives.
     pub(crate) giving: Giving,
-    /// Whether the port says that an answer is there.
+    /// Whether the port says how many answers are there.
     pub(crate) is_telling: bool,
 }
 

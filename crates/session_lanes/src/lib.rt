@@ -15,8 +15,8 @@
 //! it handed out and took back.
 //!
 //! No contract says that a thread that waits is woken, nor what an [`AnswerQueue`] or an [`Opening`] holds. No thread spins:
-//! a worker whose lane is empty and a session that waits for an answer let others run a few times, and then sleep until they
-//! are woken.
+//! a worker whose lane is empty and a session that waits for answers let others run a few times, and then sleep until they are
+//! woken: a worker by the first job, and a session once all the answers that it waits for are there.
 //!
 //! | part | what it has |
 //! |---|---|

@@ -183,8 +183,7 @@ impl AnswerQueue {
         self.answers.len(rt) as u64 >= count
     }
 
-    /// Waits until so many answers are there, or until the queue was ended. It sleeps once it has let others run a few times, the
-    /// fewer the more answers it waits for.
+    /// Waits until so many answers are there, or until the queue was ended. It sleeps once it has let others run a few times.
     pub fn wait_for<R: Wait>(&self, rt: &R, count: u64) {
         if self.come_soon(rt, count) {
             return;
