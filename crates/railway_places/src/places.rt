@@ -6,7 +6,7 @@ use std::marker::Model;
 use taf_codes::Railway;
 
 // By it the four letters count some 40, 36, 10 and 1 in the slot, as the digits of 1000, 100, 10 and 1 do where one counts round
-// 64. So codes of digits that follow one another have slots of their own.
+// 64. So codes of digits that follow one another mostly have slots of their own.
 const SPREAD: usize = 2_693_801_988;
 
 /// The place of the railway that was found last, of each slot.
