@@ -15,6 +15,6 @@ loop-item-preserved c =
     let made = c.in_ok-place.ensures in (
       (λ r. made.kept r ∙ c.loop-item.invariant.0 r),
       subst (λ (qs : List AddressedItem). AreReady boxes (2 ^ 62) n qs) (sym grown)
-          (ready_more boxes (2 ^ 62) n (take k is) i (ready_stays c.loop-item.outboxes boxes (2 ^ 62) n (take k is) made.kept made.stay_roomy c.loop-item.invariant.1.0) made.few made.room),
-      omega (arith, c.push_reserved.ensures.len, c.push_reserved.ensures.capacity, c.loop-item.invariant.1.1, within),
+          (ready_more boxes (2 ^ 62) n (take k is) i (ready_stays c.loop-item.outboxes boxes (2 ^ 62) n (take k is) made.kept made.stay_roomy c.loop-item.invariant.1) made.few made.room),
+      omega (arith, c.push_reserved.ensures.len, c.push_reserved.ensures.capacity, c.loop-item.invariant.2, within),
     )
