@@ -45,12 +45,12 @@ pub(crate) fn serve<L: OpenListener, R: Threads + Wait + Sync, W: Write + Drop>(
 where
     L::Stream: Read + Write + OpenStream + Send + Drop,
 {
-    let mut output = gathering(alloc, output)?;
     let SettledShift { shift, calls } = serve_connections(rt, alloc, listener, size)?;
     let lines = hub_lines(rt, alloc, &shift.hub);
     // The program ends here. To give back the memory of each call would take as long as many calls.
     forget(shift);
     let lines = lines?;
+    let mut output = gathering(alloc, output)?;
     let Ok(()) = output.write_fmt(format_args!("settled {calls}\n")) else {
         return Err(Fault::Write);
     };
