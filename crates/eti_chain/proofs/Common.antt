@@ -1,10 +1,10 @@
 -- What the proofs of this crate have in common: the names of other crates, of the standard library and of its own definitions.
 pub use Rattle.std.specs.List.{list_all, range_with_len, cons_option}
 pub use Rattle.std.specs.Option.{option_or, option_and_then}
-pub use Rattle.std.specs.Prelude.{◌&&◌, nat_le, IfSome, sum_by, slice_range, filter_map, option_map, fold, is_some}
+pub use Rattle.std.specs.Prelude.{◌&&◌, nat_le, IfSome, sum_by, slice_range, filter_map, option_map, is_some}
 pub use Rattle.std.proofs.Common.{◌≡◌, ℕ, ◌+◌, ◌-◌, ◌≤◌, ◌<◌, Bool, true, false, cond, ltb, leb, zero, suc, List, [], ◌∷◌, ◌++◌, length, get_or, take, drop, Option, Some, None, refl, ap, ◌∙◌, sym, arith, zero-add, add-zero, add_assoc, subst, length-drop, ◌*◌, ◌^◌, not}
 pub use Rattle.std.proofs.lemmas.Bool.{and_parts, and_from, leb-true, ltb-true, le-leb, lt-ltb, cond-true, cond_both, false≢true, not-false, eqb-true}
-pub use Rattle.std.proofs.lemmas.List.{append-nil, append_assoc, take_more, get_or-drop}
+pub use Rattle.std.proofs.lemmas.List.{take_more, get_or-drop}
 pub use Rattle.std.proofs.lemmas.List.FromFn.{get_or-range_with_len, length-range_with_len}
 pub use Rattle.std.proofs.lemmas.List.Sums.{sum_by-cons, AllPass-from_list_all, list_all-from_AllPass, sum_by_push}
 pub use Rattle.taf_moment.specs.Calendar.{last_minute, moment_at}
@@ -16,7 +16,8 @@ pub use Rattle.taf_messages.specs.declared.record.EstimateAt.{EstimateAt}
 pub use Rattle.taf_messages.specs.declared.record.Stage.{Stage}
 pub use Rattle.taf_messages.specs.declared.reply.Why.TheVariants.{WrongStage}
 pub use Rattle.journey.specs.Checks.{refusal, movement_checks}
-pub use Rattle.journey.specs.Journey.{NextEvent, next_event, after}
+pub use Rattle.journey.specs.TrackStates.{IsTrackState}
+pub use Rattle.journey.specs.declared.journey_state.JourneyState.{JourneyState}
 pub use Rattle.journey.specs.JourneyStates.{journey_state}
 pub use Rattle.journey.specs.Legs.{legs, legs_after}
 pub use Rattle.journey.specs.Stages.{leg_index, is_reception, stage, stage_after}

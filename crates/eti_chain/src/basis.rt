@@ -1,14 +1,11 @@
 //! What estimates are counted from.
-ghost use Rattle.std.specs.Prelude.{◌≡◌, ◌+◌, ◌*◌, ◌<◌, ◌≤◌, ◌^◌, ◌++◌, [], ◌∷◌, length, IfSome, None, true};
+ghost use Rattle.std.specs.Prelude.{◌≡◌, ◌+◌, ◌*◌, ◌<◌, ◌≤◌, ◌^◌, length, IfSome};
 ghost use Rattle.std.specs.List.{sum_by};
-ghost use Rattle.taf_moment.specs.Calendar.{last_minute};
-ghost use Rattle.journey.specs.Checks.{refusal};
-ghost use Rattle.journey.specs.Journey.{after};
 ghost use Rattle.eti_chain.specs.Estimates as of;
 ghost use Rattle.eti_chain.specs.EstimateStates as states;
 
 use crate::anchor::{Anchor, anchor_after};
-use journey::{Event, Legs, Track, Transition};
+use journey::{Event, JourneyState, Legs, Track};
 use std::marker::Model;
 use taf_moment::Moment;
 use trip_plan::Leg;
@@ -41,69 +38,19 @@ impl<'a> EstimateBasis<'a> {
         ensures value { result ≡ of.estimate_basis track.now.events }
         ensures on_a_leg { result.leg_index < length result.legs }
     {
-        EstimateBasis::with(newest_anchor(track.events()), track)
+        EstimateBasis::by(track.journey_state(), newest_anchor(track.events()))
     }
 
-    /// The same by the newest anchor of the track.
-    pub(crate) fn with(anchor: Option<Anchor>, track: &'a Track) -> EstimateBasis<'a>
-        requires newest { anchor ≡ of.anchor track.now.events }
+    /// The same by what a journey came to, and its newest anchor.
+    pub(crate) fn by(state: &'a JourneyState, anchor: Option<Anchor>) -> EstimateBasis<'a>
+        requires on_a_leg { state.now.leg_index < length state.now.legs }
         requires small { of.delays_of anchor < 2 ^ 127 }
-        ensures value { result ≡ of.estimate_basis track.now.events }
-        ensures on_a_leg { result.leg_index < length result.legs }
+        ensures { result ≡ of.basis_from state.now.leg_index state.now.legs anchor }
     {
         EstimateBasis {
-            leg_index: track.leg_index(),
-            legs: &track.journey_state().legs,
+            leg_index: state.leg_index,
+            legs: &state.legs,
             anchor,
-        }
-    }
-
-    /// The same after a transition, from the newest anchor before it.
-    pub(crate) fn after(anchor: Option<Anchor>, transition: &'a Transition<'_>) -> EstimateBasis<'a>
-        requires newest { anchor ≡ of.anchor transition.now.before }
-        requires small { of.delays_of anchor ≤ last_minute }
-        ensures value { result ≡ of.estimate_basis (after transition.now) }
-        ensures on_a_leg { result.leg_index < length result.legs }
-        ensures admitted { refusal transition.now.before transition.now.event.by
-            transition.now.event.body ≡ None }
-    {
-        let newest = anchor_after(anchor, transition.event());
-        EstimateBasis::with_newest(newest, transition)
-    }
-
-    /// The same by the newest anchor after the transition.
-    pub(crate) fn with_newest(
-        newest: Option<Anchor>,
-        transition: &'a Transition<'_>,
-    ) -> EstimateBasis<'a>
-        requires newest { newest ≡ of.anchor (after transition.now) }
-        requires small { of.delays_of newest < 2 ^ 127 }
-        ensures value { result ≡ of.estimate_basis (after transition.now) }
-        ensures on_a_leg { result.leg_index < length result.legs }
-    {
-        let next = transition.journey_state();
-        EstimateBasis {
-            leg_index: next.leg_index,
-            legs: &next.legs,
-            anchor: newest,
-        }
-    }
-
-    /// The same of a track with an event that keeps its legs, from the newest anchor before it.
-    pub(crate) fn on_same_legs(
-        anchor: Option<Anchor>,
-        track: &'a Track,
-        event: &Event,
-    ) -> EstimateBasis<'a>
-        requires keeps { states.keeps_legs event.now.body ≡ true }
-        requires newest { anchor ≡ of.anchor track.now.events }
-        requires small { of.delays_of anchor ≤ last_minute }
-        ensures { result ≡ of.estimate_basis (track.now.events ++ event.now ∷ []) }
-    {
-        EstimateBasis {
-            leg_index: track.leg_index(),
-            legs: &track.journey_state().legs,
-            anchor: anchor_after(anchor, event),
         }
     }
 

@@ -1,12 +1,11 @@
-ghost use Rattle.std.specs.Prelude.{◌≡◌, [], ◌∷◌, ◌++◌, true, None, OnOk, OnErr};
+ghost use Rattle.std.specs.Prelude.{◌≡◌, ◌<◌, [], ◌∷◌, ◌++◌, length, true, None, OnOk, OnErr};
 ghost use Rattle.journey.specs.Checks.{refusal};
-ghost use Rattle.journey.specs.Journey.{after};
 ghost use Rattle.eti_chain.specs.Estimates as of;
 
 use crate::anchor::{Anchor, anchor_in, delay_in, go_on};
 use crate::basis::EstimateBasis;
 use crate::estimates::Estimates;
-use journey::{Event, Track, Transition};
+use journey::{Event, JourneyState, Track};
 use std::marker::Model;
 use taf_codes::Memory;
 use taf_moment::Moment;
@@ -33,7 +32,7 @@ impl Model for EstimateAnchor {
 }
 
 impl EstimateAnchor {
-    ghost use Rattle.eti_chain.specs.EstimateStates.{estimate_anchor, estimates_state};
+    ghost use Rattle.eti_chain.specs.EstimateStates.{estimate_anchor, estimates_state, state_with_commitment};
 
     /// What is kept for a track, of which no estimate passes the calendar. It walks the events.
     pub fn of(track: &Track) -> EstimateAnchor
@@ -44,31 +43,6 @@ impl EstimateAnchor {
             newest: EstimateBasis::of(track).anchor,
             commit: track.plan().commit(),
         }
-    }
-
-    /// What is kept after a transition of the track that this is kept for, with which no estimate passes the calendar. It
-    /// takes no walk.
-    pub fn followed(&self, transition: &Transition<'_>) -> EstimateAnchor
-        requires of_track { self.now ≡ estimate_anchor transition.now.before }
-        requires fits { of.fits (after transition.now) ≡ true }
-        ensures { result ≡ estimate_anchor (after transition.now) }
-    {
-        EstimateAnchor {
-            newest: EstimateBasis::after(self.newest, transition).anchor,
-            commit: self.commit,
-        }
-    }
-
-    /// The estimates after the transition that this is kept for. It takes no walk.
-    pub fn estimates_after<'a>(&self, transition: &'a Transition<'_>) -> Estimates<'a>
-        requires of_transition { self.now ≡ estimate_anchor (after transition.now) }
-        requires fits { of.fits (after transition.now) ≡ true }
-        ensures { result ≡ estimates_state (after transition.now) }
-    {
-        Estimates::by(
-            EstimateBasis::with_newest(self.newest, transition),
-            self.commit,
-        )
     }
 
     /// The same.
@@ -87,7 +61,18 @@ impl EstimateAnchor {
         requires fits { of.fits track.now.events ≡ true }
         ensures { result ≡ estimates_state track.now.events }
     {
-        Estimates::by(EstimateBasis::with(self.newest, track), self.commit)
+        self.estimates_by(track.journey_state())
+    }
+
+    /// The estimates of a journey that came to this state, with this anchor. It takes no walk.
+    pub fn estimates_by<'a>(&self, state: &'a JourneyState) -> Estimates<'a>
+        requires on_a_leg { state.now.leg_index < length state.now.legs }
+        requires fits { of.fits_in (of.basis_from state.now.leg_index state.now.legs
+            self.now.newest) ≡ true }
+        ensures { result ≡ state_with_commitment (of.basis_from state.now.leg_index state.now.legs
+            self.now.newest) self.now.commit }
+    {
+        Estimates::by(EstimateBasis::by(state, self.newest), self.commit)
     }
 
     /// Adds an event to the track that this is kept for, and goes on with it. The event may come next, and no estimate

@@ -1,11 +1,10 @@
 ghost use Rattle.std.specs.Prelude.{◌≡◌, List, [], ◌∷◌, ◌++◌, None, not, true};
 ghost use Rattle.journey.specs.declared.event.Event.{Event};
 ghost use Rattle.journey.specs.Checks.{refusal};
-ghost use Rattle.journey.specs.Journey.{after};
 ghost use Rattle.eti_chain.specs.Estimates as of;
 ghost use Rattle.eti_chain.specs.EstimateStates.{keeps_legs};
 
-use crate::anchor::Anchor;
+use crate::anchor::{Anchor, anchor_after};
 use crate::basis::EstimateBasis;
 use crate::estimates_in_turn::EstimatesInTurn;
 use crate::held_legs::HeldLegs;
@@ -83,8 +82,8 @@ impl<'a> Estimates<'a> {
         requires fits { of.fits (track.now.events ++ event.now ∷ []) ≡ true }
         ensures { self.new ≡ estimates_state (track.now.events ++ event.now ∷ []) }
     {
-        let transition = track.transition(event);
-        let basis = EstimateBasis::after(self.anchor, &transition);
+        let state = track.state_after(event);
+        let basis = EstimateBasis::by(&state, anchor_after(self.anchor, event));
         *self = Estimates::by(basis, self.commit).owned();
     }
 
@@ -95,11 +94,12 @@ impl<'a> Estimates<'a> {
         requires admitted { refusal track.now.events event.now.by event.now.body ≡ None }
         ensures { result ≡ not (of.fits (track.now.events ++ event.now ∷ [])) }
     {
+        let anchor = anchor_after(self.anchor, event);
         if keeps_legs(&event.body) {
-            return !EstimateBasis::on_same_legs(self.anchor, track, event).fits();
+            return !EstimateBasis::by(track.journey_state(), anchor).fits();
         }
-        let transition = track.transition(event);
-        !EstimateBasis::after(self.anchor, &transition).fits()
+        let state = track.state_after(event);
+        !EstimateBasis::by(&state, anchor).fits()
     }
 
     /// When the wagon is expected at the end of this leg: none without an event to count from,

@@ -4,7 +4,7 @@ ghost use Rattle.eti_chain.specs.HeldLegs.{legs_in};
 
 use journey::Legs;
 
-/// The legs of a wagon: those of a track or a transition, or their own.
+/// The legs of a wagon: those of a state that a journey came to, or their own.
 #[derive(Drop)]
 pub(crate) enum HeldLegs<'a> {
     Lent(&'a Legs),

@@ -18,8 +18,7 @@
 //!   and goes on with it.
 //! - [`Estimates::follow`] goes from the estimates of a track to those of the track with one event more.
 //!   [`Estimates::would_pass_calendar`] says beforehand whether one would pass the calendar.
-//! - [`EstimateAnchor::followed`] is what is kept after a [`Transition`](journey::Transition), and
-//!   [`EstimateAnchor::estimates_after`] gives the estimates by it, which borrow the legs of the transition's state.
+//! - [`EstimateAnchor::estimates_by`] gives those of a journey by what it came to, which may be kept from before an event.
 //! - [`Estimates::estimate`], [`Estimates::eta`], [`Estimates::late`] and [`Estimates::late_by`] read them.
 //!   [`EstimatesInTurn`], by [`Estimates::in_turn`], gives those of all legs, one after another.
 //!

@@ -1,16 +1,16 @@
 -- What the proofs of this crate have in common: the names of other crates, of the standard library and of its own definitions.
 pub use Rattle.std.specs.List.{cons_option, range_with_len, list_any}
-pub use Rattle.std.specs.Option.{option_eq, option_and_then, option_or, option_copied}
+pub use Rattle.std.specs.Option.{option_eq, option_and_then, option_or}
 pub use Rattle.std.specs.Prelude.{◌||◌, filter_map, option_map, map, flat_map, option_to_list, not, bytes_eq, filter, nat_eq, slice_get, is_some, OnOk, All}
-pub use Rattle.std.proofs.Common.{◌≡◌, ℕ, Bool, true, true≢false, Result, Ok, Err, take_all, List, [], ◌∷◌, ◌++◌, Option, None, refl, ap, ◌∙◌, sym, false, cond, Some, append_assoc, append-nil, length, zero, suc, ◌+◌, ◌<◌, take, get_or, arith, rules, subst}
+pub use Rattle.std.proofs.Common.{◌≡◌, ℕ, Bool, true, List, [], ◌∷◌, ◌++◌, Option, None, refl, ap, ◌∙◌, sym, false, cond, Some, append_assoc, append-nil, length, zero, suc, ◌+◌, ◌<◌, take, get_or, arith, rules, subst, if◌then◌else◌}
 pub use Rattle.std.proofs.Math.Dec.{eqb-suc-suc}
 pub use Rattle.std.proofs.lemmas.Bool.{or_right, false≢true}
 pub use Rattle.std.proofs.lemmas.Fn.{filter_same}
 pub use Rattle.std.proofs.lemmas.Grind.{flat_map-append}
 pub use Rattle.std.proofs.lemmas.List.{map-append, take_more}
-pub use Rattle.std.proofs.lemmas.List.Elements.{filter-append, filter_map-append, All-head}
-pub use Rattle.std.proofs.lemmas.Option.{none-some, same_Some}
-pub use Rattle.std.proofs.lemmas.Result.{IfOk-equal, on_ok_weaker}
+pub use Rattle.std.proofs.lemmas.List.Elements.{filter-append, filter_map-append, All-head, All-tail}
+pub use Rattle.std.proofs.lemmas.Option.{same_Some}
+pub use Rattle.std.proofs.lemmas.Result.{IfOk-equal}
 pub use Rattle.std.proofs.lemmas.Slice.Eq.{bytes_eq-Decides}
 pub use Rattle.taf_codes.specs.Words.{same_text}
 pub use Rattle.taf_codes.specs.declared.code.Railway.{Railway}
@@ -23,32 +23,29 @@ pub use Rattle.taf_messages.specs.declared.message.Message.{Message}
 pub use Rattle.taf_messages.specs.declared.message.TrainAnswer.{TrainAnswer}
 pub use Rattle.taf_messages.specs.declared.message.TrainOffer.{TrainOffer}
 pub use Rattle.taf_messages.specs.declared.movement.MovementKind.{MovementKind}
-pub use Rattle.taf_messages.specs.declared.movement.MovementKind.TheVariants.{Release, YardArrival, YardDeparture, Estimate}
+pub use Rattle.taf_messages.specs.declared.movement.MovementKind.TheVariants.{YardArrival, YardDeparture}
 pub use Rattle.taf_messages.specs.declared.record.EstimateAt.{EstimateAt}
-pub use Rattle.journey.specs.Checks.{refusal}
-pub use Rattle.journey.specs.Journey.{NextEvent, after, Journey}
+pub use Rattle.journey.specs.Journey.{Journey}
+pub use Rattle.journey.specs.TrackStates.{without_newest}
 pub use Rattle.journey.specs.Legs.{lead_of, legs, runner_of}
 pub use Rattle.journey.specs.Stages.{leg_index, plan, plan_in, responsible}
 pub use Rattle.journey.specs.declared.event.Event.{Event}
 pub use Rattle.journey.specs.declared.event.EventBody.{EventBody}
-pub use Rattle.journey.specs.declared.event.EventBody.TheVariants.{Planned, Moved, EstimateAsked, Offered, Withdrawn}
-pub use Rattle.journey.specs.declared.journey_state.JourneyState.{JourneyState}
+pub use Rattle.journey.specs.declared.event.EventBody.TheVariants.{Planned, Moved}
 pub use Rattle.journey.proofs.LegPositionLemmas.{plan-push}
-pub use Rattle.journey.proofs.SoundStateLemmas.{plan-kept}
 pub use Rattle.eti_chain.specs.EstimateStates.{EstimatesInTurn, in_turn_from}
-pub use Rattle.eti_chain.specs.Estimates.{estimate, estimates, EstimateBasis, estimate_basis, end_in, eta_in, eta, commitment, late_by, lateness, is_late, fits}
+pub use Rattle.eti_chain.specs.Estimates.{estimate, estimates, EstimateBasis, estimate_basis, end_in, eta_in, eta, commitment, late_by, lateness, is_late}
 pub use Rattle.eti_chain.proofs.CalendarLemmas.{no_end, same_test}
 pub use Rattle.eti_chain.proofs.EstimateLemmas.{IsSilent, basis-silent, silent_yard_arrival, silent_yard_departure, silent_offered, silent_withdrawn, silent_asked}
 pub use Rattle.hub_model.specs.Faults.{known_fault}
-pub use Rattle.hub_model.specs.HubState.{HubState, named_wagons, event_for, journey_after, wagons_in, event_body_for}
+pub use Rattle.hub_model.specs.HubState.{HubState, Offers, named_wagons, event_for, journey_after, event_body_for}
 pub use Rattle.hub_model.specs.Items.{each_once, alert, alert_receivers, alert_items, notice_receivers, sub_items, notices, estimate_items, is_news, estimate_item, movement_receivers}
 pub use Rattle.hub_model.specs.declared.addressed_item.AddressedItem.{AddressedItem}
-pub use Rattle.hub_model.proofs.NoFaultLemmas.{known_allowed, planned_anew}
-pub use Rattle.hub_tables.specs.TableStates.{IsAcceptable, table_state, continues_journeys, named_alone, IsEventOf, AreEventsOf}
-unfoldable pub use Rattle.hub_tables.specs.TableStates.{AreNextEvents}
-pub use Rattle.hub_tables.specs.declared.next_events.EventAt.{EventAt}
-pub use Rattle.hub_tables.specs.declared.next_events.NextEvents.{NextEvents}
-pub use Rattle.hub_tables.proofs.AloneLemmas.{alone_named, alone_has, alone_continues, event_alone}
-pub use Rattle.hub_tables.proofs.NextEventLemmas.{has_at, known_begun, admitted_by, comes_last}
-pub use Rattle.hub_items.specs.MessageItems.{MayBeAccepted, estimates_at, alerts_at, all_items}
-pub use Rattle.hub_items.specs.Transitions.{IsNextBy, keeps_estimates, estimate_of}
+pub use Rattle.hub_model.proofs.NoFaultLemmas.{planned_anew}
+pub use Rattle.hub_tables.specs.Changes.{IsChange, HasGoneOn, changed, continued_in, gone_on, known_before}
+pub use Rattle.hub_tables.specs.TableStates.{IsAcceptable, TableEntries, events_in, table_state, continues_journeys, named_alone}
+pub use Rattle.hub_tables.specs.declared.changes.Change.{Change}
+pub use Rattle.hub_tables.proofs.AloneLemmas.{alone_named, alone_continues}
+pub use Rattle.hub_tables.proofs.NextEventLemmas.{comes_last}
+pub use Rattle.hub_items.specs.MessageItems.{state_before, is_in_yard, keeps_estimates, estimates_at, alerts_at, all_items}
+pub use Rattle.hub_items.specs.Transitions.{IsTransitionBy, estimate_of}

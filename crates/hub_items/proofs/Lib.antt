@@ -2,7 +2,7 @@ pub mod Common
 pub mod PrefixLemmas
 pub mod PlanLemmas
 pub mod UnchangedEstimateLemmas
-pub mod AcceptanceLemmas
+pub mod ChangeLemmas
 pub mod AlertLemmas
 pub mod NoticeLemmas
 pub mod MessageItemLemmas

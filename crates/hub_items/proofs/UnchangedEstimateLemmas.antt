@@ -1,5 +1,6 @@
 -- An event that keeps the estimates has nothing told of them.
-use Rattle.hub_items.proofs.Common.{◌≡◌, ℕ, ◌+◌, Bool, true, false, cond, zero, suc, List, [], ◌∷◌, ◌++◌, length, Option, Some, None, refl, ap, ◌∙◌, sym, filter, filter_map, flat_map, not, ◌||◌, nat_eq, slice_get, option_map, option_to_list, is_some, map, option_eq, option_and_then, option_or, range_with_len, cons_option, false≢true, eqb-suc-suc, bytes_eq-Decides, same_text, Railway, Leg, Trip, ItemBody, MovementKind, Release, YardArrival, YardDeparture, Estimate, EstimateAt, Event, EventBody, Moved, EstimateAsked, Offered, Withdrawn, plan, plan_in, legs, runner_of, lead_of, plan-push, EstimateBasis, estimate_basis, end_in, eta_in, estimate, eta, commitment, late_by, lateness, is_late, IsSilent, basis-silent, silent_yard_arrival, silent_yard_departure, silent_offered, silent_withdrawn, silent_asked, is_news, estimate_item, estimate_items, alert_receivers, alert_items, movement_receivers, keeps_estimates}
+use Rattle.hub_items.proofs.Common.{◌≡◌, ℕ, ◌+◌, Bool, true, false, cond, zero, suc, List, [], ◌∷◌, ◌++◌, length, Option, Some, None, refl, ap, ◌∙◌, sym, filter, filter_map, flat_map, not, ◌||◌, nat_eq, slice_get, option_map, option_to_list, is_some, map, option_eq, option_and_then, option_or, range_with_len, cons_option, false≢true, eqb-suc-suc, bytes_eq-Decides, same_text, Railway, Leg, Trip, ItemBody, MovementKind, YardArrival, YardDeparture, EstimateAt, Event, EventBody, Moved, plan, plan_in, legs, runner_of, plan-push, EstimateBasis, estimate_basis, end_in, eta_in, estimate, eta, commitment, late_by, lateness, is_late, IsSilent, basis-silent, silent_yard_arrival, silent_yard_departure, silent_offered, silent_withdrawn, silent_asked, is_news, estimate_item, estimate_items, alert_receivers, alert_items, has, Body, Message, HubState, Offers, named_wagons, event_for, event_body_for, known_fault, comes_last, is_in_yard, keeps_estimates, estimates_at, alerts_at}
+use Rattle.taf_messages.specs.declared.message.Body.TheVariants as body
 use Rattle.taf_messages.specs.declared.item.ItemBody.TheVariants as item
 
 -- an event that is silent, and no plan
@@ -7,19 +8,18 @@ pub record IsStill (body : EventBody) : Type 0 where
   pub silent : IsSilent body
   pub no_plan : plan_in body ≡ None
 
-pub still : (body : EventBody) → keeps_estimates body ≡ true → IsStill body
-still (Moved (YardArrival place)) h = record { silent = silent_yard_arrival place; no_plan = refl }
-still (Moved (YardDeparture place)) h = record { silent = silent_yard_departure place; no_plan = refl }
-still EstimateAsked h = record { silent = silent_asked; no_plan = refl }
-still (Offered place to) h = record { silent = silent_offered place to; no_plan = refl }
-still (Withdrawn place) h = record { silent = silent_withdrawn place; no_plan = refl }
-still _ h = absurd (false≢true h)
+still_in_yard : (what : MovementKind) → is_in_yard what ≡ true → IsStill (Moved what)
+still_in_yard (YardArrival place) h = record { silent = silent_yard_arrival place; no_plan = refl }
+still_in_yard (YardDeparture place) h = record { silent = silent_yard_departure place; no_plan = refl }
+still_in_yard _ h = absurd (false≢true h)
 
--- of a movement that keeps the estimates the lead is told
-pub lead_told : (events : List Event) (what : MovementKind) → keeps_estimates (Moved what) ≡ true → movement_receivers events what ≡ option_to_list (lead_of events)
-lead_told events Release h = absurd (false≢true h)
-lead_told events Estimate h = absurd (false≢true h)
-lead_told events _ h = refl
+-- the event of a message that keeps the estimates
+still_by : (offers : Offers) (by : Railway) (says : Body) (w : ℕ) → keeps_estimates says ≡ true → IsStill (event_body_for offers by says w)
+still_by offers by (body.Movement m) w h = still_in_yard m.what h
+still_by offers by (body.EtiAsk v) w h = record { silent = silent_asked; no_plan = refl }
+still_by offers by (body.Offer o) w h = record { silent = silent_offered o.place o.to; no_plan = refl }
+still_by offers by (body.Withdraw at n) w h = record { silent = silent_withdrawn _; no_plan = refl }
+still_by offers by _ w h = absurd (false≢true h)
 
 first_out : (p : EstimateAt → Bool) (j : ℕ) (o : Option ℕ) (rest : List EstimateAt) → ((at : ℕ) → o ≡ Some at → p (record { leg = j; at = at }) ≡ false) → filter p rest ≡ [] →
     filter p (cons_option (option_map (λ at. record { leg = j; at = at }) o) rest) ≡ []
@@ -85,3 +85,15 @@ module _ (events : List Event) (e : Event) (k : IsStill e.body) where
   no_alert_items w =
       ap (λ (o : Option ItemBody). flat_map (λ says. map (λ r. record { to = r; body = says }) (alert_receivers more)) (option_to_list o))
       (ap (λ (o : Option ℕ). cond (is_late events) (cond (is_some o) None (Some (item.AlertEnds w))) (option_map (λ minutes. item.AlertBegins w minutes) o)) late_by_left ∙ continues_journeys w (late_by events))
+
+-- nothing is told of the estimates of the wagons of a message that keeps them
+module _ (s : HubState) (m : Message) (admitted : (w : ℕ) → has (named_wagons s.offer m) w ≡ true → known_fault s m w ≡ None) (keeps : keeps_estimates m.body ≡ true) where
+  pub no_estimates_at : (w : ℕ) → has (named_wagons s.offer m) w ≡ true → estimates_at s m w ≡ []
+  no_estimates_at w h =
+      ap (λ es. estimate_items (s.journey w) es w) (comes_last s m w h (admitted w h)) ∙
+      no_estimate_items (s.journey w) (event_for s.offer m w) (still_by s.offer m.by m.body w keeps) w
+
+  pub no_alerts_at : (w : ℕ) → has (named_wagons s.offer m) w ≡ true → alerts_at s m w ≡ []
+  no_alerts_at w h =
+      ap (λ es. alert_items (s.journey w) es w) (comes_last s m w h (admitted w h)) ∙
+      no_alert_items (s.journey w) (event_for s.offer m w) (still_by s.offer m.by m.body w keeps) w

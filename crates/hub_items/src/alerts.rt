@@ -1,7 +1,6 @@
 //! The alerts of wagons that are late.
 ghost use Rattle.std.specs.Prelude.{◌≡◌, ◌++◌, Some, IfOk, OnOk, map, option_to_list};
 ghost use Rattle.hub_model.specs.Items as of;
-ghost use Rattle.journey.specs.Journey.{after};
 ghost use Rattle.journey.specs.Legs.{lead_of};
 
 use crate::wagon_change::WagonChange;
@@ -15,7 +14,7 @@ pub(crate) fn put_alerts(
     change: &WagonChange<'_>,
 ) -> Result<(), Memory>
     ensures { OnOk result (items.new.items ≡ items.old.items
-        ++ of.alert_items change.now.before (after change.now) change.now.wagon) }
+        ++ of.alert_items change.now.before change.now.after change.now.wagon) }
 {
     match alert(change) {
         Some(says) => put_alert(items, change, &says),
@@ -29,9 +28,9 @@ fn put_alert(
     change: &WagonChange<'_>,
     says: &ItemBody,
 ) -> Result<(), Memory>
-    requires { of.alert change.now.before (after change.now) change.now.wagon ≡ Some says.now }
+    requires { of.alert change.now.before change.now.after change.now.wagon ≡ Some says.now }
     ensures { OnOk result (items.new.items ≡ items.old.items
-        ++ of.alert_items change.now.before (after change.now) change.now.wagon) }
+        ++ of.alert_items change.now.before change.now.after change.now.wagon) }
 {
     put_to(items, says, change.lead())?;
     put_to(items, says, also_alerted(change))?;
@@ -63,7 +62,7 @@ fn copy_body(says: &ItemBody) -> Result<ItemBody, Memory>
 
 // An alert begins or ends, or neither.
 fn alert(change: &WagonChange<'_>) -> Option<ItemBody>
-    ensures { result ≡ of.alert change.now.before (after change.now) change.now.wagon }
+    ensures { result ≡ of.alert change.now.before change.now.after change.now.wagon }
 {
     let wagon = change.wagon();
     let was_late = change.estimates_before().late();
@@ -77,8 +76,8 @@ fn alert(change: &WagonChange<'_>) -> Option<ItemBody>
 
 // Who is alerted beside the lead: the railway that answers for the wagon, if it is another one.
 fn also_alerted(change: &WagonChange<'_>) -> Option<Railway>
-    ensures { option_to_list (lead_of (after change.now)) ++ option_to_list result
-        ≡ of.alert_receivers (after change.now) }
+    ensures { option_to_list (lead_of change.now.after) ++ option_to_list result
+        ≡ of.alert_receivers change.now.after }
 {
     let lead = change.lead();
     let responsible = change.responsible();

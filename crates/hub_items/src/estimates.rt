@@ -1,7 +1,6 @@
 //! The estimates that are news (4.2.6).
 ghost use Rattle.std.specs.Prelude.{◌≡◌, ◌++◌, ◌<◌, [], if◌then◌else◌, OnOk, option_to_list};
 ghost use Rattle.hub_model.specs.Items as of;
-ghost use Rattle.journey.specs.Journey.{after};
 ghost use Rattle.eti_chain.specs.Estimates as chain;
 ghost use Rattle.hub_items.specs.Transitions.{estimate_at, news_of};
 
@@ -17,7 +16,7 @@ pub(crate) fn put_estimates(
     change: &WagonChange<'_>,
 ) -> Result<(), Memory>
     ensures { OnOk result (items.new.items ≡ items.old.items
-        ++ of.estimate_items change.now.before (after change.now) change.now.wagon) }
+        ++ of.estimate_items change.now.before change.now.after change.now.wagon) }
 {
     let (before, after) = (change.estimates_before(), change.estimates_after());
     let (mut each_before, mut each_after) = (before.in_turn(), after.in_turn());
@@ -39,7 +38,7 @@ fn put_of_leg(
 ) -> Result<(), Memory>
     requires few { leg < 8 }
     requires before { was ≡ chain.estimate change.now.before leg }
-    requires after { at ≡ chain.estimate (after change.now) leg }
+    requires after { at ≡ chain.estimate change.now.after leg }
     ensures { OnOk result (items.new.items ≡ items.old.items ++ news_of change.now leg) }
 {
     if let Some(estimate) = estimate_of(leg, at) {
@@ -61,7 +60,7 @@ fn estimate_of(leg: usize, at: Option<Moment>) -> Option<EstimateAt>
 // The estimate is not what it was, or the next leg has another railway, or there was or is no next leg.
 fn is_news(change: &WagonChange<'_>, was: Option<Moment>, estimate: &EstimateAt) -> bool
     requires { was ≡ chain.estimate change.now.before estimate.now.leg }
-    ensures { result ≡ of.is_news change.now.before (after change.now) estimate.now }
+    ensures { result ≡ of.is_news change.now.before change.now.after estimate.now }
 {
     let next = estimate.leg.get() as usize + 1;
     was != Some(estimate.at) || change.runner_before(next) != change.runner_after(next)
@@ -76,8 +75,8 @@ fn put_news(
 ) -> Result<(), Memory>
     requires { was ≡ chain.estimate change.now.before estimate.now.leg }
     ensures { OnOk result (items.new.items ≡ items.old.items
-        ++ (if of.is_news change.now.before (after change.now) estimate.now
-        then of.estimate_item (after change.now) change.now.wagon estimate.now else [])) }
+        ++ (if of.is_news change.now.before change.now.after estimate.now
+        then of.estimate_item change.now.after change.now.wagon estimate.now else [])) }
 {
     if let Some(item) = news_item(change, was, estimate) {
         items.push(item)?;
@@ -93,8 +92,8 @@ fn news_item(
 ) -> Option<AddressedItem>
     requires { was ≡ chain.estimate change.now.before estimate.now.leg }
     ensures { option_to_list result
-        ≡ (if of.is_news change.now.before (after change.now) estimate.now
-        then of.estimate_item (after change.now) change.now.wagon estimate.now else []) }
+        ≡ (if of.is_news change.now.before change.now.after estimate.now
+        then of.estimate_item change.now.after change.now.wagon estimate.now else []) }
 {
     if is_news(change, was, estimate) {
         estimate_item(change, estimate)
@@ -106,7 +105,7 @@ fn news_item(
 // The estimate for the railway of the next leg, or of the last leg for the lead.
 fn estimate_item(change: &WagonChange<'_>, estimate: &EstimateAt) -> Option<AddressedItem>
     ensures { option_to_list result
-        ≡ of.estimate_item (after change.now) change.now.wagon estimate.now }
+        ≡ of.estimate_item change.now.after change.now.wagon estimate.now }
 {
     let wagon = change.wagon();
     let EstimateAt { leg, at } = *estimate;

@@ -9,10 +9,10 @@
 //!    leg to the lead;
 //! 4. of each wagon of the message, the alert that begins or ends: to the lead, and to the railway that answers for it.
 //!
-//! None goes to the sender of the message. Nothing is changed: what the message leads to is computed by one transition
-//! from what the tables have of its wagons. The events are lent that were made to check the message, each with its wagon's
-//! position in the tables. The list is empty before the items are put, and keeps its memory: so one that is lent again for the
-//! next message mostly takes no more.
+//! None goes to the sender of the message. Nothing is changed: in the tables the journeys of the message's wagons have gone on by
+//! it, and what was kept of them before is lent, each with its wagon's position. So what is news is found by comparing both. A
+//! message that keeps all estimates has its notices alone. The list is empty before the items are put, and keeps its memory: so one
+//! that is lent again for the next message mostly takes no more.
 #![tactic(auto)]
 
 mod acceptable;

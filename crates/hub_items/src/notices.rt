@@ -1,12 +1,12 @@
 //! The notices of a message, and the sub notice (4.2.8).
-ghost use Rattle.std.specs.Prelude.{◌≡◌, ◌++◌, true, false, IfOk, OnOk, option_to_list};
+ghost use Rattle.std.specs.Prelude.{◌≡◌, ◌++◌, true, IfOk, OnOk, option_to_list};
 ghost use Rattle.hub_model.specs.Items as of;
-ghost use Rattle.hub_tables.specs.TableStates.{table_state};
-ghost use Rattle.hub_items.specs.MessageItems.{MayBeAccepted, has_one_receiver, may_have_many_receivers};
+ghost use Rattle.hub_items.specs.MessageItems.{MayBeAccepted, may_have_many_receivers, state_before};
 
 use crate::acceptable::Acceptable;
 use crate::each::{put_each_once, put_notice};
-use crate::receivers::{notice_receivers, withdrawal_receivers};
+use crate::receivers::{movement_receivers, notice_receivers, withdrawal_receivers};
+use crate::wagon_change::WagonChange;
 use hub_model::AddressedItem;
 use std::alloc::Global;
 use taf_codes::{Memory, Railway};
@@ -21,12 +21,19 @@ pub(crate) fn put_notices(
 ) -> Result<(), Memory>
     requires acceptable { MayBeAccepted from }
     requires notice { notice.now ≡ from.message.now }
-    requires many { has_one_receiver from.message.now.body ≡ false }
     ensures { OnOk result (items.new.items ≡ items.old.items
-        ++ of.notices (table_state from.entry.tables.now) from.entry.message.now) }
+        ++ of.notices (state_before from.entry) from.entry.message.now) }
 {
     match from.message.body() {
         Body::LegTime { .. } => Ok(()),
+        Body::Movement(movement) => {
+            let change = WagonChange::alone(from, movement.wagon);
+            put_notice(items, notice, movement_receivers(&change, movement.what))
+        }
+        Body::EtiAsk { wagon } => {
+            let change = WagonChange::alone(from, *wagon);
+            put_notice(items, notice, change.responsible())
+        }
         Body::Offer(offer) => put_notice(items, notice, Some(offer.get().to)),
         Body::Withdraw { offer, .. } => {
             let asked = withdrawal_receivers(from.tables, from.message.by(), *offer);
@@ -35,7 +42,6 @@ pub(crate) fn put_notices(
         Body::Plan(_) | Body::Answer(_) | Body::Reroute { .. } => {
             put_many(alloc, items, from, notice)
         }
-        Body::Movement(_) | Body::EtiAsk { .. } => unreachable!(),
     }
 }
 
@@ -50,7 +56,7 @@ fn put_many(
     requires notice { notice.now ≡ from.message.now }
     requires many { may_have_many_receivers from.message.now.body ≡ true }
     ensures { OnOk result (items.new.items ≡ items.old.items
-        ++ of.notices (table_state from.entry.tables.now) from.entry.message.now) }
+        ++ of.notices (state_before from.entry) from.entry.message.now) }
 {
     let concerned = notice_receivers(alloc, from)?;
     put_each_once(items, notice, concerned.as_slice())?;

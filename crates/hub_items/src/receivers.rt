@@ -4,14 +4,12 @@ ghost use Rattle.journey.specs.Legs as legs_of;
 ghost use Rattle.hub_model.specs.HubState.{journey_after};
 ghost use Rattle.hub_model.specs.Items as of;
 ghost use Rattle.hub_tables.specs.TableStates.{table_state};
-ghost use Rattle.journey.specs.Journey.{after};
-ghost use Rattle.hub_items.specs.MessageItems.{MayBeAccepted, may_have_many_receivers};
+ghost use Rattle.hub_items.specs.MessageItems.{MayBeAccepted, may_have_many_receivers, state_before};
 ghost use Rattle.taf_messages.specs.declared.message.Body.TheVariants as body;
 
 use crate::acceptable::Acceptable;
 use crate::wagon_change::WagonChange;
 use hub_tables::Tables;
-use journey::Track;
 use std::alloc::{AllocError, Global};
 use taf_codes::{Memory, Railway};
 use taf_messages::{Body, MessageNumber, MovementKind, TrainAnswer};
@@ -22,17 +20,17 @@ use wagon_number::WagonNumber;
 pub(crate) fn notice_receivers(alloc: Global, from: Acceptable<'_>) -> Result<Vec<Railway>, Memory>
     requires acceptable { MayBeAccepted from }
     requires many { may_have_many_receivers from.message.now.body ≡ true }
-    ensures { let s = table_state from.entry.tables.now in
+    ensures { let s = state_before from.entry in
         let m = from.entry.message.now in
         IfOk result (λ v. v.items ≡ of.notice_receivers s (journey_after s m) m.by m.body) }
 {
     match from.message.body() {
         Body::Plan(plan) => Ok(runners(alloc, plan.legs())?),
         Body::Answer(answer) => Ok(answer_receivers(alloc, from.tables, answer.get())?),
-        Body::Reroute { wagon, route } => match from.tables.wagon(*wagon) {
-            Some(found) => Ok(route_receivers(alloc, found.track(), route.legs())?),
-            None => unreachable!(),
-        },
+        Body::Reroute { wagon, route } => {
+            let change = WagonChange::alone(from, *wagon);
+            Ok(route_receivers(alloc, &change, route.legs())?)
+        }
         Body::Movement(_)
         | Body::EtiAsk { .. }
         | Body::LegTime { .. }
@@ -60,7 +58,7 @@ fn runners(alloc: Global, legs: &[Leg]) -> Result<Vec<Railway>, AllocError>
 
 /// Who gets the notice of a movement.
 pub(crate) fn movement_receivers(change: &WagonChange<'_>, what: MovementKind) -> Option<Railway>
-    ensures { option_to_list result ≡ of.movement_receivers (after change.now) what }
+    ensures { option_to_list result ≡ of.movement_receivers change.now.after what }
 {
     match what {
         MovementKind::Release => change.runner_after(0),
@@ -88,12 +86,16 @@ pub(crate) fn withdrawal_receivers(
 }
 
 // Who gets the notice of new legs: the current leg's railway, and those of the legs taken away and set.
-fn route_receivers(alloc: Global, track: &Track, route: &[Leg]) -> Result<Vec<Railway>, AllocError>
-    ensures { IfOk result (λ v. v.items ≡ of.route_receivers track.now.events route.now) }
+fn route_receivers(
+    alloc: Global,
+    change: &WagonChange<'_>,
+    route: &[Leg],
+) -> Result<Vec<Railway>, AllocError>
+    ensures { IfOk result (λ v. v.items ≡ of.route_receivers change.now.before route.now) }
 {
-    let current = track.leg_index();
-    let mut railways = listed(alloc, track.leg(current).map(|leg| leg.ru))?;
-    let taken_away = runners(alloc, &track.legs()[current + 1..])?;
+    let current = change.leg_index_before();
+    let mut railways = listed(alloc, change.runner_before(current))?;
+    let taken_away = runners(alloc, &change.legs_before()[current + 1..])?;
     railways.extend_from_slice(taken_away.as_slice())?;
     let set = runners(alloc, route)?;
     railways.extend_from_slice(set.as_slice())?;

@@ -1,162 +1,66 @@
-//! A journey with one event more: the transition of a wagon.
-ghost use Rattle.std.specs.Prelude.{◌≡◌, ℕ, ◌≤◌, [], length, true, Some, None};
+//! The transition of a wagon that a message makes.
+ghost use Rattle.std.specs.Prelude.{◌≡◌, ◌<◌, ◌≤◌, length, Some};
 ghost use Rattle.journey.specs.Stages as stages;
 ghost use Rattle.journey.specs.Legs as legs_of;
 ghost use Rattle.eti_chain.specs.EstimateStates.{estimates_state};
-ghost use Rattle.hub_model.specs.Items.{alert_items, estimate_items};
-ghost use Rattle.hub_tables.specs.TableStates.{IsEventOf, table_state, named_alone};
-ghost use Rattle.hub_items.specs.MessageItems.{MayBeAccepted};
-ghost use Rattle.hub_items.specs.Transitions.{IsNextBy, keeps_estimates};
-ghost use Rattle.journey.specs.declared.event.EventBody.TheVariants.{Moved};
-ghost use Rattle.journey.specs.Journey.{after};
+ghost use Rattle.hub_tables.specs.TableStates.{named_alone};
+ghost use Rattle.hub_items.specs.MessageItems.{MayBeAccepted, state_before};
+ghost use Rattle.hub_items.specs.Transitions.{IsAmong, IsTransitionBy};
 
 use crate::acceptable::Acceptable;
-use eti_chain::{EstimateAnchor, Estimates};
-use hub_tables::{NextEvents, Wagon};
-use journey::{Event, EventBody, Transition};
+use eti_chain::Estimates;
+use hub_tables::{Change, Wagon, WagonState};
 use std::marker::Model;
 use taf_codes::Railway;
-use taf_messages::MovementKind;
+use trip_plan::Leg;
 use wagon_number::WagonNumber;
 
-/// A wagon, and an event that its journey admits and with which its estimates stay in the calendar.
+/// A wagon whose journey went on by an event, and what was kept of it before.
 #[derive(Drop)]
-pub(crate) struct WagonEvent<'a> {
+pub(crate) struct WagonChange<'a> {
     wagon: &'a Wagon,
-    event: &'a Event,
+    before: &'a WagonState,
 }
 
-impl<'a> Model for WagonEvent<'a> {
-    ghost use Rattle.journey.specs.Journey.{NextEvent, next_event};
-    ghost use Rattle.hub_items.specs.Transitions.{IsNextEvent};
+impl<'a> Model for WagonChange<'a> {
+    ghost use Rattle.journey.specs.TrackStates.{without_newest};
+    ghost use Rattle.hub_tables.specs.Acceptance.{IsStateOf};
+    ghost use Rattle.hub_items.specs.Transitions.{Transition, newest_transition};
 
-    ghost Value = { NextEvent };
+    ghost Value = { Transition };
 
-    ghost view = { λ n. next_event n.wagon.now n.event.now };
+    ghost view = { λ c. newest_transition c.wagon.now };
 
-    ghost invariant = { λ n. IsNextEvent (next_event n.wagon.now n.event.now) };
+    ghost invariant = { λ c. IsStateOf (without_newest c.wagon.now.events) c.before.now };
 }
 
-impl<'a> WagonEvent<'a> {
-    /// The wagon at a position of the fleet, with its event of a message that may be accepted.
-    pub(crate) fn of(
-        from: Acceptable<'a>,
-        wagon: WagonNumber,
-        position: usize,
-        event: &'a Event,
-    ) -> WagonEvent<'a>
+impl<'a> WagonChange<'a> {
+    /// One of the changes of a message that may be accepted.
+    pub(crate) fn of(from: Acceptable<'a>, change: &'a Change) -> WagonChange<'a>
         requires acceptable { MayBeAccepted from }
-        requires event { IsEventOf (table_state from.tables.now) from.message.now
-            (record { wagon = wagon; position = position; event = event.now }) }
-        ensures { IsNextBy (table_state from.entry.tables.now) from.entry.message.now wagon
+        requires among { IsAmong from change.now }
+        ensures { IsTransitionBy (state_before from.entry) from.entry.message.now change.now.wagon
             result }
     {
-        match from.tables.at(position) {
-            Some((_, found)) => WagonEvent {
-                wagon: found,
-                event,
+        match from.tables.at(change.position) {
+            Some((_, wagon)) => WagonChange {
+                wagon,
+                before: &change.before,
             },
             None => unreachable!(),
         }
     }
 
-    /// The wagon that a message which may be accepted names alone.
-    pub(crate) fn alone(from: Acceptable<'a>, wagon: WagonNumber) -> WagonEvent<'a>
+    /// The change of a message that names this wagon alone.
+    pub(crate) fn alone(from: Acceptable<'a>, wagon: WagonNumber) -> WagonChange<'a>
         requires acceptable { MayBeAccepted from }
         requires alone { named_alone from.message.now.body ≡ Some wagon }
-        ensures { IsNextBy (table_state from.entry.tables.now) from.entry.message.now wagon
-            result }
+        ensures { IsTransitionBy (state_before from.entry) from.entry.message.now wagon result }
     {
-        match from.events {
-            NextEvents::Alone(next) => WagonEvent::of(from, wagon, next.position, &next.event),
-            NextEvents::Planned => unreachable!(),
-            NextEvents::Each(_) => unreachable!(),
-        }
+        let _wagon = wagon;
+        WagonChange::of(from, &from.changes[0])
     }
 
-    /// The lead railway undertaking, which the event leaves.
-    pub(crate) fn lead(&self) -> Option<Railway>
-        ensures { result ≡ legs_of.lead_of (after self.now) }
-    {
-        self.wagon.track().journey_state().lead
-    }
-
-    /// Whether the event leaves all estimates as they are. Then it makes no item of them.
-    pub(crate) fn keeps_estimates(&self) -> bool
-        ensures value { result ≡ keeps_estimates self.now.event.body }
-        ensures estimates { (w : ℕ) → result ≡ true
-            → estimate_items self.now.before (after self.now) w ≡ [] }
-        ensures alerts { (w : ℕ) → result ≡ true → alert_items self.now.before (after self.now) w
-            ≡ [] }
-    {
-        keeps_estimates(&self.event.body)
-    }
-
-    /// The transition that the event makes.
-    pub(crate) fn transition(&self) -> Transition<'_>
-        ensures { result ≡ self.now }
-    {
-        self.wagon.track().transition(self.event)
-    }
-
-    /// What the journey and the estimates come to with its transition.
-    pub(crate) fn change<'b>(&'b self, transition: &'b Transition<'b>) -> WagonChange<'b>
-        requires { transition.now ≡ self.now }
-        ensures { result ≡ self.now }
-    {
-        WagonChange {
-            wagon: self.wagon,
-            transition,
-            kept: self.wagon.anchor_after(transition),
-        }
-    }
-}
-
-// Whether an event leaves all estimates as they are.
-fn keeps_estimates(says: &EventBody) -> bool
-    ensures { result ≡ keeps_estimates says.now }
-{
-    match says {
-        EventBody::Moved(what) => is_in_yard(*what),
-        EventBody::EstimateAsked | EventBody::Offered { .. } | EventBody::Withdrawn { .. } => true,
-        EventBody::Planned(_)
-        | EventBody::LegTimed { .. }
-        | EventBody::Answered { .. }
-        | EventBody::Rerouted(_) => false,
-    }
-}
-
-// A movement of a yard, which is on the way and no more.
-fn is_in_yard(what: MovementKind) -> bool
-    ensures { result ≡ keeps_estimates (Moved what) }
-{
-    matches!(
-        what,
-        MovementKind::YardArrival { .. } | MovementKind::YardDeparture { .. }
-    )
-}
-
-/// A wagon with an event, and what both come to.
-#[derive(Drop)]
-pub(crate) struct WagonChange<'a> {
-    wagon: &'a Wagon,
-    transition: &'a Transition<'a>,
-    // What is kept for its estimates with the event.
-    kept: EstimateAnchor,
-}
-
-impl<'a> Model for WagonChange<'a> {
-    ghost use Rattle.journey.specs.Journey.{NextEvent};
-    ghost use Rattle.hub_items.specs.Transitions.{IsTransitionOf};
-
-    ghost Value = { NextEvent };
-
-    ghost view = { λ p. p.transition.now };
-
-    ghost invariant = { λ p. IsTransitionOf p.wagon.now p.transition.now p.kept };
-}
-
-impl<'a> WagonChange<'a> {
     pub(crate) fn wagon(&self) -> WagonNumber
         ensures { result ≡ self.now.wagon }
     {
@@ -165,55 +69,66 @@ impl<'a> WagonChange<'a> {
 
     /// The lead railway undertaking.
     pub(crate) fn lead(&self) -> Option<Railway>
-        ensures { result ≡ legs_of.lead_of (after self.now) }
+        ensures { result ≡ legs_of.lead_of self.now.after }
     {
-        self.transition.journey_state().lead
+        self.wagon.track().journey_state().lead
     }
 
     /// The railway that answers for the wagon with the event.
     pub(crate) fn responsible(&self) -> Option<Railway>
-        ensures { result ≡ stages.responsible (after self.now) }
+        ensures { result ≡ stages.responsible self.now.after }
     {
-        self.transition.journey_state().responsible()
+        self.wagon.track().journey_state().responsible()
     }
 
     /// How many legs there are with the event: at most eight.
     pub(crate) fn leg_count(&self) -> usize
-        ensures value { result ≡ length (legs_of.legs (after self.now)) }
+        ensures value { result ≡ length (legs_of.legs self.now.after) }
         ensures few { result ≤ 8 }
     {
-        self.transition.journey_state().legs.as_slice().len()
+        self.wagon.track().journey_state().legs.as_slice().len()
     }
 
     /// The railway of a leg before the event.
     pub(crate) fn runner_before(&self, leg: usize) -> Option<Railway>
         ensures { result ≡ legs_of.runner_of self.now.before leg }
     {
-        self.wagon.track().leg(leg).map(|leg| leg.ru)
+        self.before.journey_state.legs.leg(leg).map(|leg| leg.ru)
+    }
+
+    /// The legs before the event.
+    pub(crate) fn legs_before(&self) -> &[Leg]
+        ensures { result.now ≡ legs_of.legs self.now.before }
+    {
+        self.before.journey_state.legs.as_slice()
+    }
+
+    /// How many legs were behind the wagon before the event.
+    pub(crate) fn leg_index_before(&self) -> usize
+        ensures value { result ≡ stages.leg_index self.now.before }
+        ensures on_a_leg { result < length (legs_of.legs self.now.before) }
+    {
+        self.before.journey_state.leg_index
     }
 
     /// The railway of a leg with the event.
     pub(crate) fn runner_after(&self, leg: usize) -> Option<Railway>
-        ensures { result ≡ legs_of.runner_of (after self.now) leg }
+        ensures { result ≡ legs_of.runner_of self.now.after leg }
     {
-        self.transition
-            .journey_state()
-            .legs
-            .leg(leg)
-            .map(|leg| leg.ru)
+        self.wagon.track().leg(leg).map(|leg| leg.ru)
     }
 
     /// When the wagon was expected before the event.
     pub(crate) fn estimates_before(&self) -> Estimates<'_>
         ensures { result ≡ estimates_state self.now.before }
     {
-        self.wagon.estimates()
+        self.before.estimates()
     }
 
     /// When the wagon is expected with the event.
     pub(crate) fn estimates_after(&self) -> Estimates<'_>
-        ensures { result ≡ estimates_state (after self.now) }
+        ensures { result ≡ estimates_state self.now.after }
     {
-        self.kept.estimates_after(self.transition)
+        self.wagon.estimates()
     }
 }

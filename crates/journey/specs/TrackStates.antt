@@ -6,9 +6,7 @@ use Rattle.journey.specs.declared.event.Event.{Event}
 use Rattle.journey.specs.declared.journey_state.JourneyState.{JourneyState}
 use Rattle.journey.specs.Stages.{plan, plan_in, has_later_plan}
 use Rattle.journey.specs.Legs.{HaveRoom}
-use Rattle.journey.specs.Journey.{NextEvent, after}
 use Rattle.journey.specs.JourneyStates.{journey_state}
-use Rattle.journey.specs.Checks.{refusal}
 
 -- the wagon is on one of its legs, of which there are at most eight, and is offered only where there is a next one
 pub record IsSound (s : JourneyState) : Type 0 where
@@ -30,12 +28,6 @@ pub record IsTrackState (events : List Event) (s : JourneyState) : Type 0 where
   pub have_room : HaveRoom 0 events
   pub state_is : s ≡ journey_state events
   pub sound : IsSound s
-
--- the event may come next, and the kept state is that of the events with it
-pub record IsTransition (o : NextEvent) (s : JourneyState) : Type 0 where
-  pub admitted : refusal o.before o.event.by o.event.body ≡ None
-  pub state_is : s ≡ journey_state (after o)
-  pub on_a_leg : s.leg_index < length s.legs
 
 -- the events but the last
 abbrev pub without_newest : List Event → List Event

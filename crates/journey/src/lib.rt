@@ -20,9 +20,7 @@
 //! - [`Track::take_back`] takes the newest event back, for a message on several wagons of which a later one is refused memory.
 //! - [`JourneyState`] is what the events come to. A track keeps it beside them, so that no call but
 //!   [`Track::events`] leads to a walk: stage, leg index, legs, responsible railway, place and checks take no more
-//!   than a look at it.
-//! - [`Transition`] is a track with an event that it admits, and the state that both lead to, by which the crates above ask what
-//!   the event changes. [`Track::transition`] makes it.
+//!   than a look at it. [`Track::state_after`] gives what they come to with one event more.
 //! - [`Legs`] are the one to eight legs of a wagon, kept in place.
 //!
 //! The legs are defined from event to event. [`legs_are_what_the_newest_event_sets`] is the law that they are what a
@@ -38,11 +36,9 @@ mod journey_state;
 mod laws;
 mod legs;
 mod track;
-mod transition;
 
 pub use event::{Event, EventBody};
 pub use journey_state::JourneyState;
 pub use laws::legs_are_what_the_newest_event_sets;
 pub use legs::Legs;
 pub use track::Track;
-pub use transition::Transition;

@@ -2,7 +2,6 @@ ghost use Rattle.std.specs.Prelude.{◌≡◌, ◌+◌, ◌<◌, ◌≤◌, ◌^
 
 use crate::event::{Event, EventBody};
 use crate::journey_state::JourneyState;
-use crate::transition::Transition;
 use std::alloc::Global;
 use std::marker::Model;
 use taf_codes::{Memory, Place, Railway};
@@ -38,7 +37,6 @@ impl Model for Track {
 impl Track {
     ghost use Rattle.std.specs.Prelude.{false, slice_get, option_map};
     ghost use Rattle.journey.specs.declared.event.EventBody.TheVariants.{Planned};
-    ghost use Rattle.journey.specs.Journey.{next_event};
     ghost use Rattle.journey.specs.Stages as of;
     ghost use Rattle.journey.specs.Legs as legs_of;
     ghost use Rattle.journey.specs.JourneyStates.{journey_state};
@@ -181,17 +179,13 @@ impl Track {
         &self.journey_state
     }
 
-    /// The transition that an event makes which may come next.
-    pub fn transition<'a>(&'a self, event: &'a Event) -> Transition<'a>
+    /// What the events come to with an event more that may come next.
+    pub fn state_after(&self, event: &Event) -> JourneyState
         requires { refusal self.now.events event.now.by event.now.body ≡ None }
-        ensures { result ≡ next_event self.now event.now }
+        ensures { IsTrackState (self.now.events ++ event.now ∷ []) result }
     {
-        let mut transition = Transition {
-            track: self,
-            event,
-            journey_state: self.journey_state.copy(),
-        };
-        transition.journey_state.advance(event);
-        transition
+        let mut state = self.journey_state.copy();
+        state.advance(event);
+        state
     }
 }

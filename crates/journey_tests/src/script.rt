@@ -261,12 +261,13 @@ impl Run {
         if self.estimates().would_pass_calendar(&self.track, &next) {
             return Err(Fail::new("past the calendar"));
         }
-        let transition = self.track.transition(&next);
-        let stage = transition.journey_state().stage;
-        let kept = self.kept.followed(&transition);
-        let eta = kept.estimates_after(&transition).eta();
+        let state = self.track.state_after(&next);
+        let mut foretold = self.estimates();
+        foretold.follow(&self.track, &next);
+        let eta = foretold.eta();
         self.kept.add(&mut self.track, next)?;
-        Ok(stage == Some(self.track.stage()) && eta == self.estimates().eta())
+        let is_foretold = state.stage == Some(self.track.stage()) && eta == self.estimates().eta();
+        Ok(is_foretold && eta == self.kept.estimates_by(&state).eta())
     }
 
     /// Adds an event, and takes it back.

@@ -1,4 +1,4 @@
-use Rattle.hub_items.proofs.Common.{◌≡◌, ◌++◌, filter, filter_map, flat_map, range_with_len, after, estimate_basis, in_turn_from, estimate_of}
+use Rattle.hub_items.proofs.Common.{◌≡◌, ◌++◌, filter, filter_map, flat_map, range_with_len, estimate_basis, in_turn_from, estimate_of}
 use Rattle.hub_model.specs.Items as of
 use Rattle.hub_items.proofs.estimates.put_estimates.Given as goal
 
@@ -6,8 +6,8 @@ use Rattle.hub_items.proofs.estimates.put_estimates.Given as goal
 abbrev pub invariant-loop-leg : goal.invariant-loop-leg
 invariant-loop-leg l = record {
   news : l.items.items ≡ l.initial.items.items ++
-      flat_map (of.estimate_item (after l.change) l.change.wagon)
-      (filter (of.is_news l.change.before (after l.change)) (filter_map (λ j. estimate_of l.change j) (range_with_len 0 l.leg)));
+      flat_map (of.estimate_item l.change.after l.change.wagon)
+      (filter (of.is_news l.change.before l.change.after) (filter_map (λ j. estimate_of l.change j) (range_with_len 0 l.leg)));
   before : l.each_before ≡ in_turn_from (estimate_basis l.change.before) l.leg;
-  after : l.each_after ≡ in_turn_from (estimate_basis (after l.change)) l.leg;
+  after : l.each_after ≡ in_turn_from (estimate_basis l.change.after) l.leg;
 }

@@ -1,63 +1,25 @@
-use Rattle.hub_items.proofs.Common.{◌≡◌, [], List, ◌++◌, ap, sym, subst, ◌∙◌, map, OnOk, All, All-head, ℕ, AddressedItem, estimate_items, alert_items, estimates_at, alerts_at, table_state, EventAt, IsEventOf, AreNextEvents}
-use Rattle.hub_items.proofs.MessageItemLemmas.{of_one}
-use Rattle.hub_items.proofs.WagonItemLemmas.{nothing_planned, put_of_each}
+use Rattle.hub_items.proofs.Common.{◌≡◌, List, ◌++◌, ap, sym, subst, ◌∙◌, append_assoc, flat_map, OnOk, IfOk-equal, AddressedItem, named_wagons, continues_journeys, estimates_at, alerts_at, state_before}
+use Rattle.hub_items.proofs.ChangeLemmas.{changed_named, continues_unless_plan}
+use Rattle.hub_items.proofs.WagonItemLemmas.{planned_items, of_each}
 use Rattle.hub_items.proofs.wagons.put_of_wagons.Goals as goal
 
-pub put_of_plan-requires : goal.put_of_plan-requires
-unfolding AreNextEvents
-put_of_plan-requires c = subst (AreNextEvents (table_state c.args.from.tables.now) c.args.from.message.now) c.in-Planned.is c.requires.1
+pub returns-in-Plan : goal.returns-in-Plan
+returns-in-Plan c =
+    let put = c.put_alert_ends in
+    subst (λ (more : List AddressedItem). OnOk put.result (put.new.items.items ≡ c.args.items.now.items ++ more))
+    (planned_items (state_before c.args.from) c.args.from.message.now c.in-Plan.plan (sym c.body.ensures ∙ c.in-Plan.is)) put.ensures
 
-pub returns-in-Planned-clause-estimates : goal.returns-in-Planned-clause-estimates
-unfolding AreNextEvents
-returns-in-Planned-clause-estimates c =
-    let s = table_state c.args.from.tables.now in
+pub returns : goal.returns
+returns c =
+    let s = state_before c.args.from in
     let m = c.args.from.message.now in
-    nothing_planned c.put_of_plan.result s m c.args.items.now.items (subst (AreNextEvents s m) c.in-Planned.is c.requires.1)
-
-pub of-event-requires-clause-event : goal.of-event-requires-clause-event
-unfolding AreNextEvents
-of-event-requires-clause-event c =
-    let s = table_state c.args.from.tables.now in
-    let m = c.args.from.message.now in
-    All-head (IsEventOf s m) c.in-Alone.next [] (subst (AreNextEvents s m) c.in-Alone.is c.requires.1).each
-
-pub returns-in-Alone-clause-estimates : goal.returns-in-Alone-clause-estimates
-unfolding AreNextEvents
-returns-in-Alone-clause-estimates c =
-    let s = table_state c.args.from.tables.now in
-    let m = c.args.from.message.now in
-    let put = c.put_of_event in
-    let one = of_one s m c.in-Alone.next.wagon _ estimate_items (sym (subst (AreNextEvents s m) c.in-Alone.is c.requires.1).wagons) c.of-event.ensures in
-    subst (λ (more : List AddressedItem). OnOk put.result (put.new.items.items ≡ c.args.items.now.items ++ more)) one put.ensures.estimates
-
-pub returns-in-Alone-clause-alerts : goal.returns-in-Alone-clause-alerts
-unfolding AreNextEvents
-returns-in-Alone-clause-alerts c =
-    let s = table_state c.args.from.tables.now in
-    let m = c.args.from.message.now in
-    let put = c.put_of_event in
-    let one = of_one s m c.in-Alone.next.wagon _ alert_items (sym (subst (AreNextEvents s m) c.in-Alone.is c.requires.1).wagons) c.of-event.ensures in
-    subst (λ (more : List AddressedItem). OnOk put.result (put.new.alerts.items ≡ c.args.alerts.now.items ++ more)) one put.ensures.alerts
-
-pub put_of_each-requires-clause-each : goal.put_of_each-requires-clause-each
-unfolding AreNextEvents
-put_of_each-requires-clause-each c =
-    let s = table_state c.args.from.tables.now in
-    let m = c.args.from.message.now in
-    subst (All (IsEventOf s m)) (sym c.as_slice.ensures.value) (subst (AreNextEvents s m) c.in-Each.is c.requires.1).0.each
-
-pub returns-in-Each-clause-estimates : goal.returns-in-Each-clause-estimates
-unfolding AreNextEvents
-returns-in-Each-clause-estimates c =
-    let s = table_state c.args.from.tables.now in
-    let m = c.args.from.message.now in
-    let wagons = ap (λ (es : List EventAt). map {B = ℕ} (λ e. e.wagon) es) c.as_slice.ensures.value ∙ (subst (AreNextEvents s m) c.in-Each.is c.requires.1).0.wagons in
-    put_of_each _ (estimates_at s m) c.args.items.now.items _ _ _ wagons c.put_of_each.ensures.estimates
-
-pub returns-in-Each-clause-alerts : goal.returns-in-Each-clause-alerts
-unfolding AreNextEvents
-returns-in-Each-clause-alerts c =
-    let s = table_state c.args.from.tables.now in
-    let m = c.args.from.message.now in
-    let wagons = ap (λ (es : List EventAt). map {B = ℕ} (λ e. e.wagon) es) c.as_slice.ensures.value ∙ (subst (AreNextEvents s m) c.in-Each.is c.requires.1).0.wagons in
-    put_of_each _ (alerts_at s m) c.args.alerts.now.items _ _ _ wagons c.put_of_each.ensures.alerts
+    let cs = c.args.from.changes.now in
+    let ws = named_wagons s.offer m in
+    let old = c.args.items.now.items in
+    let put = c.put_each_estimates.new.items.items in
+    let on = ap continues_journeys (sym c.body.ensures) ∙ continues_unless_plan c.body.result.now c.in_default.not-Plan in
+    let are = changed_named s m cs c.requires.1.wagons on in
+    IfOk-equal c.put_each_alerts.result c.put_each_alerts.new.items.items _ _ c.put_each_alerts.ensures
+    (ap (λ (xs : List AddressedItem). put ++ xs) (of_each (alerts_at s m) cs ws are) ∙
+    ap (λ (xs : List AddressedItem). xs ++ flat_map (alerts_at s m) ws) (c.in_ok-put_each_estimates.ensures ∙ ap (λ (xs : List AddressedItem). old ++ xs) (of_each (estimates_at s m) cs ws are)) ∙
+    append_assoc old (flat_map (estimates_at s m) ws) (flat_map (alerts_at s m) ws))
