@@ -1,10 +1,10 @@
 -- What the proofs of this crate have in common: the names of other crates, of the standard library and of its own definitions.
 pub use Rattle.std.specs.List.{slice_get}
 pub use Rattle.std.specs.Option.{option_copied_mut}
-pub use Rattle.std.specs.Prelude.{option_map}
+pub use Rattle.std.specs.Prelude.{option_map, min}
 pub use Rattle.std.specs.Map.{keys_of, lookup}
 pub use Rattle.std.specs.VecDeque.Iter.{deque_iter_rest}
-pub use Rattle.std.proofs.Common.{rules, ◌≡◌, ap, ◌≤◌, Bool, true, false, cond, List, Option, Some, Result, Ok, Err, OnErr, is_some, bytes_eq, refl, sym, ◌∙◌, subst, arith, ℕ, None, map, OnOk, ◌<◌, ◌^◌, ◌+◌, [], ◌∷◌, ◌++◌, length, take, drop, zero, suc}
+pub use Rattle.std.proofs.Common.{rules, ◌≡◌, ap, ◌≤◌, Bool, true, false, cond, List, Option, Some, Result, Ok, Err, OnErr, is_some, bytes_eq, refl, sym, ◌∙◌, subst, arith, ℕ, None, map, OnOk, ◌<◌, ◌^◌, ◌+◌, [], ◌∷◌, ◌++◌, length, take, drop, zero, suc, ◌-◌, vec_len, vec_capacity}
 pub use Rattle.std.proofs.lemmas.List.{append-nil, append_assoc, take_all, take-append-le, drop-drop, length_push}
 pub use Rattle.std.proofs.lemmas.Map.Entries.{lookup_from_place}
 pub use Rattle.std.proofs.lemmas.Map.Made.{lookup_key_same}

@@ -126,7 +126,7 @@ fn numbered_items(
         };
         number = number.saturating_add(1);
         let body = copy_of(body)?;
-        items.push(Item { number, body })?;
+        items.push_reserved(Item { number, body });
     }
     Ok(ItemList::from_vec(items))
 }

@@ -2,7 +2,7 @@
 pub use Rattle.std.specs.List.{range_with_len, cons_option}
 pub use Rattle.std.specs.Option.{option_to_list}
 pub use Rattle.std.specs.Prelude.{filter_map, option_map}
-pub use Rattle.std.proofs.Common.{◌≡◌, ℕ, ◌+◌, ◌<◌, ◌==◌, zero, suc, Bool, true, false, cond, List, [], ◌∷◌, ◌++◌, length, get_or, take, map, filter, Option, Some, None, refl, ap, sym, ◌∙◌, append_assoc, arith, add-one, ◌≤◌, drop}
+pub use Rattle.std.proofs.Common.{◌≡◌, ℕ, ◌+◌, ◌<◌, ◌==◌, zero, suc, Bool, true, false, cond, List, [], ◌∷◌, ◌++◌, length, get_or, take, map, filter, Option, Some, None, refl, ap, sym, ◌∙◌, append_assoc, arith, add-one, ◌≤◌, drop, ◌-◌, vec_len, vec_capacity}
 pub use Rattle.std.proofs.lemmas.List.{map-append, append-nil, at_drop_all, at_drop_more}
 pub use Rattle.std.proofs.lemmas.List.Elements.{filter_map-append, filter_more}
 pub use Rattle.taf_codes.specs.declared.code.UnitCode.{UnitCode}

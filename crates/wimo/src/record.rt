@@ -134,7 +134,7 @@ fn events_of(alloc: Global, events: &[Event]) -> Result<RecordEvents, AllocError
     let mut current = 0;
     for event in events {
         let what = shown_as(current, &event.body);
-        shown.push(recorded(event, what))?;
+        shown.push_reserved(recorded(event, what));
         current = leg_after(current, &event.body);
     }
     Ok(Listed::from_vec(shown))

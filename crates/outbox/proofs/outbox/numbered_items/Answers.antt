@@ -10,10 +10,11 @@ loop-i-preserved c =
     let fewer = ap length step in
     let next : number ≡ c.loop-i.number + 1 = omega (arith, fewer) in
     let item : ItemBody → Item = λ body. record { number = number; body = body } in
-    let put = c.in_ok-push.ensures.items ∙ ap (λ body. items ++ item body ∷ []) c.in_ok-body.ensures in
+    let put = c.push_reserved.ensures.items ∙ ap (λ body. items ++ item body ∷ []) c.in_ok-body.ensures in
     record {
       whole = numbered_more items _ c.loop-i.number number c.in-Some.body.now (deque_iter_rest c.loop-i.rest) (deque_iter_rest c.next.new.self) _ c.loop-i.invariant.whole step next put;
       count = omega (arith, ap length put, length_push items (item c.in-Some.body.now));
+      room = omega (arith, fewer);
       last = omega (arith, fewer);
     }
 

@@ -22,9 +22,10 @@ loop-event-preserved c =
     let here = c.recorded.ensures ∙ ap (λ what. record { by = event.by; no = event.no; at = event.at; what = what }) c.shown_as-what.ensures in
     let next = c.leg_after-current.ensures in
     record {
-      shown = shown_more c.loop-event.shown.items c.push.new.self.items current c.leg_after-current.result event rest _ (c.in_ok-push.ensures.items ∙ ap (λ r. c.loop-event.shown.items ++ r ∷ []) (here)) next.value (rw behind at c.loop-event.invariant.shown);
+      shown = shown_more c.loop-event.shown.items c.push_reserved.new.self.items current c.leg_after-current.result event rest _ (c.push_reserved.ensures.items ∙ ap (λ r. c.loop-event.shown.items ++ r ∷ []) (here)) next.value (rw behind at c.loop-event.invariant.shown);
       room = room_more current c.leg_after-current.result event rest next.value (rw behind at c.loop-event.invariant.room);
       small = omega arith;
+      space = omega (arith, c.loop-event-test.true);
     }
 
 pub returns : goal.returns
