@@ -1,8 +1,8 @@
 //! The estimates that are news (4.2.6).
-ghost use Rattle.std.specs.Prelude.{◌≡◌, ◌++◌, ◌<◌, [], if◌then◌else◌, OnOk, option_to_list};
+ghost use Rattle.std.specs.Prelude.{◌≡◌, ◌++◌, ◌<◌, OnOk, option_to_list};
 ghost use Rattle.hub_model.specs.Items as of;
 ghost use Rattle.eti_chain.specs.Estimates as chain;
-ghost use Rattle.hub_items.specs.Transitions.{estimate_at, news_of};
+ghost use Rattle.hub_items.specs.Transitions.{news_of};
 
 use crate::wagon_change::WagonChange;
 use hub_model::AddressedItem;
@@ -41,20 +41,32 @@ fn put_of_leg(
     requires after { at ≡ chain.estimate change.now.after leg }
     ensures { OnOk result (items.new.items ≡ items.old.items ++ news_of change.now leg) }
 {
-    if let Some(estimate) = estimate_of(leg, at) {
-        put_news(items, change, was, &estimate)?;
+    if let Some(item) = news_of_leg(change, leg, was, at) {
+        items.push(item)?;
     }
     Ok(())
 }
 
-// The estimate of a leg.
-fn estimate_of(leg: usize, at: Option<Moment>) -> Option<EstimateAt>
-    requires { leg < 8 }
-    ensures { result ≡ estimate_at leg at }
+// The item of a leg's estimate, if there is one and it is news.
+fn news_of_leg(
+    change: &WagonChange<'_>,
+    leg: usize,
+    was: Option<Moment>,
+    at: Option<Moment>,
+) -> Option<AddressedItem>
+    requires few { leg < 8 }
+    requires before { was ≡ chain.estimate change.now.before leg }
+    requires after { at ≡ chain.estimate change.now.after leg }
+    ensures { option_to_list result ≡ news_of change.now leg }
 {
     let at = at?;
     let leg = LegIndex::new(leg as u64)?;
-    Some(EstimateAt { leg, at })
+    let estimate = EstimateAt { leg, at };
+    if is_news(change, was, &estimate) {
+        estimate_item(change, &estimate)
+    } else {
+        None
+    }
 }
 
 // The estimate is not what it was, or the next leg has another railway, or there was or is no next leg.
@@ -64,42 +76,6 @@ fn is_news(change: &WagonChange<'_>, was: Option<Moment>, estimate: &EstimateAt)
 {
     let next = estimate.leg.get() as usize + 1;
     was != Some(estimate.at) || change.runner_before(next) != change.runner_after(next)
-}
-
-// Adds the item of the estimate, if that is news.
-fn put_news(
-    items: &mut Vec<AddressedItem>,
-    change: &WagonChange<'_>,
-    was: Option<Moment>,
-    estimate: &EstimateAt,
-) -> Result<(), Memory>
-    requires { was ≡ chain.estimate change.now.before estimate.now.leg }
-    ensures { OnOk result (items.new.items ≡ items.old.items
-        ++ (if of.is_news change.now.before change.now.after estimate.now
-        then of.estimate_item change.now.after change.now.wagon estimate.now else [])) }
-{
-    if let Some(item) = news_item(change, was, estimate) {
-        items.push(item)?;
-    }
-    Ok(())
-}
-
-// The item of the estimate, if that is news.
-fn news_item(
-    change: &WagonChange<'_>,
-    was: Option<Moment>,
-    estimate: &EstimateAt,
-) -> Option<AddressedItem>
-    requires { was ≡ chain.estimate change.now.before estimate.now.leg }
-    ensures { option_to_list result
-        ≡ (if of.is_news change.now.before change.now.after estimate.now
-        then of.estimate_item change.now.after change.now.wagon estimate.now else []) }
-{
-    if is_news(change, was, estimate) {
-        estimate_item(change, estimate)
-    } else {
-        None
-    }
 }
 
 // The estimate for the railway of the next leg, or of the last leg for the lead.
