@@ -1,28 +1,23 @@
 -- What the tables know once they have taken a message.
-use Rattle.hub_tables.proofs.Common.{◌≡◌, ℕ, ◌==◌, ◌&&◌, Bool, true, false, List, [], ◌∷◌, ◌++◌, None, Result, Ok, Err, OnOk, OnErr, refl, sym, ap, ◌∙◌, append-nil, true≢false, bytes_eq, unwrap_or, option_or, list_all, lookup, keys_of, and_parts, Railway, UnitCode, ConsignmentId, has, all_differ, times_named, Message, TrainAnswer, Body, OfferTable, offer_of, is_standing, matches, wagons_of, HubState, new_state, named_wagons, wagons_in, fault, whole_fault, after_acceptance, plan_given, unit_plan_given, offer_given, opening_given, planned_in, fleet_after, no_whole_fault, answer_fits, TableEntries, table_state, table_part, continues_journeys, ContinuesJourneys, HasAccepted}
+use Rattle.hub_tables.proofs.Common.{◌≡◌, ℕ, ◌==◌, Bool, true, false, if◌then◌else◌, List, [], ◌∷◌, ◌++◌, Some, None, Result, Ok, Err, OnOk, OnErr, refl, sym, ap, ◌∙◌, append-nil, true≢false, unwrap_or, option_or, list_all, and_parts, Railway, UnitCode, ConsignmentId, has, all_differ, times_named, Message, TrainAnswer, Body, OfferTable, offer_of, is_standing, same_name, matches, wagons_of, HubState, new_state, named_wagons, wagons_in, fault, whole_fault, after_acceptance, plan_given, unit_plan_given, offer_given, opening_given, planned_in, fleet_after, no_whole_fault, answer_fits, TableEntries, table_state, table_part, continues_journeys, HasAccepted, journey_after, gone_on}
 use Rattle.taf_messages.specs.declared.message.Body.TheVariants as body
-use Rattle.hub_tables.proofs.NextEventLemmas.{passes_named}
+use Rattle.hub_tables.proofs.DifferLemmas.{both_true, passes_named}
 
 pub on_ok : {A E : Type 0} {P Q : Type 0} (r : Result A E) → (P → Q) → OnOk r P → OnOk r Q
 on_ok (Ok x) f p = f p
 on_ok (Err e) f p = tt
 
-pub on_err : {A E P : Type 0} (r : Result A E) → P → OnErr r P
-on_err (Ok x) p = tt
-on_err (Err e) p = p
+pub on_err : {A E : Type 0} {P Q : Type 0} (r : Result A E) → (P → Q) → OnErr r P → OnErr r Q
+on_err (Ok x) f p = tt
+on_err (Err e) f p = f p
 
--- tables with the same entries know the same
-same_known : (t u : TableEntries) → t.wagons ≡ u.wagons → t.plans ≡ u.plans → t.units ≡ u.units → t.offers.offers ≡ u.offers.offers → table_state t ≡ table_state u
-same_known t u w p l o =
-    λ i. table_state (record { wagons = w i; plans = p i; units = l i; offers = record { offers = o i; spare = u.offers.spare } })
-
--- room for an offer changes nothing that is known
-pub with_room : (t now : TableEntries) (offers : OfferTable) → offers.offers ≡ t.offers.offers → t ≡ now → table_state (record t { offers = offers }) ≡ table_state now
-with_room t now offers same is = same_known (record t { offers = offers }) t refl refl refl same ∙ ap table_state is
+pub on_both : {A E : Type 0} {P Q R : Type 0} (r : Result A E) → (P → Q → R) → OnOk r P → OnOk r Q → OnOk r R
+on_both (Ok x) f p q = f p q
+on_both (Err e) f p q = tt
 
 -- what each look-up has taken is all that is known
-pub taken_known : (old new : TableEntries) (m : Message) → HasAccepted old new m → table_state new ≡ table_part (after_acceptance (table_state old) m)
-taken_known old new m h =
+pub taken_known : (s : HubState) (new : TableEntries) (m : Message) → HasAccepted s new m → table_state new ≡ table_part (after_acceptance s m)
+taken_known s new m h =
     λ i. record new_state {
       journey = λ w. h.events w i;
       plan_of = λ c. h.plans c i;
@@ -44,26 +39,42 @@ none_planned : (says : Body) → continues_journeys says ≡ true → planned_in
 none_planned (body.Plan p) h = absurd (true≢false (sym h))
 none_planned _ h = refl
 
--- a message that begins no journey is taken where offers are
-pub goes_taken : (old new : TableEntries) (m : Message) → continues_journeys m.body ≡ true → ContinuesJourneys old new m →
-    ((by : Railway) (n : ℕ) → offer_of new.offers by n ≡ option_or (offer_given m m.body by n) (offer_of old.offers by n)) →
-    ((by : Railway) (n : ℕ) → is_standing new.offers by n ≡ unwrap_or (opening_given m m.body by n) (is_standing old.offers by n)) → HasAccepted old new m
-goes_taken old new m g on finds opens = record {
-  events = on.events;
-  plans = λ c. ap (lookup (bytes_eq c)) on.plans ∙ ap (λ o. option_or o (lookup (bytes_eq c) old.plans)) (sym (no_plan_given m.body c g));
-  units = λ u. ap (lookup (bytes_eq u)) on.units ∙ ap (λ o. option_or o (lookup (bytes_eq u) old.units)) (sym (no_unit_given m.body u g));
-  offers = finds;
-  opens = opens;
-  keys = on.keys ∙ sym (append-nil (keys_of old.wagons)) ∙ ap (fleet_after (keys_of old.wagons)) (sym (none_planned m.body g));
-}
+-- a message by which journeys have gone on is taken where offers are
+pub goes_taken : (s : HubState) (t old : TableEntries) (offers : OfferTable) (m : Message) → t ≡ old → continues_journeys m.body ≡ true → table_state old ≡ gone_on s m →
+    ((by : Railway) (n : ℕ) → offer_of offers by n ≡ option_or (offer_given m m.body by n) (offer_of t.offers by n)) →
+    ((by : Railway) (n : ℕ) → is_standing offers by n ≡ unwrap_or (opening_given m m.body by n) (is_standing t.offers by n)) → HasAccepted s (record t { offers = offers }) m
+goes_taken s t old offers m same goes on finds opens =
+    let known : table_state t ≡ gone_on s m = ap table_state same ∙ on in
+    record {
+      events = λ w. ap (λ (k : HubState). k.journey w) known ∙ ap (λ (b : Bool). if b then journey_after s m w else s.journey w) goes;
+      plans = λ c. ap (λ (k : HubState). k.plan_of c) known ∙ ap (λ o. option_or o (s.plan_of c)) (sym (no_plan_given m.body c goes));
+      units = λ u. ap (λ (k : HubState). k.unit_plan u) known ∙ ap (λ o. option_or o (s.unit_plan u)) (sym (no_unit_given m.body u goes));
+      offers = λ by n. finds by n ∙ ap (λ (k : HubState). option_or (offer_given m m.body by n) (k.offer by n)) known;
+      opens = λ by n. opens by n ∙ ap (λ (k : HubState). unwrap_or (opening_given m m.body by n) (k.is_open by n)) known;
+      keys = ap (λ (k : HubState). k.fleet) known ∙ sym (append-nil s.fleet) ∙ ap (fleet_after s.fleet) (sym (none_planned m.body goes));
+    }
 
--- what a message gives that speaks of one wagon
-pub single_taken : (old new : TableEntries) (m : Message) (says : Body) → m.body ≡ says → ((p : _) → says ≡ body.Plan p → ⊥) → ((o : _) → says ≡ body.Offer o → ⊥) → ((a : _) → says ≡ body.Answer a → ⊥) →
-    ((at : _) (k : _) → says ≡ body.Withdraw at k → ⊥) → ContinuesJourneys old new m → new.offers ≡ old.offers → HasAccepted old new m
-single_taken old new m says is p o a w on same =
-    goes_taken old new m (ap continues_journeys is ∙ goes says p) on
-    (λ by n. ap (λ t. offer_of t by n) same ∙ ap (λ x. option_or x (offer_of old.offers by n)) (sym (ap (λ b. offer_given m b by n) is ∙ makes_none says o by n)))
-    (λ by n. ap (λ t. is_standing t by n) same ∙ ap (λ x. unwrap_or x (is_standing old.offers by n)) (sym (ap (λ b. opening_given m b by n) is ∙ opens_none says o a w by n)))
+closed_else : (b before : Bool) → (if b then false else before) ≡ unwrap_or (if b then Some false else None) before
+closed_else true before = refl
+closed_else false before = refl
+
+-- one that closes an offer
+pub closing_taken : (s : HubState) (t old : TableEntries) (offers : OfferTable) (m : Message) (of : Railway) (k : ℕ) → t ≡ old → continues_journeys m.body ≡ true → table_state old ≡ gone_on s m →
+    ((by : Railway) (n : ℕ) → offer_given m m.body by n ≡ None) → ((by : Railway) (n : ℕ) → opening_given m m.body by n ≡ (if same_name of k by n then Some false else None)) →
+    ((by : Railway) (n : ℕ) → offer_of offers by n ≡ offer_of t.offers by n) → ((by : Railway) (n : ℕ) → is_standing offers by n ≡ (if same_name of k by n then false else is_standing t.offers by n)) →
+    HasAccepted s (record t { offers = offers }) m
+closing_taken s t old offers m of k same goes on makes_none closes_one finds closes =
+    goes_taken s t old offers m same goes on
+    (λ by n. finds by n ∙ ap (λ x. option_or x (offer_of t.offers by n)) (sym (makes_none by n)))
+    (λ by n. closes by n ∙ closed_else (same_name of k by n) (is_standing t.offers by n) ∙ ap (λ x. unwrap_or x (is_standing t.offers by n)) (sym (closes_one by n)))
+
+-- one that speaks of a single wagon
+pub single_taken : (s : HubState) (old : TableEntries) (m : Message) (says : Body) → m.body ≡ says → ((p : _) → says ≡ body.Plan p → ⊥) → ((o : _) → says ≡ body.Offer o → ⊥) → ((a : _) → says ≡ body.Answer a → ⊥) →
+    ((at : _) (k : _) → says ≡ body.Withdraw at k → ⊥) → table_state old ≡ gone_on s m → HasAccepted s old m
+single_taken s old m says is p o a w on =
+    goes_taken s old old old.offers m refl (ap continues_journeys is ∙ goes says p) on
+    (λ by n. ap (λ x. option_or x (offer_of old.offers by n)) (sym (ap (λ b. offer_given m b by n) is ∙ makes_none says o by n)))
+    (λ by n. ap (λ x. unwrap_or x (is_standing old.offers by n)) (sym (ap (λ b. opening_given m b by n) is ∙ opens_none says o a w by n)))
   where
     goes : (b : Body) → ((q : _) → b ≡ body.Plan q → ⊥) → continues_journeys b ≡ true
     goes (body.Plan q) h = absurd (h q refl)
@@ -78,10 +89,6 @@ single_taken old new m says is p o a w on same =
     opens_none (body.Answer v) h g f by n = absurd (g v refl)
     opens_none (body.Withdraw at k) h g f by n = absurd (f at k refl)
     opens_none _ h g f by n = refl
-
-both_true : (a b : Bool) → a ≡ true → b ≡ true → (a && b) ≡ true
-both_true true b h k = k
-both_true false b h k = absurd (true≢false (sym h))
 
 all_among : (test : ℕ → Bool) (offered ws : List ℕ) → list_all test offered ≡ true → list_all (λ w. has offered w) ws ≡ true → list_all test ws ≡ true
 all_among test offered [] h k = refl

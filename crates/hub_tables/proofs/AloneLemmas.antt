@@ -1,5 +1,5 @@
 -- Messages that name one wagon alone.
-use Rattle.hub_tables.proofs.Common.{◌≡◌, ℕ, ◌||◌, Bool, true, false, List, [], ◌∷◌, Some, refl, ap, ◌∙◌, numbers, Railway, has, Message, Body, Event, HubState, Offers, wagons_in, named_wagons, continues_journeys, named_alone, EventAt, AreEventsOf}
+use Rattle.hub_tables.proofs.Common.{◌≡◌, ℕ, ◌||◌, Bool, true, false, List, [], ◌∷◌, Some, refl, ap, ◌∙◌, numbers, Railway, has, Message, Body, HubState, Offers, wagons_in, named_wagons, continues_journeys, named_alone, EventAt, AreEventsOf}
 use Rattle.taf_messages.specs.declared.message.Body.TheVariants as body
 
 -- such a message names no other wagon

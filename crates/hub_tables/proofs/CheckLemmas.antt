@@ -1,5 +1,5 @@
 -- What the checks of a message's wagons and units come to.
-use Rattle.hub_tables.proofs.Common.{◌≡◌, ℕ, Bool, true, false, cond, List, [], ◌∷◌, Option, Some, None, refl, sym, ap, ◌∙◌, true≢false, option_map, option_or, find, UnitLoad, Message, Body, Why, WagonBusy, Event, is_busy, Fault, HubState, named_wagons, units_in, whole_fault, wagon_fault, first_fault, unit_fault, fault, continues_journeys, named_alone, Trip, EventAt, ◌+◌, ◌<◌, ◌++◌, length, map, take, get_or, map-append, take_more, IsEventOf}
+use Rattle.hub_tables.proofs.Common.{◌≡◌, ℕ, Bool, true, false, cond, List, [], ◌∷◌, Option, Some, None, refl, sym, ap, ◌∙◌, true≢false, option_map, option_or, find, UnitLoad, Message, Body, Why, WagonBusy, is_busy, Fault, HubState, named_wagons, units_in, whole_fault, wagon_fault, first_fault, unit_fault, fault, continues_journeys, named_alone, Trip, EventAt, ◌+◌, ◌<◌, ◌++◌, length, map, take, get_or, map-append, take_more}
 use Rattle.hub_tables.proofs.AloneLemmas.{alone_named}
 use Rattle.taf_messages.specs.declared.message.Body.TheVariants as body
 

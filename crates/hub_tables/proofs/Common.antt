@@ -5,13 +5,14 @@ pub use Rattle.std.specs.Map.{lookup, keys_of, update_all}
 pub use Rattle.std.specs.Option.{option_or, option_map_or, option_copied_mut}
 pub use Rattle.std.specs.Prelude.{bytes_eq, unwrap_or, option_map, nat_eq, filter, fold, All, ◌&&◌}
 pub use Rattle.std.specs.Vec.Iter.{into_iter_items, into_iter_len}
+pub use Rattle.std.specs.Vec.{vec_capacity, vec_len}
 pub use Rattle.std.proofs.Common.{◌≡◌, ℕ, zero, suc, ◌==◌, Bool, true, false, List, [], ◌∷◌, ◌++◌, Option, Some, None, IfSome, Result, Ok, Err, OnOk, refl, sym, ap, ◌∙◌, append-nil, true≢false, ◌||◌, cond, length, subst, arith, if◌then◌else◌, not, map, append_assoc, ◌+◌, ◌<◌, ◌≤◌, ◌^◌, get_or, inl, inr, take, take_all, rules, OnErr, drop, add-one, drop-cons}
 pub use Rattle.std.proofs.lemmas.Bool.{and_parts, eqb-true, or_cases, cases_Bool, or_right}
 pub use Rattle.std.proofs.lemmas.Bool.Decides.{Decides-eqb}
 pub use Rattle.std.proofs.lemmas.List.{map_more, at_drop_all, at_drop_more, take_more, map-append}
-pub use Rattle.std.proofs.lemmas.List.Elements.{All-head, All-tail, All-cons, All-nil, All-push}
+pub use Rattle.std.proofs.lemmas.List.Elements.{All-head, All-tail, All-cons, All-nil, All-pop, All-push}
 pub use Rattle.std.proofs.lemmas.List.Folds.{list_any-append, list_any_at}
-pub use Rattle.std.proofs.lemmas.List.Sums.{sum_by-append}
+pub use Rattle.std.proofs.lemmas.List.Sums.{fold-append, sum_by-append}
 pub use Rattle.std.proofs.lemmas.Map.Entries.{lookup_from_place}
 pub use Rattle.std.proofs.lemmas.Map.Made.{lookup_key_same}
 pub use Rattle.std.proofs.lemmas.Option.{same_Some}
@@ -31,8 +32,10 @@ pub use Rattle.taf_messages.specs.declared.message.Message.{Message}
 pub use Rattle.taf_messages.specs.declared.message.TrainAnswer.{TrainAnswer}
 pub use Rattle.taf_messages.specs.declared.reply.Why.{Why}
 pub use Rattle.taf_messages.specs.declared.reply.Why.TheVariants.{UnknownWagon, BeyondCalendar, WagonBusy}
+pub use Rattle.replay_numbers.specs.Names.{same_name}
 pub use Rattle.interchange.specs.OfferTable.{offer_of, is_standing, OfferTable}
 pub use Rattle.interchange.specs.Offers.{matches, wagons_of}
+pub use Rattle.journey.proofs.TakenBackLemmas.{without_newest-push}
 pub use Rattle.journey.specs.Checks.{refusal}
 pub use Rattle.journey.specs.Journey.{Journey}
 pub use Rattle.journey.specs.Stages.{is_plan}
@@ -50,10 +53,13 @@ pub use Rattle.hub_model.specs.Laws.{OpenIsOffered}
 pub use Rattle.hub_model.specs.Units.{units_in, is_unit_busy}
 pub use Rattle.hub_model.specs.Updates.{after_acceptance, plan_given, unit_plan_given, offer_given, opening_given, planned_in, fleet_after, each_wagon}
 pub use Rattle.hub_model.specs.declared.fault.Fault.{Fault}
-pub use Rattle.hub_tables.specs.Acceptance.{ContinuesJourneys, HasAccepted, MayComeNext, with_event_on, AreAdmitted, IsStateOf, without_newest_of}
+pub use Rattle.hub_tables.specs.Acceptance.{HasAccepted, MayComeNext, with_event_on, AreAdmitted, IsStateOf, without_newest_of}
+pub use Rattle.hub_tables.specs.Changes.{continued_in, gone_on, changed, known_before, IsChange, AreChanges, HasGoneOn}
+pub use Rattle.hub_tables.specs.GoingOn.{HaveGoneOn, in_turn, with_wagons}
 pub use Rattle.hub_tables.specs.Checked.{GoesOn, IsWagonChecked, IsChecked}
 pub use Rattle.hub_tables.specs.TableStates.{TableEntries, table_state, table_part, continues_journeys, named_alone, IsEventOf, AreEventsOf, events_in, IsJourneyEntry, AreJourneyEntries, IsAcceptable}
 unfoldable pub use Rattle.hub_tables.specs.TableStates.{AreNextEvents}
+pub use Rattle.hub_tables.specs.declared.changes.Change.{Change}
 pub use Rattle.hub_tables.specs.declared.checked.Checked.{Checked}
 pub use Rattle.hub_tables.specs.declared.next_events.EventAt.{EventAt}
 pub use Rattle.hub_tables.specs.declared.next_events.NextEvents.{NextEvents}

@@ -1,5 +1,5 @@
 -- Journeys that go on in the table of wagons.
-use Rattle.hub_tables.proofs.Common.{◌≡◌, ℕ, ◌==◌, Bool, true, false, cond, List, [], ◌∷◌, ◌++◌, length, Option, Some, None, IfSome, refl, sym, ap, subst, ◌∙◌, arith, true≢false, if◌then◌else◌, nat_eq, option_map_or, lookup, keys_of, update_all, IndexMap, get, insert_entry, insert_all, eqb-true, numbers, Event, Journey, is_unknown, without_newest, without_newest_of, WagonState, IsStateOf, events_in, IsJourneyEntry, AreJourneyEntries, with_event_on, EventAt, slice_get, map, zero, suc, lookup_from_place, is_equivalence, same_Some, values, with_value_at, IsUnique, updates-with_value_at}
+use Rattle.hub_tables.proofs.Common.{◌≡◌, ℕ, ◌==◌, Bool, true, false, cond, List, [], ◌∷◌, ◌++◌, length, Option, Some, IfSome, refl, sym, ap, subst, ◌∙◌, arith, true≢false, if◌then◌else◌, nat_eq, option_map_or, lookup, keys_of, update_all, IndexMap, get, insert_entry, insert_all, eqb-true, numbers, Event, Journey, is_unknown, WagonState, IsStateOf, events_in, IsJourneyEntry, AreJourneyEntries, slice_get, map, zero, suc, lookup_from_place, is_equivalence, same_Some, values, with_value_at, IsUnique, updates-with_value_at}
 
 pub nothing_left : {X : Type 0} (xs : List X) → length xs ≡ 0 → xs ≡ []
 nothing_left [] h = refl

@@ -1,7 +1,10 @@
 pub mod Common
 pub mod EntryLemmas
 pub mod AloneLemmas
+pub mod DifferLemmas
 pub mod NextEventLemmas
+pub mod ChangeLemmas
+pub mod TakingLemmas
 pub mod FleetLemmas
 pub mod NewJourneyLemmas
 pub mod AcceptanceLemmas

@@ -1,25 +1,11 @@
 -- The events by which journeys go on.
-use Rattle.hub_tables.proofs.Common.{◌≡◌, ℕ, ◌+◌, ◌<◌, ◌≤◌, ◌==◌, ◌||◌, Bool, true, false, cond, List, [], ◌∷◌, ◌++◌, length, map, get_or, refl, sym, ap, subst, ◌∙◌, arith, true≢false, if◌then◌else◌, inl, inr, fold, list_all, All, All-head, All-tail, and_parts, or_cases, eqb-true, cases_Bool, or_right, list_any_at, sum_by-append, numbers, has, all_differ, times_named, Message, Event, fits, HubState, named_wagons, event_for, event_body_for, journey_after, is_unknown, IsAcceptable, EventAt, IsEventOf, AreEventsOf, MayComeNext, AreAdmitted, with_event_on, neither, Option, Some, None, Why, UnknownWagon, known_fault, goes_on, known_allowed, continues_journeys, AreNextEvents, NextEvents, Planned, Alone, Each}
+use Rattle.hub_tables.proofs.Common.{◌≡◌, ℕ, ◌<◌, ◌≤◌, ◌==◌, ◌||◌, Bool, true, false, cond, List, [], ◌∷◌, ◌++◌, length, map, get_or, refl, sym, ap, subst, ◌∙◌, arith, true≢false, if◌then◌else◌, inl, inr, fold, list_all, All, All-head, All-tail, and_parts, or_cases, eqb-true, or_right, list_any_at, numbers, has, all_differ, times_named, Message, Event, fits, HubState, named_wagons, event_for, event_body_for, journey_after, is_unknown, IsAcceptable, EventAt, IsEventOf, AreEventsOf, MayComeNext, AreAdmitted, with_event_on, neither, Option, Some, None, Why, UnknownWagon, known_fault, goes_on, known_allowed, continues_journeys, AreNextEvents, NextEvents, Planned, Alone, Each}
+use Rattle.hub_tables.proofs.DifferLemmas.{never, times_more, named_apart}
 
 -- no wagon of the list comes again
 abbrev pub Differ : List ℕ → Type 0
 Differ [] = Unit {0}
 Differ (w ∷ ws) = (has ws w ≡ false) × Differ ws
-
-from_zero : (n : ℕ) → 0 + n ≡ n
-from_zero n = omega arith
-
-times_more : (v : ℕ) (ws : List ℕ) (w : ℕ) → times_named (v ∷ ws) w ≡ cond {A = ℕ} (v == w) 1 0 + times_named ws w
-times_more v ws w =
-    sum_by-append (λ x. cond {A = ℕ} (x == w) 1 0) (v ∷ []) ws ∙ ap (λ n. n + times_named ws w) (from_zero (cond {A = ℕ} (v == w) 1 0))
-
-never_by : (b any : Bool) (times : ℕ) → (times ≡ 0 → any ≡ false) → cond {A = ℕ} b 1 0 + times ≡ 0 → (b || any) ≡ false
-never_by true any times k h = absurd (omega arith)
-never_by false any times k h = k (omega arith)
-
-never : (ws : List ℕ) (w : ℕ) → times_named ws w ≡ 0 → has ws w ≡ false
-never [] w h = refl
-never (v ∷ ws) w h = never_by (v == w) (has ws w) (times_named ws w) (never ws w) (sym (times_more v ws w) ∙ h)
 
 only_here : (w : ℕ) (ws : List ℕ) (n : ℕ) → times_named (w ∷ ws) w ≤ n → n ≡ 1 → times_named ws w ≡ 0
 only_here w ws n le one =
@@ -46,27 +32,11 @@ differ ws h = from_counts ws ws (λ v. same_much (times_named ws v)) h
 pub has_at : (ws : List ℕ) (i w : ℕ) → i < length ws → w ≡ get_or ws i w → has ws w ≡ true
 has_at ws i w lt is = list_any_at (λ v. v == w) ws i w lt (ap (λ v. v == w) (sym is) ∙ numbers.itself w)
 
--- what passes at each wagon passes at those that are named
-pub passes_named : (test : ℕ → Bool) (ws : List ℕ) (w : ℕ) → list_all test ws ≡ true → has ws w ≡ true → test w ≡ true
-passes_named test [] w all h = absurd (true≢false (sym h))
-passes_named test (v ∷ ws) w all h =
-    let parts = and_parts (test v) (list_all test ws) all in
-    elim (or_cases (v == w) (has ws w) h) [
-      | inl e ↦ ap test (sym (eqb-true v w e)) ∙ parts.0
-      | inr e ↦ passes_named test ws w parts.1 e
-    ]
-
 put_other : (f : ℕ → List Event) (x : EventAt) (w : ℕ) → (x.wagon == w) ≡ false → with_event_on f x w ≡ f w
 put_other f x w apart = ap (λ (b : Bool). if b then f w ++ x.event ∷ [] else f w) apart
 
 put_here : (f : ℕ → List Event) (x : EventAt) (w : ℕ) → (x.wagon == w) ≡ true → with_event_on f x w ≡ f w ++ x.event ∷ []
 put_here f x w same = ap (λ (b : Bool). if b then f w ++ x.event ∷ [] else f w) same
-
-named_apart : (ws : List ℕ) (v w : ℕ) → has ws v ≡ false → has ws w ≡ true → (v == w) ≡ false
-named_apart ws v w out inside = elim (cases_Bool (v == w)) [
-  | inl e ↦ absurd (true≢false (sym inside ∙ ap (has ws) (sym (eqb-true v w e)) ∙ out))
-  | inr e ↦ e
-]
 
 -- the wagons of events
 abbrev wagons_of : List EventAt → List ℕ
@@ -119,7 +89,7 @@ module _ (s : HubState) (m : Message) where
     | inr e ↦ admitted_each es (All-tail (IsEventOf s m) x es of) w e
   ]
 
-  admitted_named : (es : List EventAt) → AreEventsOf s m es → (w : ℕ) → has (named_wagons s.offer m) w ≡ true → known_fault s m w ≡ None
+  pub admitted_named : (es : List EventAt) → AreEventsOf s m es → (w : ℕ) → has (named_wagons s.offer m) w ≡ true → known_fault s m w ≡ None
   admitted_named es of w h = admitted_each es of.each w (ap (λ (ws : List ℕ). has ws w) of.wagons ∙ h)
 
   -- the same of the events of a message that begins no journey

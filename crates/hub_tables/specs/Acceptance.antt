@@ -1,5 +1,5 @@
 -- How the tables take a message.
-use Rattle.std.specs.Prelude.{◌≡◌, ℕ, ◌==◌, true, false, if◌then◌else◌, List, [], ◌∷◌, ◌++◌, length, slice_get, Some, None, unwrap_or, bytes_eq}
+use Rattle.std.specs.Prelude.{◌≡◌, ℕ, ◌==◌, true, false, if◌then◌else◌, List, [], ◌∷◌, ◌++◌, slice_get, Some, None, unwrap_or, bytes_eq}
 use Rattle.std.specs.Option.{option_or}
 use Rattle.std.specs.Map.{lookup, keys_of}
 use Rattle.taf_codes.specs.declared.code.Railway.{Railway}
@@ -13,10 +13,10 @@ use Rattle.journey.specs.TrackStates.{IsTrackState, without_newest}
 use Rattle.eti_chain.specs.Estimates.{fits}
 use Rattle.eti_chain.specs.EstimateStates.{estimate_anchor}
 use Rattle.interchange.specs.OfferTable.{offer_of, is_standing}
-use Rattle.hub_model.specs.HubState.{journey_after}
+use Rattle.hub_model.specs.HubState.{HubState, journey_after}
 use Rattle.hub_model.specs.Faults.{is_unknown}
 use Rattle.hub_model.specs.Updates.{plan_given, unit_plan_given, offer_given, opening_given, planned_in, fleet_after}
-use Rattle.hub_tables.specs.TableStates.{TableEntries, events_in, table_state}
+use Rattle.hub_tables.specs.TableStates.{TableEntries, events_in}
 use Rattle.hub_tables.specs.declared.next_events.EventAt.{EventAt}
 use Rattle.hub_tables.specs.declared.wagon.WagonState.{WagonState}
 
@@ -50,18 +50,11 @@ abbrev pub AreAdmitted : List ℕ → (ℕ → List Event) → List EventAt → 
 AreAdmitted fleet events [] = Unit {0}
 AreAdmitted fleet events (e ∷ later) = (slice_get fleet e.position ≡ Some e.wagon) × MayComeNext (events e.wagon) e.event × AreAdmitted fleet (with_event_on events e) later
 
--- journeys go on by a message, and plans stay
-pub record ContinuesJourneys (old new : TableEntries) (m : Message) : Type 0 where
-  pub events : (w : ℕ) → events_in new.wagons w ≡ journey_after (table_state old) m w
-  pub keys : keys_of new.wagons ≡ keys_of old.wagons
-  pub plans : new.plans ≡ old.plans
-  pub units : new.units ≡ old.units
-
--- each look-up has taken the message
-pub record HasAccepted (old new : TableEntries) (m : Message) : Type 0 where
-  pub events : (w : ℕ) → events_in new.wagons w ≡ journey_after (table_state old) m w
-  pub plans : (c : ConsignmentId) → lookup (bytes_eq c) new.plans ≡ option_or (plan_given m.body c) (lookup (bytes_eq c) old.plans)
-  pub units : (u : UnitCode) → lookup (bytes_eq u) new.units ≡ option_or (unit_plan_given m.body u) (lookup (bytes_eq u) old.units)
-  pub offers : (by : Railway) (n : ℕ) → offer_of new.offers by n ≡ option_or (offer_given m m.body by n) (offer_of old.offers by n)
-  pub opens : (by : Railway) (n : ℕ) → is_standing new.offers by n ≡ unwrap_or (opening_given m m.body by n) (is_standing old.offers by n)
-  pub keys : keys_of new.wagons ≡ fleet_after (keys_of old.wagons) (planned_in m.body)
+-- each look-up has taken the message, once its events stand in the journeys
+pub record HasAccepted (s : HubState) (new : TableEntries) (m : Message) : Type 0 where
+  pub events : (w : ℕ) → events_in new.wagons w ≡ journey_after s m w
+  pub plans : (c : ConsignmentId) → lookup (bytes_eq c) new.plans ≡ option_or (plan_given m.body c) (s.plan_of c)
+  pub units : (u : UnitCode) → lookup (bytes_eq u) new.units ≡ option_or (unit_plan_given m.body u) (s.unit_plan u)
+  pub offers : (by : Railway) (n : ℕ) → offer_of new.offers by n ≡ option_or (offer_given m m.body by n) (s.offer by n)
+  pub opens : (by : Railway) (n : ℕ) → is_standing new.offers by n ≡ unwrap_or (opening_given m m.body by n) (s.is_open by n)
+  pub keys : keys_of new.wagons ≡ fleet_after s.fleet (planned_in m.body)

@@ -2,7 +2,6 @@
 use Rattle.std.specs.Prelude.{◌≡◌, ℕ, Some, None, true, Result, Ok, Err}
 use Rattle.taf_messages.specs.declared.message.Message.{Message}
 use Rattle.taf_messages.specs.declared.reply.Why.{Why}
-use Rattle.journey.specs.declared.event.Event.{Event}
 use Rattle.hub_model.specs.HubState.{HubState}
 use Rattle.hub_model.specs.Faults.{whole_fault, wagon_fault, fault}
 use Rattle.hub_model.specs.Laws.{OpenIsOffered}

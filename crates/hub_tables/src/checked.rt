@@ -21,7 +21,7 @@ use wagon_number::WagonNumber;
 
 /// What the check of a new message comes to.
 #[derive(Drop)]
-pub enum Checked {
+pub(crate) enum Checked {
     /// It is refused, and this is its fault.
     Refused(Fault),
     /// It may be accepted, and these are the events of its wagons.
@@ -30,7 +30,7 @@ pub enum Checked {
 
 /// Checks a message that is new: as a whole, each wagon that it names, and each intermodal unit that it loads. The first
 /// fault is the answer. The events by which wagons were checked are given out. `Memory` where memory is refused.
-pub fn check(alloc: Global, tables: &Tables, message: &Message) -> Result<Checked, Memory>
+pub(crate) fn check(alloc: Global, tables: &Tables, message: &Message) -> Result<Checked, Memory>
     requires { OpenIsOffered (table_state tables.now) }
     ensures { IfOk result (IsChecked (table_state tables.now) message.now) }
 {

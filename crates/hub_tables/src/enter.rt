@@ -1,15 +1,14 @@
 //! Entries and events that are put into tables.
-ghost use Rattle.std.specs.Prelude.{◌≡◌, ℕ, ◌≤◌, Some, OnErr, OnOk, fold, length, slice_get};
+ghost use Rattle.std.specs.Prelude.{◌≡◌, ℕ, ◌≤◌, Some, OnErr, OnOk, length, slice_get};
 ghost use Rattle.std.specs.Map.{keys_of, update_all};
 ghost use Rattle.indexmap.specs.IndexMap.{get, insert_all, spare};
 ghost use Rattle.journey.specs.TrackStates.{without_newest};
 ghost use Rattle.hub_tables.specs.TableStates.{AreJourneyEntries, events_in};
-ghost use Rattle.hub_tables.specs.Acceptance.{AreAdmitted, IsStateOf, MayComeNext, with_event_on, without_newest_of};
+ghost use Rattle.hub_tables.specs.Acceptance.{IsStateOf, MayComeNext, with_event_on, without_newest_of};
 
 use crate::next_events::EventAt;
 use crate::wagon::{Wagon, WagonState};
 use indexmap::IndexMap;
-use std::collections::VecDeque;
 use std::hash::Hash;
 use taf_codes::Memory;
 use wagon_number::WagonNumber;
@@ -50,43 +49,8 @@ pub(crate) fn add(wagons: &mut IndexMap<WagonNumber, Wagon>, next: EventAt) -> R
     }
 }
 
-/// Adds each event at the end of its wagon's journey, in turn. Where memory is refused, those that were added are taken back, so
-/// that all journeys are as they were.
-pub(crate) fn add_each(
-    wagons: &mut IndexMap<WagonNumber, Wagon>,
-    events: &mut VecDeque<EventAt>,
-) -> Result<(), Memory>
-    requires journeys { AreJourneyEntries wagons.old.entries }
-    requires admitted { AreAdmitted (keys_of wagons.old.entries) (events_in wagons.old.entries)
-        events.old.items }
-    ensures ok { OnOk result ((w : ℕ) → events_in wagons.new.entries w
-        ≡ fold with_event_on (events_in wagons.old.entries) events.old.items w) }
-    ensures err { OnErr result ((w : ℕ) → events_in wagons.new.entries w
-        ≡ events_in wagons.old.entries w) }
-    ensures keys { keys_of wagons.new.entries ≡ keys_of wagons.old.entries }
-    ensures journeys { AreJourneyEntries wagons.new.entries }
-{
-    let Some(next) = events.pop_front() else {
-        return Ok(());
-    };
-    if events.is_empty() {
-        return add(wagons, next);
-    }
-    let wagon = next.wagon;
-    let position = next.position;
-    let before = state_at(wagons, wagon, position);
-    add(wagons, next)?;
-    match add_each(wagons, events) {
-        Ok(()) => Ok(()),
-        Err(_) => {
-            take_back(wagons, wagon, position, before);
-            Err(Memory)
-        }
-    }
-}
-
-// What the wagon at a position keeps beside its events.
-fn state_at(
+/// What the wagon at a position keeps beside its events.
+pub(crate) fn state_at(
     wagons: &IndexMap<WagonNumber, Wagon>,
     wagon: WagonNumber,
     position: usize,
@@ -100,8 +64,8 @@ fn state_at(
     }
 }
 
-// Takes the newest event of the wagon at a position back, before which this was kept beside its events.
-fn take_back(
+/// Takes the newest event of the wagon at a position back, before which this was kept beside its events.
+pub(crate) fn take_back(
     wagons: &mut IndexMap<WagonNumber, Wagon>,
     wagon: WagonNumber,
     position: usize,

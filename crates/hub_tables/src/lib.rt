@@ -5,9 +5,10 @@
 //! the crate `hub_model` but for first sends and outboxes, which are kept elsewhere. Each look-up answers what the model's state
 //! says.
 //!
-//! [`check`] checks a new message by the tables. It asks first what may be wrong with the message as a whole, then each wagon that
-//! the message names, in the message's order, and then each intermodal unit that it loads. The first check that fails is the
-//! answer, with the wagon at which it failed. A message without a fault may be accepted.
+//! [`Tables::take`] checks a new message by the tables. It asks first what may be wrong with the message as a whole, then each
+//! wagon that the message names, in the message's order, and then each intermodal unit that it loads. The first check that fails is
+//! the answer, with the wagon at which it failed. A message without a fault may be accepted, and the journeys of its wagons go on by
+//! it at once, unless it is a plan, which begins them.
 //!
 //! | message | as a whole | each wagon |
 //! |---|---|---|
@@ -18,21 +19,28 @@
 //!
 //! The wagons of an answer or a withdrawal are offered, so their journeys admit it, and of these two only an answer can make an
 //! estimate pass the calendar. So one check serves every message that goes on with journeys (`both_asked` in `proofs/ContinuationLemmas.antt`).
-//! It looks each wagon up once, and makes its event once; these events are given out with the answer, so that the items are made
-//! of them and the tables take them.
+//! It looks each wagon up once, and makes its event once. The journeys go on by these events, each of which has its wagon's position
+//! in the fleet, so that no wagon is looked up again.
 //!
-//! [`Tables::accept`] takes a message that may be accepted (`IsAcceptable`), and what is known then is what `after_acceptance` of
-//! `hub_model` says. It is given the events of the message's wagons ([`NextEvents`]), each with its wagon's position in the fleet, so
-//! that no wagon is looked up again. First comes all that may be refused memory: copies of a plan, room in each table. Then come
-//! steps that cannot fail, or the events of journeys that go on, each of which leaves its journey as it was where it fails: the
-//! events that were added before it are then taken back. So where it answers [`Memory`](taf_codes::Memory), all is as it was.
+//! A list that the caller lends gets a [`Change`] for each wagon whose journey went on: its position, and what was kept beside its
+//! events before. So the items of the message are made by what was kept before and by what the tables say now. Then
+//! [`Tables::complete`] does what is left: it begins the journeys of a plan, which is then found by its consignment and by its units,
+//! and opens or closes an offer. What is known then is what `after_acceptance` of `hub_model` says. Where the message cannot be
+//! accepted after all, since memory is refused, [`Tables::take_back`] takes the changes back, and what is known is what was known
+//! before (`known_before`). It takes no memory.
+//!
+//! [`Tables::take`] and [`Tables::complete`] may be refused memory. In a plan and in an offer all that may be refused comes first:
+//! copies, and room in each table. Then come steps that cannot fail. Where a journey cannot go on for want of memory, those that
+//! went on before it are taken back. So where one of the two answers [`Memory`](taf_codes::Memory), all is as it was before the call.
 #![tactic(auto)]
 
 mod accept;
+mod changes;
 mod checked;
 mod enter;
 mod next_events;
 mod tables;
+mod taking;
 mod unit_checks;
 mod units;
 mod wagon;
@@ -40,9 +48,8 @@ mod wagon_checks;
 mod wagon_events;
 mod whole;
 
-pub use checked::{Checked, check};
-pub use next_events::{EventAt, NextEvents};
+pub use changes::Change;
 pub use tables::Tables;
 pub use units::units_in;
-pub use wagon::Wagon;
+pub use wagon::{Wagon, WagonState};
 pub use wagon_events::has;

@@ -4,7 +4,7 @@ use wagon_number::WagonNumber;
 
 /// An event of a wagon that was planned.
 #[derive(Drop)]
-pub struct EventAt {
+pub(crate) struct EventAt {
     pub wagon: WagonNumber,
     /// The wagon's position in the fleet, from 0, in the order of first plans.
     pub position: usize,
@@ -13,7 +13,7 @@ pub struct EventAt {
 
 /// The events of a message that may be accepted: one for each wagon whose journey goes on.
 #[derive(Drop)]
-pub enum NextEvents {
+pub(crate) enum NextEvents {
     /// The message plans its wagons, so their journeys begin.
     Planned,
     /// It names one wagon alone.

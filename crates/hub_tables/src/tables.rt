@@ -14,7 +14,7 @@ use taf_messages::MessageNumber;
 use trip_plan::Plan;
 use wagon_number::WagonNumber;
 
-/// What the hub looks up: wagons, plans and offers. All but [`Tables::accept`] take no memory.
+/// What the hub looks up: wagons, plans and offers. All but [`Tables::take`] and [`Tables::complete`] take no memory.
 #[derive(Drop)]
 pub struct Tables {
     /// In the order of their first plans.

@@ -1,9 +1,10 @@
-ghost use Rattle.std.specs.Prelude.{◌≡◌, [], ◌∷◌, ◌++◌, true, None, IfOk, OnOk, OnErr};
+ghost use Rattle.std.specs.Prelude.{◌≡◌, ◌<◌, List, [], ◌∷◌, ◌++◌, length, true, None, IfOk, OnOk, OnErr};
 ghost use Rattle.journey.specs.Stages.{is_plan};
 ghost use Rattle.journey.specs.Checks.{refusal};
 ghost use Rattle.journey.specs.Journey.{after};
 ghost use Rattle.journey.specs.TrackStates.{without_newest};
-ghost use Rattle.eti_chain.specs.Estimates.{fits};
+ghost use Rattle.eti_chain.specs.Estimates.{basis_from, fits, fits_in};
+ghost use Rattle.journey.specs.declared.event.Event.{Event};
 ghost use Rattle.eti_chain.specs.EstimateStates.{estimate_anchor, estimates_state};
 ghost use Rattle.hub_model.specs.Units.{is_on_plan};
 ghost use Rattle.hub_tables.specs.Acceptance.{IsStateOf};
@@ -114,7 +115,21 @@ impl Wagon {
 
 /// What a wagon keeps beside the events of its journey.
 #[derive(Drop)]
-pub(crate) struct WagonState {
-    journey_state: JourneyState,
-    kept: EstimateAnchor,
+pub struct WagonState {
+    /// What the events come to.
+    pub journey_state: JourneyState,
+    pub(crate) kept: EstimateAnchor,
+}
+
+impl WagonState {
+    /// When the wagon was expected.
+    pub fn estimates(&self) -> Estimates<'_>
+        requires on_a_leg { self.now.journey_state.leg_index < length self.now.journey_state.legs }
+        requires fits { fits_in (basis_from self.now.journey_state.leg_index
+            self.now.journey_state.legs self.now.kept.newest) ≡ true }
+        ensures { (events : List Event) → IsStateOf events self.now → result
+            ≡ estimates_state events }
+    {
+        self.kept.estimates_by(&self.journey_state)
+    }
 }
