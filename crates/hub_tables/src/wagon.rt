@@ -1,7 +1,6 @@
 ghost use Rattle.std.specs.Prelude.{◌≡◌, ◌<◌, List, [], ◌∷◌, ◌++◌, length, true, None, IfOk, OnOk, OnErr};
 ghost use Rattle.journey.specs.Stages.{is_plan};
 ghost use Rattle.journey.specs.Checks.{refusal};
-ghost use Rattle.journey.specs.Journey.{after};
 ghost use Rattle.journey.specs.TrackStates.{without_newest};
 ghost use Rattle.eti_chain.specs.Estimates.{basis_from, fits, fits_in};
 ghost use Rattle.journey.specs.declared.event.Event.{Event};
@@ -10,7 +9,7 @@ ghost use Rattle.hub_model.specs.Units.{is_on_plan};
 ghost use Rattle.hub_tables.specs.Acceptance.{IsStateOf};
 
 use eti_chain::{EstimateAnchor, Estimates};
-use journey::{Event, JourneyState, Track, Transition};
+use journey::{Event, JourneyState, Track};
 use std::alloc::Global;
 use std::marker::Model;
 use taf_codes::Memory;
@@ -64,15 +63,6 @@ impl Wagon {
         ensures { result ≡ estimates_state self.now.events }
     {
         self.kept.estimates(&self.track)
-    }
-
-    /// What is kept for the estimates after a transition of the journey, with which no estimate passes the calendar.
-    pub fn anchor_after(&self, transition: &Transition<'_>) -> EstimateAnchor
-        requires before { transition.now.before ≡ self.now.events }
-        requires fits { fits (after transition.now) ≡ true }
-        ensures { result ≡ estimate_anchor (after transition.now) }
-    {
-        self.kept.followed(transition)
     }
 
     /// Whether the journey begins with this plan; a consignment has one accepted plan.
