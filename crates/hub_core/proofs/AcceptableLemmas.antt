@@ -1,5 +1,5 @@
 -- A new message without a fault may be accepted.
-use Rattle.hub_core.proofs.Common.{◌≡◌, ℕ, ◌<◌, true, length, List, [], ◌∷◌, ◌++◌, Option, None, ap, ◌∙◌, sym, subst, Railway, Send, Message, Accepted, fits, OutboxState, Entry, moment_in, HubState, fault, after_acceptance, with_first_send, answer, state_of, IsMoment, EstimatesFit, AlwaysInOrder, OpenIsOffered, one_more_entry, state_of-push, IsAcceptable, Represents, KeepsLimits}
+use Rattle.hub_core.proofs.Common.{◌≡◌, ℕ, ◌<◌, true, length, List, [], ◌∷◌, ◌++◌, Option, None, ap, ◌∙◌, sym, subst, Railway, Send, Message, Accepted, fits, OutboxState, Entry, moment_in, HubState, fault, after_acceptance, with_first_send, answer, state_of, IsMoment, EstimatesFit, AlwaysInOrder, OpenIsOffered, one_more_entry, state_of-push, IsAcceptable, table_state, position_of, outbox_state_of, Represents, KeepsLimits, State, MayTake, IsNew}
 use Rattle.hub_core.proofs.HistoryLemmas.{each_more}
 use Rattle.hub_core.proofs.SendLemmas.{new_answer, new_name, after_it}
 
@@ -28,3 +28,8 @@ module _ (fit : EstimatesFit) (order : AlwaysInOrder) (history : List Entry) (m 
     fits_after = λ w. subst (λ (t : HubState). fits (t.journey w) ≡ true) stands (fit (history ++ e ∷ []) (one_more_entry history (Send m) kept.legal) (each_more (λ k. IsMoment (moment_in k.body)) history e kept.dated limits.0) w);
     new_name = kept.offers m.by m.no (new_name history m looked_up position box kept room limits new);
   })
+
+-- so may one that is new to a hub that may take it
+pub acceptable_there : (fit : EstimatesFit) (order : AlwaysInOrder) (b : State) (m : Message) → MayTake b → IsNew b m → fault (table_state b.tables) m ≡ None → IsAcceptable (table_state b.tables) m
+acceptable_there fit order b m ready fresh sound =
+    acceptable fit order b.history.entries m (table_state b.tables) (position_of b.seen) (outbox_state_of b.outboxes) ready.0 ready.1 fresh.1 fresh.0 sound

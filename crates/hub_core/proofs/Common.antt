@@ -2,10 +2,11 @@
 pub use Rattle.std.specs.Option.{option_or}
 pub use Rattle.std.specs.Prelude.{Result, Ok, Err, IsOk, IfOk, IfErr, OnOk, OnErr, ◌↔◌, max, bytes_eq, filter, map, is_some, if◌then◌else◌}
 pub use Rattle.std.specs.Vec.Iter.{drain_items}
-pub use Rattle.std.proofs.Common.{◌≡◌, ℕ, ◌<◌, Bool, true, false, cond, length, List, [], ◌∷◌, ◌++◌, Option, Some, None, refl, ap, ◌∙◌, sym, subst, ◌≤◌, leb, inl, inr, ◌+◌, ◌-◌, arith, append_assoc, append-nil, ◌^◌, rules, suc, take, vec_len, vec_capacity}
+pub use Rattle.std.proofs.Common.{◌≡◌, ℕ, ◌<◌, Bool, true, false, cond, length, List, [], ◌∷◌, ◌++◌, Option, Some, None, refl, ap, ◌∙◌, sym, subst, ◌≤◌, leb, inl, inr, ◌+◌, ◌-◌, arith, append_assoc, append-nil, ◌^◌, rules, suc, take, slice_get, vec_len, vec_capacity}
 pub use Rattle.std.proofs.Math.Seq.{take-suc}
 pub use Rattle.std.proofs.lemmas.Bool.{le-ltb, lt-ltb, leb-true, leb-false, cases_Bool, false≢true}
 pub use Rattle.std.proofs.lemmas.List.{length-append}
+pub use Rattle.std.proofs.lemmas.List.Elements.{All-weaker}
 pub use Rattle.std.proofs.lemmas.Option.{slice_get_within}
 pub use Rattle.taf_codes.specs.Equality.{texts}
 pub use Rattle.taf_codes.specs.declared.code.Railway.{Railway}
@@ -33,6 +34,7 @@ pub use Rattle.outbox.proofs.NumberLemmas.{first_items-kept}
 pub use Rattle.interchange.specs.Offers.{wagons_of, place_of}
 pub use Rattle.journey.specs.Checks.{refusal}
 pub use Rattle.journey.specs.Stages.{stage}
+pub use Rattle.journey.specs.TrackStates.{without_newest}
 pub use Rattle.journey.specs.declared.event.Event.{Event}
 pub use Rattle.journey.specs.declared.event.EventBody.TheVariants.{Answered, Withdrawn}
 pub use Rattle.eti_chain.specs.Estimates.{fits}
@@ -52,9 +54,11 @@ pub use Rattle.hub_model.specs.declared.fault.Fault.{Fault}
 pub use Rattle.hub_model.proofs.HistoryLemmas.{one_more_entry}
 pub use Rattle.hub_model.proofs.NoFaultLemmas.{GoesOn, no_known_fault, no_whole_fault, known_allowed, answer_fits, withdraw_fits, listed}
 pub use Rattle.hub_model.proofs.StepLemmas.{state_of-push}
-pub use Rattle.hub_tables.specs.TableStates.{continues_journeys, IsAcceptable, table_part, TableEntries, table_state, AreNextEvents}
-pub use Rattle.hub_tables.specs.Checked.{IsChecked}
-pub use Rattle.hub_tables.specs.declared.checked.Checked.{Checked}
+pub use Rattle.hub_tables.specs.Acceptance.{IsStateOf}
+pub use Rattle.hub_tables.specs.Changes.{AreChanges, IsChange, IsTaken, changed, known_before}
+pub use Rattle.hub_tables.specs.TableStates.{continues_journeys, IsAcceptable, table_part, TableEntries, table_state}
+pub use Rattle.hub_tables.specs.declared.changes.Change.{Change}
 pub use Rattle.hub_core.specs.Apart.{are_apart}
 pub use Rattle.hub_core.specs.Delivery.{AreReady}
-pub use Rattle.hub_core.specs.States.{Represents, KeepsLimits, ack_outcome_reply, LeadsTo, OffersWereSent, entry_of}
+pub use Rattle.hub_core.specs.States.{Represents, KeepsLimits, MayTake, IsNew, known_before_changes, ack_outcome_reply, LeadsTo, OffersWereSent, entry_of}
+pub use Rattle.hub_core.specs.declared.state.State.{State}

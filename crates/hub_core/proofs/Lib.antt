@@ -4,3 +4,4 @@ pub mod AcknowledgementLemmas
 pub mod SendLemmas
 pub mod DeliveryLemmas
 pub mod AcceptableLemmas
+pub mod ChangeLemmas

@@ -20,6 +20,7 @@ use Rattle.hub_model.specs.Histories.{state_of, IsLegal, answer}
 use Rattle.hub_model.specs.Laws.{AreDated, IsMoment}
 use Rattle.hub_model.specs.Bounds.{AreWithinLimits, IsWithinLimits}
 use Rattle.hub_tables.specs.TableStates.{table_state, table_part}
+use Rattle.hub_tables.specs.Changes.{known_before}
 use Rattle.hub_core.specs.declared.state.State.{State}
 
 -- the entry of a send
@@ -58,6 +59,14 @@ IsConsistent b = Represents b.history.entries (table_state b.tables) (position_o
 -- a call may be taken: the state is consistent, and its history has room for one entry more
 abbrev pub MayTake : State → Type 0
 MayTake b = IsConsistent b × (length b.history.entries < 1000000)
+
+-- what was looked up before the changes of journeys that the state has in its list
+abbrev pub known_before_changes : State → HubState
+known_before_changes b = known_before b.tables b.changes.items
+
+-- a message may be accepted: before these changes the state was consistent, and its history has room for one entry more
+abbrev pub MayAccept : State → Type 0
+MayAccept b = Represents b.history.entries (known_before_changes b) (position_of b.seen) (outbox_state_of b.outboxes) × (length b.history.entries < 1000000)
 
 -- the name of the message was not used before, the message keeps the limits of its parts, and there is room to note the name
 abbrev pub IsNew : State → Message → Type 0

@@ -9,14 +9,15 @@
 //! *consistent*: the history is legal, and each part answers as the model does after it (`specs/States.antt`). No function
 //! looks through the history, so a call takes no longer when it is long.
 //!
-//! A message that is new is checked first. Of each wagon whose journey goes on with it, the event is made once: the check asks
-//! about it, the items are made of it, and the tables take it.
+//! A message that is new is checked once there is room for its name, and unless it has a fault the journeys of its wagons go on
+//! by it at once. A list of changes gets what was kept of these journeys before: the items are made by it, and the journeys can
+//! be taken back.
 //!
-//! A message is taken in two steps. First comes all that may be refused memory: the items, their places in the outboxes,
-//! room in the history and among the names, and the tables' own step, which is all or nothing. Then come steps that
-//! cannot fail. So there is no half-taken message. Its items are put into a list that the state keeps from message to
-//! message, and move on from it into the outboxes: so the list mostly takes no memory. What it has between calls means
-//! nothing.
+//! The message is then accepted in two steps. First comes all that may be refused memory: the items, their places in the
+//! outboxes, room in the history, and what else the tables change, which is all or nothing. Where memory is refused, the
+//! journeys are taken back, which takes none. Then come steps that cannot fail. So there is no half-taken message. Its changes
+//! and items are put into lists that the state keeps from message to message, and the items move on from theirs into the
+//! outboxes: so these lists mostly take no memory. What they have between calls means nothing.
 //!
 //! | part | what it does |
 //! |---|---|

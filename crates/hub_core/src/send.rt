@@ -11,7 +11,6 @@ use crate::refusals::refuse;
 use crate::repeats::apply_repeat;
 use crate::state::State;
 use hub_model::{estimates_fit, offers_are_in_order};
-use hub_tables::{Checked, check};
 use std::alloc::Global;
 use taf_codes::Memory;
 use taf_messages::{Body, Message, Reply, Shared};
@@ -51,9 +50,9 @@ fn apply_new(alloc: Global, state: &mut State, message: Shared<Message>) -> Resu
 {
     estimates_fit();
     offers_are_in_order();
-    match check(alloc, &state.tables, message.get())? {
-        Checked::Refused(found) => refuse(alloc, state, message, found),
-        Checked::Accepted(events) => accept(alloc, state, message, events),
+    match state.tables.take(alloc, message.get(), &mut state.changes)? {
+        None => accept(alloc, state, message),
+        Some(found) => refuse(alloc, state, message, found),
     }
 }
 

@@ -7,7 +7,7 @@ ghost use Rattle.hub_core.specs.States.{Applies, IsConsistent, KeepsLimits, MayT
 
 use history_pages::Pages;
 use hub_model::{AddressedItem, Entry};
-use hub_tables::Tables;
+use hub_tables::{Change, Tables};
 use outbox::Outboxes;
 use replay_numbers::Seen;
 use std::alloc::Global;
@@ -21,8 +21,9 @@ pub(crate) struct State {
     pub tables: Tables,
     pub seen: Seen,
     pub outboxes: Outboxes,
-    // The items of the message that is being taken, and the places of their boxes. Between calls they mean nothing, and only the
-    // memory of the lists is kept.
+    // Of the message that is being taken: the changes of journeys, the items, and the places of their boxes. Between calls they
+    // mean nothing, and only the memory of the lists is kept.
+    pub changes: Vec<Change>,
     pub items: Vec<AddressedItem>,
     pub places: Vec<usize>,
 }
@@ -38,6 +39,7 @@ impl State {
             tables: Tables::new(alloc),
             seen: Seen::new(alloc),
             outboxes: Outboxes::new(alloc),
+            changes: Vec::new(alloc),
             items: Vec::new(alloc),
             places: Vec::new(alloc),
         }
