@@ -22,7 +22,7 @@ use taf_codes::Memory;
 use taf_messages::{Message, Reply, Shared};
 
 // After so many calls the allocator is asked ahead for what the next ones take.
-const CALLS_ASKED_FOR: usize = 256;
+const CALLS_ASKED_FOR: usize = 4096;
 
 // Makes room for one entry more and for the items in the list. Nothing that is looked up changes.
 fn make_room(state: &mut State) -> Result<(), Memory>

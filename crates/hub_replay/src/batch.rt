@@ -11,7 +11,7 @@ use std::mem::replace;
 use taf_codes::Memory;
 
 // After so many lines the allocator is asked ahead for what the next ones take.
-const LINES_ASKED_FOR: usize = 1024;
+const LINES_ASKED_FOR: usize = 8192;
 
 /// What lines in a row say, and where the last of them ends.
 #[derive(Drop)]

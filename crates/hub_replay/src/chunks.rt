@@ -20,7 +20,7 @@ use std::thread::Threads;
 use taf_codes::Sink;
 
 // How many bytes of lines are parsed before the first is answered.
-const FIRST_BATCH: usize = 16_384;
+const FIRST_BATCH: usize = 65_536;
 
 // How many bytes of lines are parsed at once at most.
 const MAX_BATCH: usize = 1_048_576;

@@ -6,7 +6,7 @@
 //! `call_lines`.
 //!
 //! Lines are parsed in batches: while those of a batch are answered, a thread of its own parses those of the next, where the
-//! reader gave as many. Of what was read at once the first batch has about 16,384 bytes, and each other half as many
+//! reader gave as many. Of what was read at once the first batch has about 65,536 bytes, and each other half as many
 //! more than the one before, up to 1,048,576. The hub is called by the one thread that calls [`run`], in the order of the lines.
 //!
 //! Of the input no more than 2,162,688 bytes are held at once, beside what the lines of two batches say, and of the output

@@ -1,6 +1,7 @@
--- Digits that were written from their end backwards stand where they had to begin.
-use Rattle.json_tokens.proofs.Common.{◌≡◌, ℕ, ◌+◌, ◌≤◌, List, ◌++◌, length, take, drop, sym, ap, subst, ◌∙◌, arith, append_assoc, length-append, length-drop, length-take-le, take-append-drop, take-append_seam, Placed}
+-- Digits of numbers: where they stand, and how many there are.
+use Rattle.json_tokens.proofs.Common.{◌≡◌, ℕ, ◌+◌, ◌≤◌, ◌<◌, ◌^◌, decimal, length-decimal-le, List, ◌++◌, length, take, drop, sym, ap, subst, ◌∙◌, arith, append_assoc, length-append, length-drop, length-take-le, take-append-drop, take-append_seam, Placed}
 
+-- digits that were written from their end backwards stand where they had to begin
 pub placed_from_end : (old new text : List ℕ) (at start : ℕ) → at + length text ≤ length old → start + length text ≡ at + length text → take start new ≡ take start old → drop start new ≡ text ++ drop (at + length text) old → Placed old new at text (at + length text)
 placed_from_end old new text at start fits is before written =
     let same : start ≡ at = omega (arith, is) in
@@ -18,3 +19,7 @@ placed_from_end old new text at start fits is before written =
       moved = omega arith;
       len = ap length whole ∙ omega (arith, fits, length-append front rest, long, length-drop (at + length text) old);
     }
+
+-- a number of 64 bits has twenty digits at most
+pub twenty_digits : (n : ℕ) → n < 2 ^ 64 → length (decimal n) ≤ 20
+twenty_digits n fits = length-decimal-le 20 n (omega arith) (omega arith) (omega arith)

@@ -139,17 +139,19 @@ impl Buffer {
         self.len = place(buf, at, last);
     }
 
-    /// Adds a comma, if one is wanted, and the digits of a number below 10,000 behind it.
+    /// Adds a comma, if one is wanted, and behind it a text, the digits of a number, and another text.
     #[inline(always)]
-    pub fn put_short(&mut self, comma: bool, number: u64)
-        requires small { number < 10000 }
-        requires room { 5 ≤ self.old.ready }
+    pub fn put_number(&mut self, comma: bool, first: &[u8], number: u64, last: &[u8])
+        requires { length first.now + length (decimal number) + length last.now + 1
+            ≤ self.old.ready }
         ensures { self.new.items ≡ self.old.items
-            ++ (cond comma (44 ∷ []) [] ++ decimal number) }
+            ++ (cond comma (44 ∷ []) [] ++ (first.now ++ (decimal number ++ last.now))) }
     {
         let buf = self.bytes.as_mut_slice();
         let at = place_comma(buf, self.len, comma);
-        self.len = place_short(buf, at, number);
+        let at = place(buf, at, first);
+        let at = place_number(buf, at, number);
+        self.len = place(buf, at, last);
     }
 }
 
@@ -202,11 +204,10 @@ fn place(buf: &mut [u8], at: usize, text: &[u8]) -> usize
     }
 }
 
-// The digits of a number below 10,000.
+// The digits of a number, each stored at its place.
 #[inline(always)]
-fn place_short(buf: &mut [u8], at: usize, number: u64) -> usize
-    requires small { number < 10000 }
-    requires room { at + 4 ≤ length buf.old }
+fn place_number(buf: &mut [u8], at: usize, number: u64) -> usize
+    requires { at + length (decimal number) ≤ length buf.old }
     ensures { Placed buf.old buf.new at (decimal number) result }
 {
     let end = at + digit_count(number);
@@ -214,12 +215,25 @@ fn place_short(buf: &mut [u8], at: usize, number: u64) -> usize
     end
 }
 
-// How many digits a number below 10,000 has.
+// How many digits a number has.
 #[inline(always)]
 fn digit_count(number: u64) -> usize
-    requires small { number < 10000 }
-    ensures count { result ≡ length (decimal number) }
-    ensures few { result ≤ 4 }
+    ensures { result ≡ length (decimal number) }
+{
+    let mut left = number;
+    let mut count = 0;
+    while left >= 10_000 {
+        left /= 10_000;
+        count += 4;
+    }
+    count + short_digit_count(left)
+}
+
+// How many digits a number below 10,000 has.
+#[inline(always)]
+fn short_digit_count(number: u64) -> usize
+    requires { number < 10000 }
+    ensures { result ≡ length (decimal number) }
 {
     match number {
         0..=9 => 1,

@@ -2,7 +2,7 @@
 //!
 //! Such a record is read by a scan of its bytes (`scan.rt`), if it is in the form in which it is written. Any other, as one
 //! with blanks or escapes, is read by its tape.
-ghost use Rattle.std.specs.Prelude.{◌≡◌, true, Some, IfOk, option_map};
+ghost use Rattle.std.specs.Prelude.{◌≡◌, true, Some, IfOk, option_map, bytes_eq};
 ghost use Rattle.serde_json.specs.Read.{read as read_text};
 ghost use Rattle.serde_json.specs.Find.{get};
 ghost use Rattle.json_tokens.specs.Flat.{flat_data, last_under, scalar_data};
@@ -61,9 +61,17 @@ fn last_of<'a>(members: &[(&'a str, Scalar<'a>)], name: &str) -> Option<Scalar<'
 {
     for i in (0..members.len()).rev() {
         let (key, value) = members[i];
-        if key == name {
+        if is_same(key, name) {
             return Some(value);
         }
     }
     None
+}
+
+// Whether both texts are the same. Their lengths, which mostly differ, are compared first.
+#[inline(always)]
+fn is_same(key: &str, name: &str) -> bool
+    ensures { result ≡ bytes_eq key.now name.now }
+{
+    key.len() == name.len() && key == name
 }

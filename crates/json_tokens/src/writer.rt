@@ -11,8 +11,8 @@ use json::Token;
 use std::alloc::AllocError;
 use std::marker::Model;
 
-// Numbers below this have four digits at most.
-const SHORT: u64 = 10_000;
+// The most digits that a number has.
+const MAX_DIGITS: usize = 20;
 
 /// Appends JSON to a buffer, a token at a time. Each text is plain, so it stands there as it is, and each number is a whole
 /// one of 64 bits, so a reader of such numbers finds the same one.
@@ -85,18 +85,6 @@ impl Writer {
         }
     }
 
-    // Appends a number of four digits at most, as most are.
-    #[inline(always)]
-    fn add_short(&mut self, number: u64) -> Result<(), AllocError>
-        requires { number < 10000 }
-        ensures { Writes result self.old self.new (token.number (decimal number)) }
-    {
-        self.out.reserve(5)?;
-        self.out.put_short(self.after_value, number);
-        self.after_value = true;
-        Ok(())
-    }
-
     #[inline(always)]
     pub fn begin_object(&mut self) -> Result<(), AllocError>
         ensures { Writes result self.old self.new token.begin_object }
@@ -145,12 +133,10 @@ impl Writer {
     pub fn u64(&mut self, number: u64) -> Result<(), AllocError>
         ensures { Writes result self.old self.new (token.number (decimal number)) }
     {
-        if number < SHORT {
-            return self.add_short(number);
-        }
-        let mut buffer = itoa::Buffer::new();
-        let text = buffer.format(number);
-        self.add(Token::Number(text), b"", text.as_bytes(), b"")
+        self.out.reserve(MAX_DIGITS + 1)?;
+        self.out.put_number(self.after_value, b"", number, b"");
+        self.after_value = true;
+        Ok(())
     }
 
     #[inline(always)]

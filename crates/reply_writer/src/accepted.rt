@@ -5,7 +5,6 @@ ghost use Rattle.serde_json.specs.Written.{compact_text};
 ghost use Rattle.reply_writer.specs.ReplyShapes.{reply_data};
 ghost use Rattle.taf_messages.specs.declared.reply.Reply.TheVariants.{Accepted};
 
-use itoa::write_digits;
 use json_tokens::Buffer;
 use taf_codes::Memory;
 use taf_messages::MessageNumber;
@@ -27,9 +26,7 @@ pub(crate) fn append_accepted(out: &mut Buffer, no: MessageNumber) -> Result<(),
         ≡ Some (reply_data (Accepted no))) }
     ensures err { OnErr result (out.new.items ≡ out.old.items) }
 {
-    let mut digits = [0; MAX_DIGITS];
-    let start = write_digits(no.get(), &mut digits, MAX_DIGITS);
     out.reserve(FRONT.len() + MAX_DIGITS + BACK.len() + 1)?;
-    out.put(false, FRONT, &digits[start..], BACK);
+    out.put_number(false, FRONT, no.get(), BACK);
     Ok(())
 }

@@ -1,22 +1,13 @@
-use Rattle.json_tokens.proofs.Common.{◌/◌, ◌≤◌, sym, arith}
-use Rattle.itoa.proofs.Decimal.{length_one, length_two, length_pair}
+use Rattle.json_tokens.proofs.Common.{arith}
+use Rattle.itoa.proofs.Decimal.{length_four}
+use Rattle.json_tokens.proofs.DigitLemmas.{twenty_digits}
 use Rattle.json_tokens.proofs.buffer.digit_count.Goals as goal
 
-pub returns-in-0-to-9-clause-count : goal.returns-in-0-to-9-clause-count
-returns-in-0-to-9-clause-count c = sym (length_one c.args.number (omega (arith, c.in-0-to-9)))
+pub loop-left-preserved : goal.loop-left-preserved
+loop-left-preserved c = omega (arith, c.loop-left.invariant, length_four c.loop-left.left c.loop-left-test.true c.loop-left.auto.left-fits.fits)
 
-pub returns-in-10-to-99-clause-count : goal.returns-in-10-to-99-clause-count
-returns-in-10-to-99-clause-count c =
-    sym (length_two c.args.number (omega (arith, c.in-10-to-99)) (omega (arith, c.in-10-to-99)))
+pub overflow_add-count : goal.overflow_add-count
+overflow_add-count c = omega (arith, c.loop-left.invariant, twenty_digits c.args.number c.ranges.number.fits)
 
-pub returns-in-100-to-999-clause-count : goal.returns-in-100-to-999-clause-count
-returns-in-100-to-999-clause-count c =
-    let n = c.args.number in
-    omega (arith, length_pair n (omega (arith, c.in-100-to-999)) c.ranges.number.fits, length_one (n / 100) (omega (arith, c.in-100-to-999)))
-
-pub returns-in_default-clause-count : goal.returns-in_default-clause-count
-returns-in_default-clause-count c =
-    let n = c.args.number in
-    let long : 1000 ≤ n = omega (arith, c.in_default) in
-    let small = c.requires.small in
-    omega (arith, length_pair n (omega arith) c.ranges.number.fits, length_two (n / 100) (omega arith) (omega arith))
+pub overflow_add-result : goal.overflow_add-result
+overflow_add-result c = omega (arith, c.loop-left.invariant, c.short_digit_count.ensures, twenty_digits c.args.number c.ranges.number.fits)
