@@ -1,5 +1,5 @@
 -- What the checks of a message's wagons and units come to.
-use Rattle.hub_tables.proofs.Common.{◌≡◌, ℕ, Bool, true, false, cond, List, [], ◌∷◌, Option, Some, None, refl, sym, ap, ◌∙◌, true≢false, option_map, option_or, find, UnitLoad, Message, Body, Why, WagonBusy, is_busy, Fault, HubState, named_wagons, units_in, whole_fault, wagon_fault, first_fault, unit_fault, fault, continues_journeys, named_alone, Trip, EventAt, ◌+◌, ◌<◌, ◌++◌, length, map, take, get_or, map-append, take_more}
+use Rattle.hub_tables.proofs.Common.{◌≡◌, ℕ, Bool, true, false, cond, List, [], ◌∷◌, Option, Some, None, refl, sym, ap, ◌∙◌, true≢false, option_map, option_or, find, UnitLoad, Message, Body, Why, WagonBusy, is_busy, Fault, HubState, named_wagons, units_in, whole_fault, wagon_fault, first_fault, unit_fault, fault, continues_journeys, named_alone, Trip}
 use Rattle.hub_tables.proofs.AloneLemmas.{alone_named}
 use Rattle.taf_messages.specs.declared.message.Body.TheVariants as body
 
@@ -57,9 +57,3 @@ found_later test v w ws is fails = ap (λ u. find test (u ∷ ws)) (sym is) ∙ 
 pub none_first : {A : Type 0} (first second : Option A) → option_or first second ≡ None → first ≡ None
 none_first None second h = refl
 none_first (Some x) second h = h
-
--- the wagons of events, with one event more
-pub wagons_more : (es now : List EventAt) (e : EventAt) (ws : List ℕ) (i : ℕ) (w : ℕ) → now ≡ es ++ e ∷ [] → e.wagon ≡ w → map (λ x. x.wagon) es ≡ take i ws → i < length ws → w ≡ get_or ws i w → map (λ x. x.wagon) now ≡ take (i + 1) ws
-wagons_more es now e ws i w put is so_far within item =
-    ap (map (λ x. x.wagon)) put ∙ map-append (λ x. x.wagon) es (e ∷ []) ∙ ap (λ (us : List ℕ). us ++ e.wagon ∷ []) so_far ∙
-    ap (λ v. take i ws ++ v ∷ []) (is ∙ item) ∙ sym (take_more ws i w within)

@@ -4,7 +4,7 @@ pub mod AloneLemmas
 pub mod DifferLemmas
 pub mod NextEventLemmas
 pub mod ChangeLemmas
-pub mod TakingLemmas
+pub mod GoingOnLemmas
 pub mod FleetLemmas
 pub mod NewJourneyLemmas
 pub mod AcceptanceLemmas

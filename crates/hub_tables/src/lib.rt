@@ -36,9 +36,8 @@
 
 mod accept;
 mod changes;
-mod checked;
 mod enter;
-mod next_events;
+mod going_on;
 mod tables;
 mod taking;
 mod unit_checks;

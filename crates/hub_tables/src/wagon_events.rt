@@ -39,10 +39,10 @@ fn both(
 
 impl Tables {
     /// The wagons that a message names, in its order: those of an answer are the received and then the refused ones, and
-    /// those of a withdrawal are the wagons of its offer. Only those of an answer take memory, and `Memory` where it is
-    /// refused.
+    /// those of a withdrawal are the wagons of its offer. Those of these two are copies, and `Memory` where it is refused for
+    /// them. No others take memory.
     pub(crate) fn named_wagons<'a>(
-        &'a self,
+        &self,
         alloc: Global,
         message: &'a Message,
     ) -> Result<CowSlice<'a, WagonNumber>, Memory>
@@ -61,7 +61,10 @@ impl Tables {
                 let wagons = both(alloc, answer.received.as_slice(), answer.refused.as_slice())?;
                 return Ok(CowSlice::Owned(wagons));
             }
-            Body::Withdraw { offer, .. } => self.offered_wagons(message.by(), *offer),
+            Body::Withdraw { offer, .. } => {
+                let wagons = Vec::from_slice(alloc, self.offered_wagons(message.by(), *offer))?;
+                return Ok(CowSlice::Owned(wagons));
+            }
         };
         Ok(CowSlice::Borrowed(wagons))
     }
