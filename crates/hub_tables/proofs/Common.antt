@@ -45,7 +45,7 @@ pub use Rattle.journey.specs.declared.event.EventBody.{EventBody}
 pub use Rattle.eti_chain.specs.EstimateStates.{EstimateAnchor, estimate_anchor}
 pub use Rattle.eti_chain.specs.Estimates.{fits, is_calendar_checked}
 pub use Rattle.hub_model.proofs.FleetLemmas.{two_sieves}
-pub use Rattle.hub_model.proofs.NoFaultLemmas.{no_whole_fault, answer_fits, planned_anew, goes_on, known_allowed, listed, withdraw_fits}
+pub use Rattle.hub_model.proofs.NoFaultLemmas.{or_none_left, answer_fits, planned_anew, goes_on, known_allowed, listed, withdraw_fits}
 pub use Rattle.hub_model.proofs.SoundnessLemmas.{answered_known}
 pub use Rattle.hub_model.specs.Faults.{fault, whole_fault, is_unknown, known_fault, is_busy, calendar_fault, wagon_fault, first_fault, unit_fault}
 pub use Rattle.hub_model.specs.HubState.{HubState, new_state, named_wagons, wagons_in, Offers, event_body_for, event_for, with_event, journey_after}

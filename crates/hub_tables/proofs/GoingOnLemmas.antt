@@ -1,7 +1,7 @@
 -- Journeys that go on by a message, one after another.
-use Rattle.hub_tables.proofs.Common.{◌≡◌, ℕ, ◌+◌, ◌<◌, ◌≤◌, ◌==◌, ◌||◌, Bool, true, false, if◌then◌else◌, List, [], ◌∷◌, ◌++◌, Option, Some, None, refl, sym, ap, subst, ◌∙◌, true≢false, inl, inr, bytes_eq, lookup, keys_of, slice_get, or_cases, or_right, eqb-true, numbers, All, All-head, All-tail, All-cons, All-nil, All-push, has, all_differ, Message, Body, Event, without_newest, without_newest-push, offer_of, is_standing, HubState, new_state, named_wagons, event_for, journey_after, with_event, whole_fault, first_fault, fault, Fault, TableEntries, table_state, events_in, continues_journeys, IsStateOf, with_event_of, Change, continued_in, changed, known_before, IsChange, AreChanges, HasGoneOn, IsTaken, wagon_refusal, Passes, IsKept, after_each, HaveGoneOn, GoesOn, Why, fits, length, take, drop, get_or, take_all, take_more, take-append-drop, at_drop_all, at_drop_more, option_or, option_map}
+use Rattle.hub_tables.proofs.Common.{or_none_left, ◌≡◌, ℕ, ◌+◌, ◌<◌, ◌≤◌, ◌==◌, ◌||◌, Bool, true, false, if◌then◌else◌, List, [], ◌∷◌, ◌++◌, Option, Some, None, refl, sym, ap, subst, ◌∙◌, true≢false, inl, inr, bytes_eq, lookup, keys_of, slice_get, or_cases, or_right, eqb-true, numbers, All, All-head, All-tail, All-cons, All-nil, All-push, has, all_differ, Message, Body, Event, without_newest, without_newest-push, offer_of, is_standing, HubState, new_state, named_wagons, event_for, journey_after, with_event, whole_fault, first_fault, fault, Fault, TableEntries, table_state, events_in, continues_journeys, IsStateOf, with_event_of, Change, continued_in, changed, known_before, IsChange, AreChanges, HasGoneOn, IsTaken, wagon_refusal, Passes, IsKept, after_each, HaveGoneOn, GoesOn, Why, fits, length, take, drop, get_or, take_all, take_more, take-append-drop, at_drop_all, at_drop_more, option_or, option_map}
 use Rattle.taf_messages.specs.declared.message.Body.TheVariants as body
-use Rattle.hub_tables.proofs.CheckLemmas.{none_first, at_wagon, each_fault}
+use Rattle.hub_tables.proofs.CheckLemmas.{at_wagon, each_fault}
 use Rattle.hub_tables.proofs.ContinuationLemmas.{both_asked}
 use Rattle.hub_tables.proofs.ChangeLemmas.{changed_more}
 use Rattle.hub_tables.proofs.DifferLemmas.{or_false, has_last, named_apart, differ_first, next_differs}
@@ -22,7 +22,7 @@ same_but_journeys t u f g journeys keys plans units offers =
 
 -- the message comes last in the journey of a wagon that passes its checks
 passed_last : (s : HubState) (m : Message) (w : ℕ) → Passes s m w → journey_after s m w ≡ s.journey w ++ event_for s.offer m w ∷ []
-passed_last s m w p = comes_last s m w p.is_named (none_first _ _ p.admits)
+passed_last s m w p = comes_last s m w p.is_named (or_none_left _ _ p.admits)
 
 -- an event at the end of one journey is the message in it
 module _ (old new : TableEntries) (m : Message) (c : Change) (e : Event) (is : e ≡ event_for (table_state old).offer m c.wagon) (passes : Passes (table_state old) m c.wagon) where
@@ -44,10 +44,6 @@ module _ (old new : TableEntries) (m : Message) (c : Change) (e : Event) (is : e
   }
 
 module _ (s : HubState) (m : Message) where
-  -- before the first of the wagons
-  pub none_on : (t : TableEntries) → table_state t ≡ s → HaveGoneOn s t m [] []
-  none_on t same = record { known = same; wagons = refl; passed = λ w h. absurd (true≢false (sym h)); before = All-nil (IsKept s) }
-
   -- journeys of others matter to no check of a wagon
   module _ (ws : List ℕ) where
     pub same_refusal : (w : ℕ) → has ws w ≡ false → wagon_refusal (after_each s m ws) m w ≡ wagon_refusal s m w
@@ -149,7 +145,7 @@ module _ (s : HubState) (m : Message) where
             on.known ∙
             (λ i. record s { journey = λ w. (twice (has named w) (with_event (s.journey w) (event_for s.offer m w)) (s.journey w) ∙ ap (λ (b : Bool). if b then journey_after s m w else s.journey w) (sym goes)) i });
         wagons = on.wagons ∙ sym same;
-        admitted = λ w h. none_first _ _ (on.passed w (ap (λ (us : List ℕ). has us w) (sym same) ∙ h)).admits;
+        admitted = λ w h. or_none_left _ _ (on.passed w (ap (λ (us : List ℕ). has us w) (sym same) ∙ h)).admits;
         changes = are_changes t named cs on differ;
         before = was_before t named cs on;
       }

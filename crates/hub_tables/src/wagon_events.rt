@@ -4,7 +4,7 @@ ghost use Rattle.hub_model.specs.HubState.{named_wagons, event_body_for, event_f
 ghost use Rattle.hub_model.specs.Faults.{whole_fault};
 ghost use Rattle.interchange.specs.Offers.{wagons_of, place_of};
 ghost use Rattle.trip_plan.specs.Rules.{has};
-ghost use Rattle.hub_tables.specs.TableStates.{named_alone, table_state};
+ghost use Rattle.hub_tables.specs.TableStates.{table_state};
 ghost use Rattle.hub_tables.specs.Acceptance.{IsBeginning};
 
 use crate::tables::Tables;
@@ -164,19 +164,6 @@ impl Tables {
             begun.push((*wagon, Wagon::open(alloc, *wagon, event)?))?;
         }
         Ok(begun)
-    }
-}
-
-/// The wagon of a message that names one alone. None where the message may name several.
-pub(crate) fn named_alone(message: &Message) -> Option<WagonNumber>
-    ensures { result ≡ named_alone message.now.body }
-{
-    match message.body() {
-        Body::Movement(movement) => Some(movement.wagon),
-        Body::EtiAsk { wagon } => Some(*wagon),
-        Body::LegTime { wagon, .. } => Some(*wagon),
-        Body::Reroute { wagon, .. } => Some(*wagon),
-        Body::Plan(_) | Body::Offer(_) | Body::Answer(_) | Body::Withdraw { .. } => None,
     }
 }
 

@@ -1,5 +1,4 @@
-use Rattle.hub_tables.proofs.Common.{◌++◌, ◌∷◌, [], List, refl, ◌∙◌, sym, ap, Journey, Event, fits, events_in, TableEntries, table_state, subst, IsStateOf, with_event_of, keys_of}
-use Rattle.hub_tables.proofs.CheckLemmas.{none_first}
+use Rattle.hub_tables.proofs.Common.{or_none_left, ◌++◌, ◌∷◌, [], List, refl, ◌∙◌, sym, ap, Journey, Event, fits, events_in, TableEntries, table_state, subst, IsStateOf, with_event_of, keys_of}
 use Rattle.hub_tables.proofs.ContinuationLemmas.{either_by}
 use Rattle.hub_tables.proofs.NextEventLemmas.{comes_last}
 use Rattle.hub_tables.proofs.GoingOnLemmas.{one_on}
@@ -21,7 +20,7 @@ add-requires-clause-fits c =
     let events = sym (ap (λ (j : Journey). j.events) c.in-Some.ensures.found) in
     let none = either_by s m w _ _ c.requires.named c.in-Some.ensures.known events (sym c.in_ok-event.ensures) ∙ sym c.event_fault.ensures ∙ c.in_default-event_fault.is in
     ap (λ (t : TableEntries). fits (events_in t.wagons w ++ c.in_ok-event.event ∷ [])) c.self.view_is ∙ ap (λ (e : Event). fits (s.journey w ++ e ∷ [])) c.in_ok-event.ensures ∙
-    ap fits (sym (comes_last s m w c.requires.named (none_first _ _ none))) ∙ c.requires.calendar none
+    ap fits (sym (comes_last s m w c.requires.named (or_none_left _ _ none))) ∙ c.requires.calendar none
 
 pub returns-clause-ok : goal.returns-clause-ok
 returns-clause-ok c =

@@ -4,13 +4,11 @@ use Rattle.hub_tables.proofs.tables.Tables.go_on_each.Goals as goal
 
 pub go_on-requires-clause-whole : goal.go_on-requires-clause-whole
 go_on-requires-clause-whole c =
-    let at = c.loop-wagon in
-    whole_still _ c.args.message.now c.requires.goes_on c.args.wagons.now c.requires.named at.wagon-index at.self at.changes.items at.invariant.gone_on at.invariant.faults c.wagon-item.result c.loop-wagon-test.true c.wagon-item.is
+    whole_still _ c.args.message.now c.requires.goes_on c.args.wagons.now c.requires.named c.loop-wagon.wagon-index c.loop-wagon.self c.loop-wagon.changes.items c.loop-wagon.invariant.gone_on c.loop-wagon.invariant.faults c.wagon-item.result c.loop-wagon-test.true c.wagon-item.is
 
 pub go_on-requires-clause-calendar : goal.go_on-requires-clause-calendar
 go_on-requires-clause-calendar c =
-    let at = c.loop-wagon in
-    calendar_still _ c.args.message.now c.requires.goes_on c.args.wagons.now c.requires.named at.wagon-index at.self at.changes.items at.invariant.gone_on at.invariant.faults c.wagon-item.result c.loop-wagon-test.true c.wagon-item.is
+    calendar_still _ c.args.message.now c.requires.goes_on c.args.wagons.now c.requires.named c.loop-wagon.wagon-index c.loop-wagon.self c.loop-wagon.changes.items c.loop-wagon.invariant.gone_on c.loop-wagon.invariant.faults c.wagon-item.result c.loop-wagon-test.true c.wagon-item.is
 
 pub take_back-requires : goal.take_back-requires
 take_back-requires c =
@@ -31,13 +29,11 @@ returns-in-Ok-Err-clause-ok c =
 
 pub take_back-requires-in-Err : goal.take_back-requires-in-Err
 take_back-requires-in-Err c =
-    let at = c.loop-wagon in
-    record { changes = changes_so_far _ c.args.message.now c.requires.goes_on c.args.wagons.now c.requires.named at.wagon-index at.self at.changes.items at.invariant.gone_on at.invariant.faults c.go_on.new.self c.in-Err.ensures.err }
+    record { changes = changes_so_far _ c.args.message.now c.requires.goes_on c.args.wagons.now c.requires.named c.loop-wagon.wagon-index c.loop-wagon.self c.loop-wagon.changes.items c.loop-wagon.invariant.gone_on c.loop-wagon.invariant.faults c.go_on.new.self c.in-Err.ensures.err }
 
 pub returns-in-Err-clause-err : goal.returns-in-Err-clause-err
 returns-in-Err-clause-err c =
-    let at = c.loop-wagon in
-    c.take_back-in-Err.ensures ∙ before_all _ c.args.message.now c.requires.goes_on c.args.wagons.now c.requires.named at.wagon-index at.self at.changes.items at.invariant.gone_on at.invariant.faults c.go_on.new.self c.in-Err.ensures.err
+    c.take_back-in-Err.ensures ∙ before_all _ c.args.message.now c.requires.goes_on c.args.wagons.now c.requires.named c.loop-wagon.wagon-index c.loop-wagon.self c.loop-wagon.changes.items c.loop-wagon.invariant.gone_on c.loop-wagon.invariant.faults c.go_on.new.self c.in-Err.ensures.err
 
 pub loop-wagon-preserved : goal.loop-wagon-preserved
 loop-wagon-preserved c =
@@ -60,5 +56,4 @@ loop-wagon-preserved c =
 
 pub returns-clause-ok : goal.returns-clause-ok
 returns-clause-ok c =
-    let at = c.loop-wagon in
-    all_taken _ c.args.message.now c.requires.goes_on c.args.wagons.now c.requires.named at.wagon-index at.self at.changes.items at.invariant.gone_on at.invariant.faults c.loop-wagon-test.false
+    all_taken _ c.args.message.now c.requires.goes_on c.args.wagons.now c.requires.named c.loop-wagon.wagon-index c.loop-wagon.self c.loop-wagon.changes.items c.loop-wagon.invariant.gone_on c.loop-wagon.invariant.faults c.loop-wagon-test.false
