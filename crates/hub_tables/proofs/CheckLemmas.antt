@@ -40,10 +40,3 @@ module _ (s : HubState) (m : Message) (whole : whole_fault s m.by m.body ≡ Non
     plan_fault found f =
         part_fault ∙ ap (λ (says : Body). option_or (first_fault s m (named_wagons s.offer (record m { body = says }))) (unit_fault s (units_in says))) is ∙
         ap (λ (o : Option Fault). option_or o (unit_fault s p.units)) (first_busy p.wagons ∙ ap (option_map (λ w. at_wagon w WagonBusy)) (sym f))
-
--- the first of a list that passes, by what its first item is
-pub found_first : (test : ℕ → Bool) (v w : ℕ) (ws : List ℕ) → w ≡ v → test w ≡ true → find test (v ∷ ws) ≡ Some w
-found_first test v w ws is passes = ap (λ u. find test (u ∷ ws)) (sym is) ∙ rw passes refl
-
-pub found_later : (test : ℕ → Bool) (v w : ℕ) (ws : List ℕ) → w ≡ v → test w ≡ false → find test (v ∷ ws) ≡ find test ws
-found_later test v w ws is fails = ap (λ u. find test (u ∷ ws)) (sym is) ∙ rw fails refl

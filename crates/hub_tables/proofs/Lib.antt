@@ -8,7 +8,6 @@ pub mod GoingOnLemmas
 pub mod FleetLemmas
 pub mod NewJourneyLemmas
 pub mod AcceptanceLemmas
-pub mod OfferLemmas
 pub mod CheckLemmas
 pub mod ContinuationLemmas
 pub mod UnitLoadLemmas

@@ -67,15 +67,7 @@ fn is_beyond(wagon: &Wagon, event: &Event) -> bool
     ensures { result ≡ (estimates.is_calendar_checked event.now.body && not
         (estimates.fits (wagon.now.events ++ event.now ∷ []))) }
 {
-    is_calendar_checked(&event.body) && would_pass_calendar(wagon, event)
-}
-
-// An estimate would pass the calendar with the event, whether that refuses it or not.
-fn would_pass_calendar(wagon: &Wagon, event: &Event) -> bool
-    requires { refusal wagon.now.events event.now.by event.now.body ≡ None }
-    ensures { result ≡ not (estimates.fits (wagon.now.events ++ event.now ∷ [])) }
-{
-    wagon.estimates().would_pass_calendar(wagon.track(), event)
+    is_calendar_checked(&event.body) && wagon.estimates().would_pass_calendar(wagon.track(), event)
 }
 
 // An event that is refused where it would make an estimate pass the calendar.
