@@ -1,11 +1,17 @@
 -- A new message without a fault may be accepted.
-use Rattle.hub_core.proofs.Common.{◌≡◌, ℕ, ◌<◌, true, length, List, [], ◌∷◌, ◌++◌, Option, None, ap, ◌∙◌, sym, subst, Railway, Send, Message, Accepted, fits, OutboxState, Entry, moment_in, HubState, fault, after_acceptance, with_first_send, answer, state_of, IsMoment, EstimatesFit, AlwaysInOrder, OpenIsOffered, one_more_entry, state_of-push, IsAcceptable, table_state, position_of, outbox_state_of, Represents, KeepsLimits, State, MayTake, IsNew}
+use Rattle.hub_core.proofs.Common.{◌≡◌, ℕ, ◌<◌, true, length, List, [], ◌∷◌, ◌++◌, Option, None, ap, ◌∙◌, sym, subst, Railway, Send, Message, Accepted, fits, OutboxState, Entry, moment_in, HubState, fault, after_acceptance, with_first_send, answer, state_of, IsMoment, EstimatesFit, ChecksKeepTheCalendar, or_none_left, or_none_right, KeepsCalendar, AlwaysInOrder, OpenIsOffered, one_more_entry, state_of-push, IsAcceptable, table_state, position_of, outbox_state_of, Represents, KeepsLimits, State, MayTake, IsNew}
 use Rattle.hub_core.proofs.HistoryLemmas.{each_more}
 use Rattle.hub_core.proofs.SendLemmas.{new_answer, new_name, after_it}
 
 -- every wagon of an open offer is offered, as the tables show it
 pub offered_stay : (order : AlwaysInOrder) (history : List Entry) (looked_up : HubState) (position : Railway → ℕ → Option ℕ) (box : Railway → OutboxState) → Represents history looked_up position box → OpenIsOffered looked_up
 offered_stay order history looked_up position box kept = subst OpenIsOffered (sym kept.tables) (order history kept.legal).offered
+
+-- the checks of a wagon keep the calendar, as the tables show it
+pub calendar_kept : (keep : ChecksKeepTheCalendar) (history : List Entry) (m : Message) (looked_up : HubState) (position : Railway → ℕ → Option ℕ) (box : Railway → OutboxState) → Represents history looked_up position box → IsMoment (moment_in m.body) →
+    KeepsCalendar looked_up m
+calendar_kept keep history m looked_up position box kept dated =
+    subst (λ (t : HubState). KeepsCalendar t m) (sym kept.tables) (λ goes w named none. keep history kept.legal kept.dated m dated w (or_none_left _ _ none) (or_none_right _ _ none))
 
 module _ (fit : EstimatesFit) (order : AlwaysInOrder) (history : List Entry) (m : Message) (looked_up : HubState) (position : Railway → ℕ → Option ℕ) (box : Railway → OutboxState)
     (kept : Represents history looked_up position box) (room : length history < 1000000) (limits : KeepsLimits m) (new : position m.by m.no ≡ None)

@@ -43,7 +43,7 @@ pub use Rattle.hub_model.specs.Faults.{fault, is_unknown}
 pub use Rattle.hub_model.specs.Histories.{answer, state_of}
 pub use Rattle.hub_model.specs.HubState.{HubState, named_wagons, event_body_for, FirstSend}
 pub use Rattle.hub_model.specs.Items.{items_to, items_of}
-pub use Rattle.hub_model.specs.Laws.{IsMoment, EstimatesFit, AlwaysInOrder, OpenIsOffered, EachSend, IsSend}
+pub use Rattle.hub_model.specs.Laws.{IsMoment, EstimatesFit, ChecksKeepTheCalendar, AlwaysInOrder, OpenIsOffered, EachSend, IsSend}
 pub use Rattle.hub_model.specs.Overtaking.{is_apart}
 pub use Rattle.hub_model.specs.Replies.{verdict, send_reply, deviation_reply, unit_reply}
 pub use Rattle.hub_model.specs.Units.{unit_wagon}
@@ -52,10 +52,11 @@ pub use Rattle.hub_model.specs.declared.addressed_item.AddressedItem.{AddressedI
 pub use Rattle.hub_model.specs.declared.entry.Entry.{Entry}
 pub use Rattle.hub_model.specs.declared.fault.Fault.{Fault}
 pub use Rattle.hub_model.proofs.HistoryLemmas.{one_more_entry}
-pub use Rattle.hub_model.proofs.NoFaultLemmas.{GoesOn, no_known_fault, no_whole_fault, known_allowed, answer_fits, withdraw_fits, listed}
+pub use Rattle.hub_model.proofs.NoFaultLemmas.{or_none_left, or_none_right, GoesOn, no_known_fault, no_whole_fault, known_allowed, answer_fits, withdraw_fits, listed}
 pub use Rattle.hub_model.proofs.StepLemmas.{state_of-push}
 pub use Rattle.hub_tables.specs.Acceptance.{IsStateOf}
 pub use Rattle.hub_tables.specs.Changes.{AreChanges, IsChange, IsTaken, changed, known_before}
+pub use Rattle.hub_tables.specs.GoingOn.{KeepsCalendar}
 pub use Rattle.hub_tables.specs.TableStates.{continues_journeys, IsAcceptable, table_part, TableEntries, table_state}
 pub use Rattle.hub_tables.specs.declared.changes.Change.{Change}
 pub use Rattle.hub_core.specs.Apart.{are_apart}

@@ -1,5 +1,5 @@
 -- Whatever messages are accepted, every wagon's estimates stay within the calendar.
-use Rattle.hub_model.proofs.Common.{◌≡◌, ℕ, Bool, true, false, cond, not, List, [], ◌∷◌, ◌++◌, Option, Some, None, refl, ap, ◌∙◌, sym, ◌&&◌, false≢true, cond_both, Railway, Trip, has, BeyondCalendar, Body, Event, Planned, fits, is_calendar_checked, legs, leg_index, fits-no_anchor, IsFit, HasMoment, IsDated, fit_said, moment_in, HubState, new_state, named_wagons, event_for, event_body_for, with_event, journey_after, fault, calendar_fault, IsMoment, EstimatesFit}
+use Rattle.hub_model.proofs.Common.{◌≡◌, ℕ, Bool, true, false, cond, not, List, [], ◌∷◌, ◌++◌, Option, Some, None, refl, ap, ◌∙◌, sym, ◌&&◌, false≢true, cond_both, Railway, Trip, has, BeyondCalendar, Body, Event, Planned, fits, is_calendar_checked, legs, leg_index, fits-no_anchor, IsFit, HasMoment, IsDated, fit_said, moment_in, HubState, new_state, named_wagons, event_for, event_body_for, with_event, journey_after, fault, known_fault, calendar_fault, IsMoment, AreDated, EstimatesFit, ChecksKeepTheCalendar, Entry, IsLegal, state_of}
 use Rattle.taf_messages.specs.declared.message.Body.TheVariants as body
 use Rattle.hub_model.proofs.NoFaultLemmas.{or_none_right, no_named_fault, goes_on, known_allowed, planned_anew, msg}
 use Rattle.hub_model.proofs.SoundnessLemmas.{IsSound, NoPlan, all_known, sound_accepted, sound_nothing}
@@ -27,36 +27,40 @@ dated_share s by (body.Answer a) w = tt
 dated_share s by (body.Withdraw at n) w = tt
 dated_share s by (body.Reroute v route) w = tt
 
--- a message without a fault passed the check of the calendar, where it has one
-no_calendar_fault : (s : HubState) (by : Railway) (number : ℕ) (says : Body) (w : ℕ) → NoPlan says → fault s (msg by number says) ≡ None → has (named_wagons s.offer (msg by number says)) w ≡ true →
-    is_calendar_checked (event_body_for s.offer by says w) ≡ true → calendar_fault s (msg by number says) w ≡ None
-no_calendar_fault s by number (body.Plan p) w g f h r = absurd g
-no_calendar_fault s by number (body.Answer a) w g f h r = no_named_fault s (msg by number (body.Answer a)) w f h
-no_calendar_fault s by number (body.Withdraw at n) w g f h r = absurd (false≢true r)
-no_calendar_fault s by number (body.Movement m) w g f h r = or_none_right _ _ (no_named_fault s (msg by number (body.Movement m)) w f h)
-no_calendar_fault s by number (body.EtiAsk v) w g f h r = or_none_right _ _ (no_named_fault s (msg by number (body.EtiAsk v)) w f h)
-no_calendar_fault s by number (body.LegTime v leg minutes) w g f h r = or_none_right _ _ (no_named_fault s (msg by number (body.LegTime v leg minutes)) w f h)
-no_calendar_fault s by number (body.Offer o) w g f h r = or_none_right _ _ (no_named_fault s (msg by number (body.Offer o)) w f h)
-no_calendar_fault s by number (body.Reroute v route) w g f h r = or_none_right _ _ (no_named_fault s (msg by number (body.Reroute v route)) w f h)
+-- a message without a fault passed the check of the calendar
+no_calendar_fault : (s : HubState) (by : Railway) (number : ℕ) (says : Body) (w : ℕ) → NoPlan says → fault s (msg by number says) ≡ None → has (named_wagons s.offer (msg by number says)) w ≡ true → calendar_fault s (msg by number says) w ≡ None
+no_calendar_fault s by number (body.Plan p) w g f h = absurd g
+no_calendar_fault s by number (body.Answer a) w g f h = no_named_fault s (msg by number (body.Answer a)) w f h
+no_calendar_fault s by number (body.Withdraw at n) w g f h = refl
+no_calendar_fault s by number (body.Movement m) w g f h = or_none_right _ _ (no_named_fault s (msg by number (body.Movement m)) w f h)
+no_calendar_fault s by number (body.EtiAsk v) w g f h = or_none_right _ _ (no_named_fault s (msg by number (body.EtiAsk v)) w f h)
+no_calendar_fault s by number (body.LegTime v leg minutes) w g f h = or_none_right _ _ (no_named_fault s (msg by number (body.LegTime v leg minutes)) w f h)
+no_calendar_fault s by number (body.Offer o) w g f h = or_none_right _ _ (no_named_fault s (msg by number (body.Offer o)) w f h)
+no_calendar_fault s by number (body.Reroute v route) w g f h = or_none_right _ _ (no_named_fault s (msg by number (body.Reroute v route)) w f h)
 
 same_moment : (at : Option ℕ) → IsMoment at → IsDated at
 same_moment None d = tt
 same_moment (Some m) d = d
+
+-- a journey goes on by a message at which its wagon passed the checks
+fit_checked : (s : HubState) (by : Railway) (number : ℕ) (says : Body) → IsMoment (moment_in says) → (w : ℕ) → has (named_wagons s.offer (msg by number says)) w ≡ true → known_fault s (msg by number says) w ≡ None →
+    calendar_fault s (msg by number says) w ≡ None → IsFit (s.journey w) → IsFit (with_event (s.journey w) (event_for s.offer (msg by number says) w))
+fit_checked s by number says d w h known none fit =
+    let m = msg by number says in
+    let events = s.journey w in
+    let e = event_for s.offer m w in
+    let on = goes_on events e known in
+    let after : has (named_wagons s.offer m) w ≡ true → journey_after s m w ≡ events ++ e ∷ [] = λ k. rw k on in
+    rw on (fit_said events by number fit (moment_in says) (event_body_for s.offer by says w) (same_moment (moment_in says) d) (dated_share s by says w) (known_allowed events by (event_body_for s.offer by says w) known)
+    (λ r. ap fits (sym (after h)) ∙ none_passes (is_calendar_checked (event_body_for s.offer by says w)) (fits (journey_after s m w)) none r))
 
 -- any message but a plan goes on with the journeys
 fit_on : (s : HubState) (so : IsSound s) (by : Railway) (number : ℕ) (says : Body) → NoPlan says → IsMoment (moment_in says) → fault s (msg by number says) ≡ None → (w : ℕ) → IsFit (s.journey w) →
     IsFit (journey_after s (msg by number says) w)
 fit_on s so by number says g d f w fit =
     let m = msg by number says in
-    let events = s.journey w in
-    let e = event_for s.offer m w in
-    cond_both (has (named_wagons s.offer m) w) (with_event events e) events IsFit
-    (λ h.
-    let known = all_known s so by number says w g f h in
-    let on = goes_on events e known in
-    let after : has (named_wagons s.offer m) w ≡ true → journey_after s m w ≡ events ++ e ∷ [] = λ k. rw k on in
-    rw on (fit_said events by number fit (moment_in says) (event_body_for s.offer by says w) (same_moment (moment_in says) d) (dated_share s by says w) (known_allowed events by (event_body_for s.offer by says w) known)
-    (λ r. ap fits (sym (after h)) ∙ none_passes (is_calendar_checked (event_body_for s.offer by says w)) (fits (journey_after s m w)) (no_calendar_fault s by number says w g f h r) r)))
+    cond_both (has (named_wagons s.offer m) w) (with_event (s.journey w) (event_for s.offer m w)) (s.journey w) IsFit
+    (λ h. fit_checked s by number says d w h (all_known s so by number says w g f h) (no_calendar_fault s by number says w g f h) fit)
     (λ h. fit)
 
 fit_body : (s : HubState) (so : IsSound s) (by : Railway) (number : ℕ) (says : Body) → IsMoment (moment_in says) → fault s (msg by number says) ≡ None → (w : ℕ) → IsFit (s.journey w) → IsFit (journey_after s (msg by number says) w)
@@ -88,8 +92,15 @@ kept_fit = record {
 fit_nothing : AllFit new_state
 fit_nothing = record { sound = sound_nothing; each = λ w. record { fit = refl; ends = λ h. absurd (false≢true h) } }
 
+all_fit : (history : List Entry) → IsLegal history → AreDated history → AllFit (state_of history)
+all_fit history legal dated = kept_from (λ m. IsMoment (moment_in m.body)) AllFit kept_fit new_state history legal dated fit_nothing
+
 pub estimates_fit : EstimatesFit
-estimates_fit history legal dated w =
-    let all = kept_from (λ m. IsMoment (moment_in m.body)) AllFit kept_fit new_state history legal dated fit_nothing in
-    let one = all.each w in
-    one.fit
+estimates_fit history legal dated w = let one = (all_fit history legal dated).each w in one.fit
+
+pub checks_keep : ChecksKeepTheCalendar
+checks_keep history legal dated m d w known none =
+    let s = state_of history in
+    let before = (all_fit history legal dated).each w in
+    let after : IsFit (journey_after s m w) = cond_both (has (named_wagons s.offer m) w) (with_event (s.journey w) (event_for s.offer m w)) (s.journey w) IsFit (λ h. fit_checked s m.by m.no m.body d w h known none before) (λ h. before) in
+    after.fit

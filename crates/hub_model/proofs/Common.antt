@@ -43,7 +43,7 @@ pub use Rattle.hub_model.specs.Faults.{fault, calendar_fault, whole_checks, whol
 pub use Rattle.hub_model.specs.Histories.{step, state_after, answer, state_of, run, IsLegalFrom, replies_from, IsLegal}
 pub use Rattle.hub_model.specs.HubState.{HubState, new_state, named_wagons, event_for, event_body_for, with_event, journey_after, Offers, wagons_in, FirstSend}
 pub use Rattle.hub_model.specs.Items.{notice_receivers, movement_receivers, route_receivers, notices, sub_items, estimate_items, alert_items, items_of, each_once, items_to, runners, sub_item, estimate_item, is_news, alert, alert_receivers}
-pub use Rattle.hub_model.specs.Laws.{IsMoment, EstimatesFit, IsSend, EachSend, RepliesAreTheRun, KnownByTheCalls, OneMoreEntry, IsInOrder, AlwaysInOrder}
+pub use Rattle.hub_model.specs.Laws.{IsMoment, AreDated, EstimatesFit, ChecksKeepTheCalendar, IsSend, EachSend, RepliesAreTheRun, KnownByTheCalls, OneMoreEntry, IsInOrder, AlwaysInOrder}
 pub use Rattle.hub_model.specs.NeedToKnow.{IsOfTrip, RecordsAreForTheTrip, is_verdict, MessagesGetVerdicts, Concerns, ItemsGoToTheConcerned, HasSource, ItemsHaveSources, OutsidersLearnWhetherKnown, IsInvolved, only_wagon, LookAlike, RefusalsTellTheStage}
 pub use Rattle.hub_model.specs.Overtaking.{AreAlike, IsFetch, StayAlike, StayAlikeThrough, affected_wagons, consignment_in, offer_named, affects_unit, both_same, have_common_wagon, loads_affected, same_offer_name, is_apart, AreApart, ApartIsExact, MayOvertake}
 pub use Rattle.hub_model.specs.Replies.{reply_to, unit_reply, send_reply, verdict, view, refusal_reply, record_reply, deviating_records, deviation_reply}

@@ -3,7 +3,8 @@ use Rattle.std.specs.Prelude.{◌≡◌, ◌↔◌, ◌≤◌, ℕ, true, List, 
 use Rattle.hub_model.specs.Common.{Railway, last_minute, has, Call, Send, Message, stage, responsible, is_on_its_way, wagons_of, fits, moment_in}
 use Rattle.taf_messages.specs.declared.record.Stage.TheVariants as stage_is
 use Rattle.hub_model.specs.declared.entry.Entry.{Entry}
-use Rattle.hub_model.specs.HubState.{HubState}
+use Rattle.hub_model.specs.HubState.{HubState, journey_after}
+use Rattle.hub_model.specs.Faults.{known_fault, calendar_fault}
 use Rattle.hub_model.specs.Histories.{IsLegal, answer, run, state_of, state_after}
 
 -- the offer of this name is open, and has the wagon
@@ -54,6 +55,11 @@ AreDated history = EachSend (λ m. IsMoment (moment_in m.body)) history
 -- no estimate of a wagon passes the calendar (4.2.6)
 abbrev pub EstimatesFit : Type 0
 EstimatesFit = (history : List Entry) → IsLegal history → AreDated history → (w : ℕ) → fits ((state_of history).journey w) ≡ true
+
+-- nor does one once the journey of a wagon has gone on by a message, at which the wagon passed the checks
+abbrev pub ChecksKeepTheCalendar : Type 0
+ChecksKeepTheCalendar = (history : List Entry) → IsLegal history → AreDated history → (m : Message) → IsMoment (moment_in m.body) → (w : ℕ) → known_fault (state_of history) m w ≡ None → calendar_fault (state_of history) m w ≡ None →
+    fits (journey_after (state_of history) m w) ≡ true
 
 -- the replies of a history are those that its calls get, one after another
 abbrev pub RepliesAreTheRun : Type 0

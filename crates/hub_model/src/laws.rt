@@ -18,6 +18,7 @@ ghost use Rattle.hub_model.specs.Consent.{CallsByConsent, EntriesByConsent};
 ghost use Rattle.hub_model.specs.Laws.{
   AlwaysInOrder,
   EstimatesFit,
+  ChecksKeepTheCalendar,
   RepliesAreTheRun,
   KnownByTheCalls,
   OneMoreEntry,
@@ -97,9 +98,11 @@ pub fn wagons_are_on_their_legs()
 {}
 
 /// No estimate of a wagon passes the calendar (4.2.6), where the moments of the messages that were
-/// sent are of the calendar, as every `Moment` is.
+/// sent are of the calendar, as every `Moment` is. Nor does one once the journey of a wagon that passed
+/// the checks of a message has gone on by it, whether the message is accepted or not.
 pub fn estimates_fit()
-    ensures { EstimatesFit }
+    ensures histories { EstimatesFit }
+    ensures checks { ChecksKeepTheCalendar }
 {}
 
 /// Where lists keep their limits, as those of every `Message` do, an accepted message makes at most

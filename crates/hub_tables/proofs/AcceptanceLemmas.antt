@@ -1,15 +1,7 @@
 -- What the tables know once they have taken a message.
-use Rattle.hub_tables.proofs.Common.{◌≡◌, ℕ, ◌==◌, Bool, true, false, if◌then◌else◌, List, [], ◌∷◌, ◌++◌, Some, None, Result, Ok, Err, OnOk, OnErr, refl, sym, ap, ◌∙◌, append-nil, true≢false, unwrap_or, option_or, list_all, and_parts, Railway, UnitCode, ConsignmentId, has, all_differ, times_named, Message, TrainAnswer, Body, OfferTable, offer_of, is_standing, same_name, matches, wagons_of, HubState, new_state, named_wagons, wagons_in, fault, whole_fault, after_acceptance, plan_given, unit_plan_given, offer_given, opening_given, planned_in, fleet_after, no_whole_fault, answer_fits, TableEntries, table_state, table_part, continues_journeys, HasAccepted, journey_after, gone_on}
+use Rattle.hub_tables.proofs.Common.{◌≡◌, ℕ, ◌==◌, Bool, true, false, if◌then◌else◌, List, [], ◌∷◌, ◌++◌, Some, None, Result, Ok, Err, OnOk, refl, sym, ap, ◌∙◌, append-nil, true≢false, unwrap_or, option_or, list_all, and_parts, Railway, UnitCode, ConsignmentId, has, all_differ, times_named, Message, Body, OfferTable, offer_of, is_standing, same_name, matches, wagons_of, HubState, new_state, wagons_in, whole_fault, after_acceptance, plan_given, unit_plan_given, offer_given, opening_given, planned_in, fleet_after, answer_fits, numbers, TableEntries, table_state, table_part, continues_journeys, HasAccepted, journey_after, gone_on}
 use Rattle.taf_messages.specs.declared.message.Body.TheVariants as body
 use Rattle.hub_tables.proofs.DifferLemmas.{both_true, passes_named}
-
-pub on_ok : {A E : Type 0} {P Q : Type 0} (r : Result A E) → (P → Q) → OnOk r P → OnOk r Q
-on_ok (Ok x) f p = f p
-on_ok (Err e) f p = tt
-
-pub on_err : {A E : Type 0} {P Q : Type 0} (r : Result A E) → (P → Q) → OnErr r P → OnErr r Q
-on_err (Ok x) f p = tt
-on_err (Err e) f p = f p
 
 pub on_both : {A E : Type 0} {P Q R : Type 0} (r : Result A E) → (P → Q → R) → OnOk r P → OnOk r Q → OnOk r R
 on_both (Ok x) f p q = f p q
@@ -97,12 +89,22 @@ all_among test offered (w ∷ ws) h k =
     both_true (test w) (list_all test ws) (passes_named test offered w h parts.0) (all_among test offered ws h parts.1)
 
 -- the wagons of an answer that matches its offer are all different
-pub matched_differ : (offered answered : List ℕ) → matches offered answered ≡ true → all_differ answered ≡ true
+matched_differ : (offered answered : List ℕ) → matches offered answered ≡ true → all_differ answered ≡ true
 matched_differ offered answered h =
     let parts = and_parts (list_all (λ w. times_named answered w == 1) offered) (list_all (λ w. has offered w) answered) h in
     all_among (λ w. times_named answered w == 1) offered answered parts.0 parts.1
 
-pub answer_differs : (s : HubState) (m : Message) (a : TrainAnswer) → m.body ≡ body.Answer a → fault s m ≡ None → all_differ (named_wagons s.offer m) ≡ true
-answer_differs s m a is f =
-    let whole = ap (whole_fault s m.by) (sym is) ∙ no_whole_fault s m f in
-    ap (λ (says : Body). all_differ (wagons_in s.offer m.by says)) is ∙ matched_differ (wagons_of (s.offer a.offerer a.offer)) (a.received ++ a.refused) (answer_fits s m.by a whole).1
+one_differs : (w : ℕ) → all_differ (w ∷ []) ≡ true
+one_differs w = rw (numbers.itself w) refl
+
+-- the wagons of a message that begins no journey, makes no offer and withdraws none differ
+pub others_differ : (s : HubState) (m : Message) (says : Body) → ((o : _) → says ≡ body.Offer o → ⊥) → ((at : _) (k : _) → says ≡ body.Withdraw at k → ⊥) → whole_fault s m.by says ≡ None → continues_journeys says ≡ true →
+    all_differ (wagons_in s.offer m.by says) ≡ true
+others_differ s m (body.Plan p) o w whole goes = absurd (true≢false (sym goes))
+others_differ s m (body.Movement v) o w whole goes = one_differs v.wagon
+others_differ s m (body.EtiAsk v) o w whole goes = one_differs v
+others_differ s m (body.LegTime v leg minutes) o w whole goes = one_differs v
+others_differ s m (body.Offer v) o w whole goes = absurd (o v refl)
+others_differ s m (body.Answer a) o w whole goes = matched_differ (wagons_of (s.offer a.offerer a.offer)) (a.received ++ a.refused) (answer_fits s m.by a whole).1
+others_differ s m (body.Withdraw at k) o w whole goes = absurd (w at k refl)
+others_differ s m (body.Reroute v route) o w whole goes = one_differs v

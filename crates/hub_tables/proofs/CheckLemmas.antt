@@ -1,6 +1,5 @@
 -- What the checks of a message's wagons and units come to.
-use Rattle.hub_tables.proofs.Common.{◌≡◌, ℕ, Bool, true, false, cond, List, [], ◌∷◌, Option, Some, None, refl, sym, ap, ◌∙◌, true≢false, option_map, option_or, find, UnitLoad, Message, Body, Why, WagonBusy, is_busy, Fault, HubState, named_wagons, units_in, whole_fault, wagon_fault, first_fault, unit_fault, fault, continues_journeys, named_alone, Trip, EventAt, ◌+◌, ◌<◌, ◌++◌, length, map, take, get_or, map-append, take_more}
-use Rattle.hub_tables.proofs.AloneLemmas.{alone_named}
+use Rattle.hub_tables.proofs.Common.{◌≡◌, ℕ, Bool, true, false, cond, List, [], ◌∷◌, Option, Some, None, refl, sym, ap, ◌∙◌, true≢false, option_map, option_or, find, UnitLoad, Message, Body, Why, WagonBusy, is_busy, Fault, HubState, named_wagons, units_in, whole_fault, wagon_fault, first_fault, unit_fault, fault, continues_journeys, Trip}
 use Rattle.taf_messages.specs.declared.message.Body.TheVariants as body
 
 -- the fault at a wagon
@@ -25,10 +24,6 @@ module _ (s : HubState) (m : Message) (whole : whole_fault s m.by m.body ≡ Non
   each_fault on =
       part_fault ∙ ap (λ (us : List UnitLoad). option_or (first_fault s m (named_wagons s.offer m)) (unit_fault s us)) (no_units m.body on) ∙ nothing_else (first_fault s m (named_wagons s.offer m))
 
-  -- of one that names a wagon alone, it is that of the wagon
-  pub alone_fault : (w : ℕ) → continues_journeys m.body ≡ true → named_alone m.body ≡ Some w → fault s m ≡ option_map (at_wagon w) (wagon_fault s m m.body w)
-  alone_fault w on alone = each_fault on ∙ ap (first_fault s m) (alone_named s.offer m.by m.body w alone) ∙ nothing_else (option_map (at_wagon w) (wagon_fault s m m.body w))
-
   module _ (p : Trip) (is : m.body ≡ body.Plan p) where
     busy_by : (w : ℕ) (ws : List ℕ) (b : Bool) → is_busy (s.journey w) ≡ b → first_fault s m ws ≡ option_map (λ v. at_wagon v WagonBusy) (find (λ v. is_busy (s.journey v)) ws) →
         option_or (option_map (at_wagon w) (cond b (Some WagonBusy) None)) (first_fault s m ws) ≡ option_map (λ v. at_wagon v WagonBusy) (cond b (Some w) (find (λ v. is_busy (s.journey v)) ws))
@@ -45,21 +40,3 @@ module _ (s : HubState) (m : Message) (whole : whole_fault s m.by m.body ≡ Non
     plan_fault found f =
         part_fault ∙ ap (λ (says : Body). option_or (first_fault s m (named_wagons s.offer (record m { body = says }))) (unit_fault s (units_in says))) is ∙
         ap (λ (o : Option Fault). option_or o (unit_fault s p.units)) (first_busy p.wagons ∙ ap (option_map (λ w. at_wagon w WagonBusy)) (sym f))
-
--- the first of a list that passes, by what its first item is
-pub found_first : (test : ℕ → Bool) (v w : ℕ) (ws : List ℕ) → w ≡ v → test w ≡ true → find test (v ∷ ws) ≡ Some w
-found_first test v w ws is passes = ap (λ u. find test (u ∷ ws)) (sym is) ∙ rw passes refl
-
-pub found_later : (test : ℕ → Bool) (v w : ℕ) (ws : List ℕ) → w ≡ v → test w ≡ false → find test (v ∷ ws) ≡ find test ws
-found_later test v w ws is fails = ap (λ u. find test (u ∷ ws)) (sym is) ∙ rw fails refl
-
--- what is asked first gives nothing where both give nothing
-pub none_first : {A : Type 0} (first second : Option A) → option_or first second ≡ None → first ≡ None
-none_first None second h = refl
-none_first (Some x) second h = h
-
--- the wagons of events, with one event more
-pub wagons_more : (es now : List EventAt) (e : EventAt) (ws : List ℕ) (i : ℕ) (w : ℕ) → now ≡ es ++ e ∷ [] → e.wagon ≡ w → map (λ x. x.wagon) es ≡ take i ws → i < length ws → w ≡ get_or ws i w → map (λ x. x.wagon) now ≡ take (i + 1) ws
-wagons_more es now e ws i w put is so_far within item =
-    ap (map (λ x. x.wagon)) put ∙ map-append (λ x. x.wagon) es (e ∷ []) ∙ ap (λ (us : List ℕ). us ++ e.wagon ∷ []) so_far ∙
-    ap (λ v. take i ws ++ v ∷ []) (is ∙ item) ∙ sym (take_more ws i w within)

@@ -9,7 +9,7 @@ pub use Rattle.std.specs.Vec.{vec_capacity, vec_len}
 pub use Rattle.std.proofs.Common.{◌≡◌, ℕ, zero, suc, ◌==◌, Bool, true, false, List, [], ◌∷◌, ◌++◌, Option, Some, None, IfSome, Result, Ok, Err, OnOk, refl, sym, ap, ◌∙◌, append-nil, true≢false, ◌||◌, cond, length, subst, arith, if◌then◌else◌, not, map, append_assoc, ◌+◌, ◌<◌, ◌≤◌, ◌^◌, get_or, inl, inr, take, take_all, rules, OnErr, drop, add-one, drop-cons}
 pub use Rattle.std.proofs.lemmas.Bool.{and_parts, eqb-true, or_cases, cases_Bool, or_right}
 pub use Rattle.std.proofs.lemmas.Bool.Decides.{Decides-eqb}
-pub use Rattle.std.proofs.lemmas.List.{map_more, at_drop_all, at_drop_more, take_more, map-append}
+pub use Rattle.std.proofs.lemmas.List.{map_more, at_drop_all, at_drop_more, take_more, take-append-drop, map-append}
 pub use Rattle.std.proofs.lemmas.List.Elements.{All-head, All-tail, All-cons, All-nil, All-pop, All-push}
 pub use Rattle.std.proofs.lemmas.List.Folds.{list_any-append, list_any_at}
 pub use Rattle.std.proofs.lemmas.List.Sums.{fold-append, sum_by-append}
@@ -45,7 +45,7 @@ pub use Rattle.journey.specs.declared.event.EventBody.{EventBody}
 pub use Rattle.eti_chain.specs.EstimateStates.{EstimateAnchor, estimate_anchor}
 pub use Rattle.eti_chain.specs.Estimates.{fits, is_calendar_checked}
 pub use Rattle.hub_model.proofs.FleetLemmas.{two_sieves}
-pub use Rattle.hub_model.proofs.NoFaultLemmas.{no_whole_fault, answer_fits, planned_anew, goes_on, known_allowed, listed, withdraw_fits}
+pub use Rattle.hub_model.proofs.NoFaultLemmas.{or_none_left, answer_fits, planned_anew, goes_on, known_allowed, listed, withdraw_fits}
 pub use Rattle.hub_model.proofs.SoundnessLemmas.{answered_known}
 pub use Rattle.hub_model.specs.Faults.{fault, whole_fault, is_unknown, known_fault, is_busy, calendar_fault, wagon_fault, first_fault, unit_fault}
 pub use Rattle.hub_model.specs.HubState.{HubState, new_state, named_wagons, wagons_in, Offers, event_body_for, event_for, with_event, journey_after}
@@ -53,15 +53,9 @@ pub use Rattle.hub_model.specs.Laws.{OpenIsOffered}
 pub use Rattle.hub_model.specs.Units.{units_in, is_unit_busy}
 pub use Rattle.hub_model.specs.Updates.{after_acceptance, plan_given, unit_plan_given, offer_given, opening_given, planned_in, fleet_after, each_wagon}
 pub use Rattle.hub_model.specs.declared.fault.Fault.{Fault}
-pub use Rattle.hub_tables.specs.Acceptance.{HasAccepted, MayComeNext, with_event_on, AreAdmitted, IsStateOf, without_newest_of}
-pub use Rattle.hub_tables.specs.Changes.{continued_in, gone_on, changed, known_before, IsChange, AreChanges, HasGoneOn}
-pub use Rattle.hub_tables.specs.GoingOn.{HaveGoneOn, in_turn, with_wagons}
-pub use Rattle.hub_tables.specs.Checked.{GoesOn, IsWagonChecked, IsChecked}
-pub use Rattle.hub_tables.specs.TableStates.{TableEntries, table_state, table_part, continues_journeys, named_alone, IsEventOf, AreEventsOf, events_in, IsJourneyEntry, AreJourneyEntries, IsAcceptable}
-unfoldable pub use Rattle.hub_tables.specs.TableStates.{AreNextEvents}
+pub use Rattle.hub_tables.specs.Acceptance.{HasAccepted, with_event_of, IsStateOf, without_newest_of}
+pub use Rattle.hub_tables.specs.Changes.{continued_in, gone_on, changed, known_before, IsChange, AreChanges, HasGoneOn, IsTaken, with_wagons}
+pub use Rattle.hub_tables.specs.GoingOn.{wagon_refusal, KeepsCalendar, GoesOn, Passes, IsKept, after_each, HaveGoneOn, IsGoneOnOrRefused}
+pub use Rattle.hub_tables.specs.TableStates.{TableEntries, table_state, table_part, continues_journeys, named_alone, events_in, IsJourneyEntry, AreJourneyEntries, IsAcceptable}
 pub use Rattle.hub_tables.specs.declared.changes.Change.{Change}
-pub use Rattle.hub_tables.specs.declared.checked.Checked.{Checked}
-pub use Rattle.hub_tables.specs.declared.next_events.EventAt.{EventAt}
-pub use Rattle.hub_tables.specs.declared.next_events.NextEvents.{NextEvents}
 pub use Rattle.hub_tables.specs.declared.wagon.WagonState.{WagonState}
-pub use Rattle.hub_tables.specs.declared.next_events.NextEvents.TheVariants.{Planned, Alone, Each}

@@ -46,7 +46,3 @@ either_by s m w events e h u j is =
     ap (λ es. refusal es m.by (event_body_for s.offer m.by m.body w)) j ∙ ap (λ (x : Event). refusal events x.by x.body) is in
     ap (λ o. option_or o (calendar_fault s m w)) known ∙
     asked_after (refusal events e.by e.body) _ _ (λ r. calendar_by s m w events e h (known ∙ r) j is)
-
--- an unknown wagon is refused
-pub unknown_refused : (s : HubState) (m : Message) (w : ℕ) → is_unknown (s.journey w) ≡ true → option_or (known_fault s m w) (calendar_fault s m w) ≡ Some UnknownWagon
-unknown_refused s m w h = rw h refl

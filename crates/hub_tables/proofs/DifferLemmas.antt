@@ -49,8 +49,16 @@ once_by : (times : ℕ) (any : Bool) → (times ≡ 0 → any ≡ false) → any
 once_by zero any k h = absurd (true≢false (sym h ∙ k refl))
 once_by (suc n) any k h = omega arith
 
-pub has_both : (ws more : List ℕ) (w : ℕ) → has (ws ++ more) w ≡ (has ws w || has more w)
+has_both : (ws more : List ℕ) (w : ℕ) → has (ws ++ more) w ≡ (has ws w || has more w)
 has_both ws more w = list_any-append (λ v. v == w) ws more
+
+pub or_false : (b : Bool) → (b || false) ≡ b
+or_false true = refl
+or_false false = refl
+
+-- a wagon more
+pub has_last : (ws : List ℕ) (w v : ℕ) → has (ws ++ w ∷ []) v ≡ (has ws v || w == v)
+has_last ws w v = has_both ws (w ∷ []) v ∙ ap (λ (b : Bool). has ws v || b) (or_false (w == v))
 
 -- the first of them differ
 pub differ_first : (ws more : List ℕ) → all_differ (ws ++ more) ≡ true → all_differ ws ≡ true

@@ -21,16 +21,6 @@ entry_at [] i k v h g = cc
 entry_at (e ∷ es) zero k v h g = λ i. Some (same_Some e.0 k h i, same_Some e.1 v g i)
 entry_at (e ∷ es) (suc i) k v h g = entry_at es i k v h g
 
-some_same : {A : Type 0} (a b : A) → Some a ≡ Some b → a ≡ b
-some_same a b h = cc
-
--- the events of the wagon at a position
-pub events_at : (wagons : List (ℕ × Journey)) (w key position : ℕ) (j : Journey) → slice_get wagons position ≡ Some (key, j) → slice_get (keys_of wagons) position ≡ Some w →
-    lookup (nat_eq key) wagons ≡ Some j → events_in wagons w ≡ j.events
-events_at wagons w key position j at is found =
-    let same = some_same key w (sym (key_at wagons position (key, j) at) ∙ is) in
-    ap of_journey (subst (λ (v : ℕ). lookup (nat_eq v) wagons ≡ Some j) same found)
-
 -- a test whose answer does not matter
 either_way : (b : Bool) (events : List Event) → (if b then events else events) ≡ events
 either_way true events = refl

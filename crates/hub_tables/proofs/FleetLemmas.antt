@@ -1,5 +1,6 @@
 -- The fleet once a plan's wagons are entered.
-use Rattle.hub_tables.proofs.Common.{◌≡◌, ℕ, ◌==◌, ◌||◌, Bool, true, false, cond, not, List, [], ◌∷◌, ◌++◌, map, refl, sym, ap, ◌∙◌, append-nil, append_assoc, nat_eq, filter, fold, keys_of, eqb-true, list_any-append, numbers, is_equivalence, has, insert_entry, insert_all, each_wagon, fleet_after, two_sieves}
+use Rattle.hub_tables.proofs.Common.{◌≡◌, ℕ, ◌==◌, ◌||◌, Bool, true, false, cond, not, List, [], ◌∷◌, ◌++◌, map, refl, sym, ap, ◌∙◌, append-nil, append_assoc, nat_eq, filter, fold, keys_of, eqb-true, numbers, is_equivalence, has, insert_entry, insert_all, each_wagon, fleet_after, two_sieves}
+use Rattle.hub_tables.proofs.DifferLemmas.{has_last}
 
 -- a key that is new goes last
 abbrev pub with_key : List ℕ → ℕ → List ℕ
@@ -25,13 +26,6 @@ module _ {V : Type 0} where
   keys_all : (j : ℕ → V) (ws : List ℕ) (es : List (ℕ × V)) → keys_of (insert_all nat_eq es (map (λ w. (w, j w)) ws)) ≡ fold with_key (keys_of es) ws
   keys_all j [] es = refl
   keys_all j (w ∷ ws) es = keys_all j ws (insert_entry nat_eq es w (j w)) ∙ ap (λ (ks : List ℕ). fold with_key ks ws) (keys_entered es w (j w))
-
-or_false : (b : Bool) → (b || false) ≡ b
-or_false true = refl
-or_false false = refl
-
-has_last : (ws : List ℕ) (w v : ℕ) → has (ws ++ w ∷ []) v ≡ (has ws v || w == v)
-has_last ws w v = list_any-append (λ u. u == v) ws (w ∷ []) ∙ ap (λ (b : Bool). has ws v || b) (or_false (w == v))
 
 or_there : (b c : Bool) → (c ≡ true → b ≡ true) → (b || c) ≡ b
 or_there true c h = refl

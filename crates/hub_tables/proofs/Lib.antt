@@ -4,11 +4,10 @@ pub mod AloneLemmas
 pub mod DifferLemmas
 pub mod NextEventLemmas
 pub mod ChangeLemmas
-pub mod TakingLemmas
+pub mod GoingOnLemmas
 pub mod FleetLemmas
 pub mod NewJourneyLemmas
 pub mod AcceptanceLemmas
-pub mod OfferLemmas
 pub mod CheckLemmas
 pub mod ContinuationLemmas
 pub mod UnitLoadLemmas

@@ -1,5 +1,5 @@
 -- How the tables take a message.
-use Rattle.std.specs.Prelude.{◌≡◌, ℕ, ◌==◌, true, false, if◌then◌else◌, List, [], ◌∷◌, ◌++◌, slice_get, Some, None, unwrap_or, bytes_eq}
+use Rattle.std.specs.Prelude.{◌≡◌, ℕ, ◌==◌, true, if◌then◌else◌, List, [], ◌∷◌, ◌++◌, unwrap_or, bytes_eq}
 use Rattle.std.specs.Option.{option_or}
 use Rattle.std.specs.Map.{lookup, keys_of}
 use Rattle.taf_codes.specs.declared.code.Railway.{Railway}
@@ -8,23 +8,14 @@ use Rattle.taf_codes.specs.declared.name.ConsignmentId.{ConsignmentId}
 use Rattle.taf_messages.specs.declared.message.Message.{Message}
 use Rattle.journey.specs.declared.event.Event.{Event}
 use Rattle.journey.specs.Stages.{is_plan}
-use Rattle.journey.specs.Checks.{refusal}
 use Rattle.journey.specs.TrackStates.{IsTrackState, without_newest}
 use Rattle.eti_chain.specs.Estimates.{fits}
 use Rattle.eti_chain.specs.EstimateStates.{estimate_anchor}
 use Rattle.interchange.specs.OfferTable.{offer_of, is_standing}
 use Rattle.hub_model.specs.HubState.{HubState, journey_after}
-use Rattle.hub_model.specs.Faults.{is_unknown}
 use Rattle.hub_model.specs.Updates.{plan_given, unit_plan_given, offer_given, opening_given, planned_in, fleet_after}
 use Rattle.hub_tables.specs.TableStates.{TableEntries, events_in}
-use Rattle.hub_tables.specs.declared.next_events.EventAt.{EventAt}
 use Rattle.hub_tables.specs.declared.wagon.WagonState.{WagonState}
-
--- the event may come next in a journey
-pub record MayComeNext (events : List Event) (e : Event) : Type 0 where
-  pub begun : is_unknown events ≡ false
-  pub allowed : refusal events e.by e.body ≡ None
-  pub fits_after : fits (events ++ e ∷ []) ≡ true
 
 -- a journey may begin with the event
 pub record IsBeginning (e : Event) : Type 0 where
@@ -32,8 +23,8 @@ pub record IsBeginning (e : Event) : Type 0 where
   pub fits_after : fits (e ∷ []) ≡ true
 
 -- the events of each wagon once the event of one is put at the end of its journey
-abbrev pub with_event_on : (ℕ → List Event) → EventAt → ℕ → List Event
-with_event_on events e w = if e.wagon == w then events w ++ e.event ∷ [] else events w
+abbrev pub with_event_of : ℕ → Event → (ℕ → List Event) → ℕ → List Event
+with_event_of wagon e events w = if wagon == w then events w ++ e ∷ [] else events w
 
 -- the events of each wagon once the newest event of one is taken back
 abbrev pub without_newest_of : ℕ → (ℕ → List Event) → ℕ → List Event
@@ -44,11 +35,6 @@ pub record IsStateOf (events : List Event) (s : WagonState) : Type 0 where
   pub track : IsTrackState events s.journey_state
   pub kept : s.kept ≡ estimate_anchor events
   pub fits : fits events ≡ true
-
--- each wagon stands at its position, and each event may come next once those before it are put
-abbrev pub AreAdmitted : List ℕ → (ℕ → List Event) → List EventAt → Type 0
-AreAdmitted fleet events [] = Unit {0}
-AreAdmitted fleet events (e ∷ later) = (slice_get fleet e.position ≡ Some e.wagon) × MayComeNext (events e.wagon) e.event × AreAdmitted fleet (with_event_on events e) later
 
 -- each look-up has taken the message, once its events stand in the journeys
 pub record HasAccepted (s : HubState) (new : TableEntries) (m : Message) : Type 0 where

@@ -3,6 +3,7 @@ use Rattle.std.specs.Prelude.{◌≡◌, ℕ, true, if◌then◌else◌, List, [
 use Rattle.std.specs.Map.{keys_of}
 use Rattle.trip_plan.specs.Rules.{has, all_differ}
 use Rattle.taf_messages.specs.declared.message.Message.{Message}
+use Rattle.journey.specs.Journey.{Journey}
 use Rattle.journey.specs.TrackStates.{without_newest}
 use Rattle.hub_model.specs.HubState.{HubState, named_wagons, journey_after}
 use Rattle.hub_model.specs.Faults.{fault, known_fault}
@@ -22,6 +23,10 @@ gone_on s m = record s { journey = λ w. if continues_journeys m.body then journ
 -- the wagons of changes
 abbrev pub changed : List Change → List ℕ
 changed cs = map (λ c. c.wagon) cs
+
+-- tables that have these wagons and nothing else
+abbrev pub with_wagons : List (ℕ × Journey) → TableEntries
+with_wagons wagons = record { wagons = wagons; plans = []; units = []; offers = record { offers = []; spare = 0 } }
 
 -- what was known before the newest event of each of these wagons
 abbrev pub known_before : TableEntries → List Change → HubState

@@ -1,29 +1,56 @@
--- How journeys go on by the events of a message.
-use Rattle.std.specs.Prelude.{◌≡◌, ℕ, List, [], ◌∷◌, fold, map}
-use Rattle.std.specs.Map.{keys_of}
-use Rattle.journey.specs.Journey.{Journey}
-use Rattle.hub_tables.specs.TableStates.{TableEntries, events_in}
-use Rattle.hub_tables.specs.Acceptance.{with_event_on}
-use Rattle.hub_tables.specs.Changes.{changed, known_before, AreChanges}
+-- How the journeys of a message's wagons go on by it, one after another.
+use Rattle.std.specs.Prelude.{◌≡◌, ℕ, true, if◌then◌else◌, List, [], ◌∷◌, All, slice_get, Option, Some, None, Result, Ok, Err}
+use Rattle.std.specs.Option.{option_or}
+use Rattle.trip_plan.specs.Rules.{has, all_differ}
+use Rattle.taf_messages.specs.declared.message.Message.{Message}
+use Rattle.taf_messages.specs.declared.reply.Why.{Why}
+use Rattle.eti_chain.specs.Estimates.{fits}
+use Rattle.hub_model.specs.HubState.{HubState, named_wagons, journey_after}
+use Rattle.hub_model.specs.Faults.{whole_fault, known_fault, calendar_fault}
+use Rattle.hub_model.specs.Laws.{OpenIsOffered}
+use Rattle.hub_tables.specs.TableStates.{TableEntries, table_state, continues_journeys}
+use Rattle.hub_tables.specs.Acceptance.{IsStateOf}
+use Rattle.hub_tables.specs.Changes.{changed}
 use Rattle.hub_tables.specs.declared.changes.Change.{Change}
-use Rattle.hub_tables.specs.declared.next_events.EventAt.{EventAt}
-use Rattle.hub_tables.specs.declared.next_events.NextEvents.{NextEvents}
-use Rattle.hub_tables.specs.declared.next_events.NextEvents.TheVariants.{Planned, Alone, Each}
 
--- tables that have these wagons and nothing else
-abbrev pub with_wagons : List (ℕ × Journey) → TableEntries
-with_wagons wagons = record { wagons = wagons; plans = []; units = []; offers = record { offers = []; spare = 0 } }
+-- the checks of one wagon whose journey goes on by the message: by its own events, and then by the calendar
+abbrev pub wagon_refusal : HubState → Message → ℕ → Option Why
+wagon_refusal s m w = option_or (known_fault s m w) (calendar_fault s m w)
 
--- the events by which journeys go on, one after another
-abbrev pub in_turn : NextEvents → List EventAt
-in_turn Planned = []
-in_turn (Alone e) = e ∷ []
-in_turn (Each es) = es.items
+-- where a wagon that the message names passes its checks, no estimate of it passes the calendar afterwards
+abbrev pub KeepsCalendar : HubState → Message → Type 0
+KeepsCalendar s m = continues_journeys m.body ≡ true → (w : ℕ) → has (named_wagons s.offer m) w ≡ true → wagon_refusal s m w ≡ None → fits (journey_after s m w) ≡ true
 
--- the journeys have gone on by these events, one of each wagon, and by these changes they can be taken back
-pub record HaveGoneOn (old new : List (ℕ × Journey)) (es : List EventAt) (cs : List Change) : Type 0 where
-  pub keys : keys_of new ≡ keys_of old
-  pub events : (w : ℕ) → events_in new w ≡ fold with_event_on (events_in old) es w
-  pub wagons : changed cs ≡ map (λ e. e.wagon) es
-  pub changes : AreChanges (with_wagons new) cs
-  pub before : (w : ℕ) → (known_before (with_wagons new) cs).journey w ≡ events_in old w
+-- the message is not refused as a whole, and goes on with the journeys of wagons that all differ
+pub record GoesOn (s : HubState) (m : Message) : Type 0 where
+  pub offered : OpenIsOffered s
+  pub calendar : KeepsCalendar s m
+  pub continues : continues_journeys m.body ≡ true
+  pub whole : whole_fault s m.by m.body ≡ None
+  pub differ : all_differ (named_wagons s.offer m) ≡ true
+
+-- the message names the wagon, which passes its checks
+pub record Passes (s : HubState) (m : Message) (w : ℕ) : Type 0 where
+  pub is_named : has (named_wagons s.offer m) w ≡ true
+  pub admits : wagon_refusal s m w ≡ None
+
+-- the wagon stands at its position of the fleet, and has this beside its events
+pub record IsKept (s : HubState) (c : Change) : Type 0 where
+  pub position_is : slice_get s.fleet c.position ≡ Some c.wagon
+  pub before_is : IsStateOf (s.journey c.wagon) c.before
+
+-- what is known once the journeys of these wagons have gone on by the message
+abbrev pub after_each : HubState → Message → List ℕ → HubState
+after_each s m ws = record s { journey = λ w. if has ws w then journey_after s m w else s.journey w }
+
+-- the journeys of these wagons, which passed their checks, have gone on by the message, and the changes tell what was kept before
+pub record HaveGoneOn (s : HubState) (t : TableEntries) (m : Message) (ws : List ℕ) (cs : List Change) : Type 0 where
+  pub known : table_state t ≡ after_each s m ws
+  pub wagons : changed cs ≡ ws
+  pub passed : (w : ℕ) → has ws w ≡ true → Passes s m w
+  pub before : All (IsKept s) cs
+
+-- the wagon's journey has gone on by the message with this change, or it is refused so, and nothing is changed
+abbrev pub IsGoneOnOrRefused : HubState → TableEntries → Message → ℕ → Result Change Why → Type 0
+IsGoneOnOrRefused s t m w (Ok c) = HaveGoneOn s t m (w ∷ []) (c ∷ [])
+IsGoneOnOrRefused s t m w (Err why) = (wagon_refusal s m w ≡ Some why) × (table_state t ≡ s)

@@ -1,5 +1,4 @@
 pub mod TableStates
 pub mod Acceptance
-pub mod Checked
 pub mod Changes
 pub mod GoingOn

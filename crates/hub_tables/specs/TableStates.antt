@@ -1,11 +1,10 @@
 -- What the tables are seen as: all that is looked up but first sends and outboxes.
-use Rattle.std.specs.Prelude.{◌≡◌, ℕ, Bool, true, false, nat_eq, List, [], ◌∷◌, All, map, slice_get, Option, Some, None, IfSome, bytes_eq}
+use Rattle.std.specs.Prelude.{◌≡◌, ℕ, Bool, true, false, nat_eq, List, [], Option, Some, None, IfSome, bytes_eq}
 use Rattle.std.specs.Option.{option_map_or}
 use Rattle.std.specs.Map.{lookup, keys_of}
 use Rattle.taf_codes.specs.declared.code.UnitCode.{UnitCode}
 use Rattle.taf_codes.specs.declared.name.ConsignmentId.{ConsignmentId}
 use Rattle.trip_plan.specs.Trip.{Trip}
-use Rattle.trip_plan.specs.Rules.{has}
 use Rattle.taf_messages.specs.declared.message.Message.{Message}
 use Rattle.taf_messages.specs.declared.message.Body.{Body}
 use Rattle.taf_messages.specs.declared.message.Body.TheVariants as body
@@ -13,11 +12,8 @@ use Rattle.journey.specs.declared.event.Event.{Event}
 use Rattle.journey.specs.Journey.{Journey}
 use Rattle.eti_chain.specs.Estimates.{fits}
 use Rattle.interchange.specs.OfferTable.{OfferTable, offer_of, is_standing}
-use Rattle.hub_model.specs.HubState.{HubState, new_state, named_wagons, event_for, journey_after}
-use Rattle.hub_model.specs.Faults.{fault, is_unknown, known_fault}
-use Rattle.hub_tables.specs.declared.next_events.EventAt.{EventAt}
-use Rattle.hub_tables.specs.declared.next_events.NextEvents.{NextEvents}
-use Rattle.hub_tables.specs.declared.next_events.NextEvents.TheVariants.{Planned, Alone, Each}
+use Rattle.hub_model.specs.HubState.{HubState, new_state, journey_after}
+use Rattle.hub_model.specs.Faults.{fault, is_unknown}
 
 -- the entries of the tables, in their order
 pub record TableEntries : Type 0 where
@@ -73,25 +69,6 @@ named_alone (body.EtiAsk w) = Some w
 named_alone (body.LegTime w leg minutes) = Some w
 named_alone (body.Reroute w route) = Some w
 named_alone _ = None
-
--- the event is that of the message for a wagon that it names, which stands at the position of the fleet and whose journey admits it
-pub record IsEventOf (s : HubState) (m : Message) (e : EventAt) : Type 0 where
-  pub is_named : has (named_wagons s.offer m) e.wagon ≡ true
-  pub position_is : slice_get s.fleet e.position ≡ Some e.wagon
-  pub event_is : e.event ≡ event_for s.offer m e.wagon
-  pub admitted : known_fault s m e.wagon ≡ None
-
--- the events are those of the wagons that the message names, whose journeys go on
-pub record AreEventsOf (s : HubState) (m : Message) (es : List EventAt) : Type 0 where
-  pub goes_on : continues_journeys m.body ≡ true
-  pub wagons : map (λ e. e.wagon) es ≡ named_wagons s.offer m
-  pub each : All (IsEventOf s m) es
-
--- the events of a message that may be accepted
-unfoldable pub AreNextEvents : HubState → Message → NextEvents → Type 0
-AreNextEvents s m Planned = continues_journeys m.body ≡ false
-AreNextEvents s m (Alone e) = AreEventsOf s m (e ∷ [])
-AreNextEvents s m (Each es) = AreEventsOf s m es.items × (named_alone m.body ≡ None)
 
 -- the message may be accepted: it has no fault, no estimate passes the calendar with it, and its name is new
 pub record IsAcceptable (s : HubState) (m : Message) : Type 0 where

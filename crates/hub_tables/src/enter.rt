@@ -1,14 +1,16 @@
 //! Entries and events that are put into tables.
-ghost use Rattle.std.specs.Prelude.{◌≡◌, ℕ, ◌≤◌, Some, OnErr, OnOk, length, slice_get};
+ghost use Rattle.std.specs.Prelude.{◌≡◌, ℕ, ◌≤◌, ◌++◌, ◌∷◌, [], Some, None, true, OnErr, OnOk, length, slice_get};
 ghost use Rattle.std.specs.Map.{keys_of, update_all};
 ghost use Rattle.indexmap.specs.IndexMap.{get, insert_all, spare};
+ghost use Rattle.journey.specs.Checks.{refusal};
 ghost use Rattle.journey.specs.TrackStates.{without_newest};
+ghost use Rattle.eti_chain.specs.Estimates.{fits};
 ghost use Rattle.hub_tables.specs.TableStates.{AreJourneyEntries, events_in};
-ghost use Rattle.hub_tables.specs.Acceptance.{IsStateOf, MayComeNext, with_event_on, without_newest_of};
+ghost use Rattle.hub_tables.specs.Acceptance.{IsStateOf, with_event_of, without_newest_of};
 
-use crate::next_events::EventAt;
 use crate::wagon::{Wagon, WagonState};
 use indexmap::IndexMap;
+use journey::Event;
 use std::hash::Hash;
 use taf_codes::Memory;
 use wagon_number::WagonNumber;
@@ -25,41 +27,32 @@ pub(crate) fn enter<K: Eq + Hash + Drop, V: Drop>(table: &mut IndexMap<K, V>, en
     }
 }
 
-/// Adds an event at the end of its wagon's journey. Where memory is refused, all journeys are as they were.
+/// Adds an event at the end of the journey of the wagon at a position. Where memory is refused, all journeys are as they were.
 #[inline(always)]
-pub(crate) fn add(wagons: &mut IndexMap<WagonNumber, Wagon>, next: EventAt) -> Result<(), Memory>
+pub(crate) fn add(
+    wagons: &mut IndexMap<WagonNumber, Wagon>,
+    wagon: WagonNumber,
+    position: usize,
+    event: Event,
+) -> Result<(), Memory>
     requires journeys { AreJourneyEntries wagons.old.entries }
-    requires position { slice_get (keys_of wagons.old.entries) next.position ≡ Some next.wagon }
-    requires next { MayComeNext (events_in wagons.old.entries next.wagon) next.event }
+    requires position { slice_get (keys_of wagons.old.entries) position ≡ Some wagon }
+    requires admitted { refusal (events_in wagons.old.entries wagon) event.by event.body ≡ None }
+    requires fits { fits (events_in wagons.old.entries wagon ++ event ∷ []) ≡ true }
     ensures ok { OnOk result ((w : ℕ) → events_in wagons.new.entries w
-        ≡ with_event_on (events_in wagons.old.entries) next w) }
+        ≡ with_event_of wagon event (events_in wagons.old.entries) w) }
     ensures err { OnErr result ((w : ℕ) → events_in wagons.new.entries w
         ≡ events_in wagons.old.entries w) }
     ensures keys { keys_of wagons.new.entries ≡ keys_of wagons.old.entries }
     ensures journeys { AreJourneyEntries wagons.new.entries }
 {
-    match wagons.get_index_mut(next.position) {
+    match wagons.get_index_mut(position) {
         Some(found) => {
-            let Ok(()) = found.add(next.event) else {
+            let Ok(()) = found.add(event) else {
                 return Err(Memory);
             };
             Ok(())
         }
-        None => unreachable!(),
-    }
-}
-
-/// What the wagon at a position keeps beside its events.
-pub(crate) fn state_at(
-    wagons: &IndexMap<WagonNumber, Wagon>,
-    wagon: WagonNumber,
-    position: usize,
-) -> WagonState
-    requires position { slice_get (keys_of wagons.now.entries) position ≡ Some wagon }
-    ensures { IsStateOf (events_in wagons.now.entries wagon) result }
-{
-    match wagons.get_index(position) {
-        Some((_, found)) => found.state(),
         None => unreachable!(),
     }
 }

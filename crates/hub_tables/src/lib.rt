@@ -5,10 +5,10 @@
 //! the crate `hub_model` but for first sends and outboxes, which are kept elsewhere. Each look-up answers what the model's state
 //! says.
 //!
-//! [`Tables::take`] checks a new message by the tables. It asks first what may be wrong with the message as a whole, then each
-//! wagon that the message names, in the message's order, and then each intermodal unit that it loads. The first check that fails is
-//! the answer, with the wagon at which it failed. A message without a fault may be accepted, and the journeys of its wagons go on by
-//! it at once, unless it is a plan, which begins them.
+//! [`Tables::take`] asks first what may be wrong with a new message as a whole. A plan is then asked for a wagon that is busy, and
+//! for an intermodal unit that is. With any other message each wagon that it names is checked in the message's order, and its journey
+//! goes on at once. The first check that fails is the answer, with the wagon at which it failed, and the journeys that went on
+//! before it are taken back. So a message without a fault has gone on with all its journeys, and may be accepted.
 //!
 //! | message | as a whole | each wagon |
 //! |---|---|---|
@@ -19,8 +19,11 @@
 //!
 //! The wagons of an answer or a withdrawal are offered, so their journeys admit it, and of these two only an answer can make an
 //! estimate pass the calendar. So one check serves every message that goes on with journeys (`both_asked` in `proofs/ContinuationLemmas.antt`).
-//! It looks each wagon up once, and makes its event once. The journeys go on by these events, each of which has its wagon's position
-//! in the fleet, so that no wagon is looked up again.
+//! It looks each wagon up once, and makes its event once; the event is added at the position where the wagon was found. The wagons
+//! of a message all differ, so the check of one does not depend on the journeys that have gone on before it.
+//!
+//! Not every event is asked whether an estimate passes the calendar. That none does once a wagon has passed its checks is what the
+//! caller knows (`KeepsCalendar`): for a legal history it is a law of `hub_model`.
 //!
 //! A list that the caller lends gets a [`Change`] for each wagon whose journey went on: its position, and what was kept beside its
 //! events before. So the items of the message are made by what was kept before and by what the tables say now. Then
@@ -36,9 +39,8 @@
 
 mod accept;
 mod changes;
-mod checked;
 mod enter;
-mod next_events;
+mod going_on;
 mod tables;
 mod taking;
 mod unit_checks;

@@ -3,16 +3,18 @@ ghost use Rattle.std.specs.Prelude.{◌≡◌, IfOk, OnErr, OnOk, None, true};
 ghost use Rattle.trip_plan.specs.Rules.{all_differ};
 ghost use Rattle.interchange.specs.Offers.{wagons_of};
 ghost use Rattle.hub_model.specs.HubState.{named_wagons};
-ghost use Rattle.hub_model.specs.Faults.{fault};
+ghost use Rattle.hub_model.specs.Faults.{whole_fault};
 ghost use Rattle.hub_model.specs.Laws.{OpenIsOffered};
 ghost use Rattle.hub_model.specs.Updates.{after_acceptance};
 ghost use Rattle.hub_tables.specs.TableStates.{IsAcceptable, continues_journeys, table_part, table_state};
 ghost use Rattle.hub_tables.specs.Changes.{AreChanges, HasGoneOn, IsTaken, known_before};
+ghost use Rattle.hub_tables.specs.GoingOn.{KeepsCalendar};
 
 use crate::accept::accept_offer;
-use crate::changes::{Change, go_on_by, take_back_each};
-use crate::checked::{Checked, check};
+use crate::changes::{Change, take_back_each};
 use crate::tables::Tables;
+use crate::unit_checks::busy_fault;
+use crate::whole::whole_fault;
 use hub_model::Fault;
 use std::alloc::Global;
 use taf_codes::{Memory, Railway};
@@ -20,7 +22,7 @@ use taf_messages::{Body, Message, MessageNumber, OfferedWagons, TrainAnswer};
 
 impl Tables {
     /// Checks a message that is new, and goes on with the journeys of its wagons by it, unless it has a fault, which is then the
-    /// answer. The list gets the changes of these journeys; what it had before is dropped. `Memory` where memory is refused: then
+    /// answer: as a whole, at a wagon, or for an intermodal unit. The list gets the changes of these journeys; what it had before is dropped. `Memory` where memory is refused: then
     /// all is as it was.
     pub fn take(
         &mut self,
@@ -29,20 +31,20 @@ impl Tables {
         changes: &mut Vec<Change>,
     ) -> Result<Option<Fault>, Memory>
         requires offered { OpenIsOffered (table_state self.old) }
-        requires acceptable { fault (table_state self.old) message.now ≡ None → IsAcceptable
-            (table_state self.old) message.now }
+        requires calendar { KeepsCalendar (table_state self.old) message.now }
         ensures ok { IfOk result (IsTaken self.old self.new message.now changes.new.items) }
         ensures err { OnErr result (table_state self.new ≡ table_state self.old) }
     {
         changes.clear();
-        match check(alloc, self, message)? {
-            Checked::Refused(found) => Ok(Some(found)),
-            Checked::Accepted(events) => {
-                self.named_differ(message);
-                go_on_by(&mut self.wagons, events, changes)?;
-                Ok(None)
-            }
+        if let Some(why) = whole_fault(self, message.by(), message.body()) {
+            return Ok(Some(Fault { why, wagon: None }));
         }
+        if let Body::Plan(plan) = message.body() {
+            return Ok(busy_fault(self, message, plan));
+        }
+        self.named_differ(message);
+        let wagons = self.named_wagons(alloc, message)?;
+        self.go_on_each(message, wagons.as_slice(), changes)
     }
 
     /// Takes these changes of journeys back. It takes no memory.
@@ -85,9 +87,9 @@ impl Tables {
         }
     }
 
-    // The wagons of a message are all different, where it has no fault and begins no journey.
+    // The wagons of a message that is not refused as a whole, and begins no journey, are all different.
     fn named_differ(&self, message: &Message)
-        requires sound { fault (table_state self.now) message.now ≡ None }
+        requires whole { whole_fault (table_state self.now) message.now.by message.now.body ≡ None }
         ensures { continues_journeys message.now.body ≡ true → all_differ (named_wagons
             (table_state self.now).offer message.now) ≡ true }
     {

@@ -1,49 +1,18 @@
 //! What may be wrong with one wagon that a message names.
-ghost use Rattle.std.specs.Prelude.{◌≡◌, ◌&&◌, ◌++◌, ◌∷◌, [], IfOk, None, Some, true, not, if◌then◌else◌};
+ghost use Rattle.std.specs.Prelude.{◌≡◌, ◌&&◌, ◌++◌, ◌∷◌, [], None, Some, not, if◌then◌else◌};
 ghost use Rattle.std.specs.List.{find};
 ghost use Rattle.std.specs.Option.{option_or};
-ghost use Rattle.trip_plan.specs.Rules.{has};
 ghost use Rattle.journey.specs.Stages as stages;
 ghost use Rattle.journey.specs.Checks.{refusal};
 ghost use Rattle.eti_chain.specs.Estimates as estimates;
-ghost use Rattle.hub_model.specs.HubState.{named_wagons};
 ghost use Rattle.hub_model.specs.Faults.{is_busy};
 ghost use Rattle.hub_tables.specs.TableStates.{table_state};
-ghost use Rattle.hub_tables.specs.Checked.{GoesOn, IsWagonChecked};
 
-use crate::next_events::EventAt;
 use crate::tables::Tables;
 use crate::wagon::Wagon;
 use journey::{Event, EventBody};
-use taf_codes::Memory;
-use taf_messages::{Message, MovementKind, Why};
+use taf_messages::{MovementKind, Why};
 use wagon_number::WagonNumber;
-
-/// Checks a wagon that the message names: by its own events, and then by the calendar. Gives its event, or why the message is
-/// refused there.
-#[inline(always)]
-pub(crate) fn check_wagon(
-    tables: &Tables,
-    message: &Message,
-    wagon: WagonNumber,
-) -> Result<Result<EventAt, Why>, Memory>
-    requires goes_on { GoesOn (table_state tables.now) message.now }
-    requires named { has (named_wagons (table_state tables.now).offer message.now) wagon ≡ true }
-    ensures { IfOk result (IsWagonChecked (table_state tables.now) message.now wagon) }
-{
-    let Some((position, found)) = tables.find(wagon) else {
-        return Ok(Err(Why::UnknownWagon));
-    };
-    let event = tables.event_for(message, wagon)?;
-    match event_fault(found, &event) {
-        Some(why) => Ok(Err(why)),
-        None => Ok(Ok(EventAt {
-            wagon,
-            position,
-            event,
-        })),
-    }
-}
 
 /// The first of a plan's wagons that is busy: a wagon is planned anew once it is delivered.
 pub(crate) fn first_busy(tables: &Tables, wagons: &[WagonNumber]) -> Option<WagonNumber>
@@ -77,9 +46,9 @@ pub(crate) fn is_delivered(tables: &Tables, wagon: WagonNumber) -> bool
     }
 }
 
-// Why a wagon that is known may not have the event: by its own events, or since an estimate would pass the calendar.
+/// Why a wagon that is known may not have the event: by its own events, or since an estimate would pass the calendar.
 #[inline(always)]
-fn event_fault(wagon: &Wagon, event: &Event) -> Option<Why>
+pub(crate) fn event_fault(wagon: &Wagon, event: &Event) -> Option<Why>
     ensures { result ≡ option_or (refusal wagon.now.events event.now.by event.now.body)
         (if estimates.is_calendar_checked event.now.body && not
         (estimates.fits (wagon.now.events ++ event.now ∷ [])) then Some Why.BeyondCalendar
@@ -98,15 +67,7 @@ fn is_beyond(wagon: &Wagon, event: &Event) -> bool
     ensures { result ≡ (estimates.is_calendar_checked event.now.body && not
         (estimates.fits (wagon.now.events ++ event.now ∷ []))) }
 {
-    is_calendar_checked(&event.body) && would_pass_calendar(wagon, event)
-}
-
-// An estimate would pass the calendar with the event, whether that refuses it or not.
-fn would_pass_calendar(wagon: &Wagon, event: &Event) -> bool
-    requires { refusal wagon.now.events event.now.by event.now.body ≡ None }
-    ensures { result ≡ not (estimates.fits (wagon.now.events ++ event.now ∷ [])) }
-{
-    wagon.estimates().would_pass_calendar(wagon.track(), event)
+    is_calendar_checked(&event.body) && wagon.estimates().would_pass_calendar(wagon.track(), event)
 }
 
 // An event that is refused where it would make an estimate pass the calendar.

@@ -4,7 +4,7 @@ ghost use Rattle.hub_model.specs.HubState.{named_wagons, event_body_for, event_f
 ghost use Rattle.hub_model.specs.Faults.{whole_fault};
 ghost use Rattle.interchange.specs.Offers.{wagons_of, place_of};
 ghost use Rattle.trip_plan.specs.Rules.{has};
-ghost use Rattle.hub_tables.specs.TableStates.{named_alone, table_state};
+ghost use Rattle.hub_tables.specs.TableStates.{table_state};
 ghost use Rattle.hub_tables.specs.Acceptance.{IsBeginning};
 
 use crate::tables::Tables;
@@ -39,10 +39,10 @@ fn both(
 
 impl Tables {
     /// The wagons that a message names, in its order: those of an answer are the received and then the refused ones, and
-    /// those of a withdrawal are the wagons of its offer. Only those of an answer take memory, and `Memory` where it is
-    /// refused.
+    /// those of a withdrawal are the wagons of its offer. Those of these two are copies, and `Memory` where it is refused for
+    /// them. No others take memory.
     pub(crate) fn named_wagons<'a>(
-        &'a self,
+        &self,
         alloc: Global,
         message: &'a Message,
     ) -> Result<CowSlice<'a, WagonNumber>, Memory>
@@ -61,7 +61,10 @@ impl Tables {
                 let wagons = both(alloc, answer.received.as_slice(), answer.refused.as_slice())?;
                 return Ok(CowSlice::Owned(wagons));
             }
-            Body::Withdraw { offer, .. } => self.offered_wagons(message.by(), *offer),
+            Body::Withdraw { offer, .. } => {
+                let wagons = Vec::from_slice(alloc, self.offered_wagons(message.by(), *offer))?;
+                return Ok(CowSlice::Owned(wagons));
+            }
         };
         Ok(CowSlice::Borrowed(wagons))
     }
@@ -161,19 +164,6 @@ impl Tables {
             begun.push((*wagon, Wagon::open(alloc, *wagon, event)?))?;
         }
         Ok(begun)
-    }
-}
-
-/// The wagon of a message that names one alone. None where the message may name several.
-pub(crate) fn named_alone(message: &Message) -> Option<WagonNumber>
-    ensures { result ≡ named_alone message.now.body }
-{
-    match message.body() {
-        Body::Movement(movement) => Some(movement.wagon),
-        Body::EtiAsk { wagon } => Some(*wagon),
-        Body::LegTime { wagon, .. } => Some(*wagon),
-        Body::Reroute { wagon, .. } => Some(*wagon),
-        Body::Plan(_) | Body::Offer(_) | Body::Answer(_) | Body::Withdraw { .. } => None,
     }
 }
 

@@ -11,16 +11,13 @@ unwrap-before-requires g c =
 pub loop-key-preserved : goal.loop-key-preserved
 loop-key-preserved g c =
     let at = c.loop-key in
-    let eq = g.K.PartialEq.eq in
     let steps = c.in-Some.ensures.steps.0 in
     let short = ap length steps in
     let room = at.invariant.room in
     let left = c.insert.ensures.spare in
-    let entries = rw c.unwrap-before.ensures at c.insert.ensures.entries in
-    let updates = rw c.unwrap-before.ensures at c.insert.ensures.updates in
     record {
-      entered = entered_more eq c.args.table.now at.table c.insert.new.self c.args.entries.items _ (into_iter_items c.next.new.self) c.in-Some.key c.in-Some.value steps entries at.invariant.entered;
-      values = values_more eq c.args.table.now at.table c.insert.new.self c.args.entries.items _ (into_iter_items c.next.new.self) c.in-Some.key c.in-Some.value steps updates.0 at.invariant.values;
+      entered = entered_more g.K.PartialEq.eq c.args.table.now at.table c.insert.new.self c.args.entries.items _ (into_iter_items c.next.new.self) c.in-Some.key c.in-Some.value steps (rw c.unwrap-before.ensures at c.insert.ensures.entries) at.invariant.entered;
+      values = values_more g.K.PartialEq.eq c.args.table.now at.table c.insert.new.self c.args.entries.items _ (into_iter_items c.next.new.self) c.in-Some.key c.in-Some.value steps (rw c.unwrap-before.ensures at c.insert.ensures.updates).0 at.invariant.values;
       room = omega arith;
       counted = let was = at.invariant.counted in let gone = c.in-Some.ensures.steps.1 in omega arith;
     }
@@ -28,16 +25,13 @@ loop-key-preserved g c =
 pub loop-key-preserved-in-Some : goal.loop-key-preserved-in-Some
 loop-key-preserved-in-Some g c =
     let at = c.loop-key in
-    let eq = g.K.PartialEq.eq in
     let steps = c.in-Some.ensures.steps.0 in
     let short = ap length steps in
     let room = at.invariant.room in
     let left = c.insert.ensures.spare in
-    let entries = rw c.unwrap-before.ensures at c.insert.ensures.entries in
-    let updates = rw c.unwrap-before.ensures at c.insert.ensures.updates in
     record {
-      entered = entered_more eq c.args.table.now at.table c.insert.new.self c.args.entries.items _ (into_iter_items c.next.new.self) c.in-Some.key c.in-Some.value steps entries at.invariant.entered;
-      values = values_more eq c.args.table.now at.table c.insert.new.self c.args.entries.items _ (into_iter_items c.next.new.self) c.in-Some.key c.in-Some.value steps updates.0 at.invariant.values;
+      entered = entered_more g.K.PartialEq.eq c.args.table.now at.table c.insert.new.self c.args.entries.items _ (into_iter_items c.next.new.self) c.in-Some.key c.in-Some.value steps (rw c.unwrap-before.ensures at c.insert.ensures.entries) at.invariant.entered;
+      values = values_more g.K.PartialEq.eq c.args.table.now at.table c.insert.new.self c.args.entries.items _ (into_iter_items c.next.new.self) c.in-Some.key c.in-Some.value steps (rw c.unwrap-before.ensures at c.insert.ensures.updates).0 at.invariant.values;
       room = omega arith;
       counted = let was = at.invariant.counted in let gone = c.in-Some.ensures.steps.1 in omega arith;
     }

@@ -1,0 +1,86 @@
+//! How the journeys of a message's wagons go on: each wagon is checked, and at once its journey goes on.
+ghost use Rattle.std.specs.Prelude.{◌≡◌, [], IfOk, None, OnErr, true};
+ghost use Rattle.trip_plan.specs.Rules.{has};
+ghost use Rattle.eti_chain.specs.Estimates.{fits};
+ghost use Rattle.hub_model.specs.HubState.{journey_after, named_wagons};
+ghost use Rattle.hub_model.specs.Faults.{whole_fault};
+ghost use Rattle.hub_tables.specs.TableStates.{table_state};
+ghost use Rattle.hub_tables.specs.Changes.{IsTaken};
+ghost use Rattle.hub_tables.specs.GoingOn.{GoesOn, IsGoneOnOrRefused, wagon_refusal};
+
+use crate::changes::Change;
+use crate::enter::add;
+use crate::tables::Tables;
+use crate::wagon_checks::event_fault;
+use hub_model::Fault;
+use taf_codes::Memory;
+use taf_messages::{Message, Why};
+use wagon_number::WagonNumber;
+
+impl Tables {
+    /// Goes on with the journeys of a message's wagons, which are these, in turn. The first wagon that is refused is the
+    /// answer. Then, and where memory is refused, those that went on are taken back. The list, which is empty, gets the changes.
+    pub(crate) fn go_on_each(
+        &mut self,
+        message: &Message,
+        wagons: &[WagonNumber],
+        changes: &mut Vec<Change>,
+    ) -> Result<Option<Fault>, Memory>
+        requires goes_on { GoesOn (table_state self.old) message.now }
+        requires named { wagons.now ≡ named_wagons (table_state self.old).offer message.now }
+        requires empty { changes.old.items ≡ [] }
+        ensures ok { IfOk result (IsTaken self.old self.new message.now changes.new.items) }
+        ensures err { OnErr result (table_state self.new ≡ table_state self.old) }
+    {
+        changes.reserve(wagons.len())?;
+        for wagon in wagons {
+            match self.go_on(message, *wagon) {
+                Ok(Ok(change)) => changes.push_reserved(change),
+                Ok(Err(why)) => {
+                    self.take_back(changes);
+                    return Ok(Some(Fault {
+                        why,
+                        wagon: Some(*wagon),
+                    }));
+                }
+                Err(refused) => {
+                    self.take_back(changes);
+                    return Err(refused);
+                }
+            }
+        }
+        Ok(None)
+    }
+
+    // Checks a wagon that the message names, by its own events and then by the calendar, and goes on with its journey. Gives the
+    // change, or why the message is refused there.
+    #[inline(always)]
+    fn go_on(
+        &mut self,
+        message: &Message,
+        wagon: WagonNumber,
+    ) -> Result<Result<Change, Why>, Memory>
+        requires whole { whole_fault (table_state self.old) message.now.by message.now.body ≡ None }
+        requires named { has (named_wagons (table_state self.old).offer message.now) wagon ≡ true }
+        requires calendar { wagon_refusal (table_state self.old) message.now wagon ≡ None
+            → fits (journey_after (table_state self.old) message.now wagon) ≡ true }
+        ensures ok { IfOk result
+            (IsGoneOnOrRefused (table_state self.old) self.new message.now wagon) }
+        ensures err { OnErr result (table_state self.new ≡ table_state self.old) }
+    {
+        let Some((position, found)) = self.find(wagon) else {
+            return Ok(Err(Why::UnknownWagon));
+        };
+        let event = self.event_for(message, wagon)?;
+        if let Some(why) = event_fault(found, &event) {
+            return Ok(Err(why));
+        }
+        let before = found.state();
+        add(&mut self.wagons, wagon, position, event)?;
+        Ok(Ok(Change {
+            wagon,
+            position,
+            before,
+        }))
+    }
+}
