@@ -5,7 +5,7 @@ ghost use Rattle.eti_chain.specs.Estimates as of;
 ghost use Rattle.eti_chain.specs.EstimateStates as states;
 
 use crate::anchor::{Anchor, anchor_after};
-use journey::{Event, JourneyState, Legs, Track};
+use journey::{Event, Legs, Track};
 use std::marker::Model;
 use taf_moment::Moment;
 use trip_plan::Leg;
@@ -38,18 +38,23 @@ impl<'a> EstimateBasis<'a> {
         ensures value { result ≡ of.estimate_basis track.now.events }
         ensures on_a_leg { result.leg_index < length result.legs }
     {
-        EstimateBasis::by(track.journey_state(), newest_anchor(track.events()))
+        let state = track.journey_state();
+        EstimateBasis::by(state.leg_index, &state.legs, newest_anchor(track.events()))
     }
 
-    /// The same by what a journey came to, and its newest anchor.
-    pub(crate) fn by(state: &'a JourneyState, anchor: Option<Anchor>) -> EstimateBasis<'a>
-        requires on_a_leg { state.now.leg_index < length state.now.legs }
+    /// The same by the leg that the wagon is on, its legs and its newest anchor.
+    pub(crate) fn by(
+        leg_index: usize,
+        legs: &'a Legs,
+        anchor: Option<Anchor>,
+    ) -> EstimateBasis<'a>
+        requires on_a_leg { leg_index < length legs.now }
         requires small { of.delays_of anchor < 2 ^ 127 }
-        ensures { result ≡ of.basis_from state.now.leg_index state.now.legs anchor }
+        ensures { result ≡ of.basis_from leg_index legs.now anchor }
     {
         EstimateBasis {
-            leg_index: state.leg_index,
-            legs: &state.legs,
+            leg_index,
+            legs,
             anchor,
         }
     }

@@ -5,7 +5,7 @@ ghost use Rattle.eti_chain.specs.Estimates as of;
 use crate::anchor::{Anchor, anchor_in, delay_in, go_on};
 use crate::basis::EstimateBasis;
 use crate::estimates::Estimates;
-use journey::{Event, JourneyState, Track};
+use journey::{Event, Legs, Track};
 use std::marker::Model;
 use taf_codes::Memory;
 use taf_moment::Moment;
@@ -61,18 +61,21 @@ impl EstimateAnchor {
         requires fits { of.fits track.now.events ≡ true }
         ensures { result ≡ estimates_state track.now.events }
     {
-        self.estimates_by(track.journey_state())
+        let state = track.journey_state();
+        self.estimates_by(state.leg_index, &state.legs)
     }
 
-    /// The estimates of a journey that came to this state, with this anchor. It takes no walk.
-    pub fn estimates_by<'a>(&self, state: &'a JourneyState) -> Estimates<'a>
-        requires on_a_leg { state.now.leg_index < length state.now.legs }
-        requires fits { of.fits_in (of.basis_from state.now.leg_index state.now.legs
-            self.now.newest) ≡ true }
-        ensures { result ≡ state_with_commitment (of.basis_from state.now.leg_index state.now.legs
-            self.now.newest) self.now.commit }
+    /// The estimates of a wagon that is on this leg, of these legs, with this anchor. It takes no walk.
+    pub fn estimates_by<'a>(&self, leg_index: usize, legs: &'a Legs) -> Estimates<'a>
+        requires on_a_leg { leg_index < length legs.now }
+        requires fits { of.fits_in (of.basis_from leg_index legs.now self.now.newest) ≡ true }
+        ensures { result ≡ state_with_commitment (of.basis_from leg_index legs.now self.now.newest)
+            self.now.commit }
     {
-        Estimates::by(EstimateBasis::by(state, self.newest), self.commit)
+        Estimates::by(
+            EstimateBasis::by(leg_index, legs, self.newest),
+            self.commit,
+        )
     }
 
     /// Adds an event to the track that this is kept for, and goes on with it. The event may come next, and no estimate

@@ -83,7 +83,8 @@ impl<'a> Estimates<'a> {
         ensures { self.new ≡ estimates_state (track.now.events ++ event.now ∷ []) }
     {
         let state = track.state_after(event);
-        let basis = EstimateBasis::by(&state, anchor_after(self.anchor, event));
+        let anchor = anchor_after(self.anchor, event);
+        let basis = EstimateBasis::by(state.leg_index, &state.legs, anchor);
         *self = Estimates::by(basis, self.commit).owned();
     }
 
@@ -96,10 +97,11 @@ impl<'a> Estimates<'a> {
     {
         let anchor = anchor_after(self.anchor, event);
         if keeps_legs(&event.body) {
-            return !EstimateBasis::by(track.journey_state(), anchor).fits();
+            let state = track.journey_state();
+            return !EstimateBasis::by(state.leg_index, &state.legs, anchor).fits();
         }
         let state = track.state_after(event);
-        !EstimateBasis::by(&state, anchor).fits()
+        !EstimateBasis::by(state.leg_index, &state.legs, anchor).fits()
     }
 
     /// When the wagon is expected at the end of this leg: none without an event to count from,

@@ -18,7 +18,7 @@
 //!   and goes on with it.
 //! - [`Estimates::follow`] goes from the estimates of a track to those of the track with one event more.
 //!   [`Estimates::would_pass_calendar`] says beforehand whether one would pass the calendar.
-//! - [`EstimateAnchor::estimates_by`] gives those of a journey by what it came to, which may be kept from before an event.
+//! - [`EstimateAnchor::estimates_by`] gives those by a leg index and legs, which may be kept from before an event.
 //! - [`Estimates::estimate`], [`Estimates::eta`], [`Estimates::late`] and [`Estimates::late_by`] read them.
 //!   [`EstimatesInTurn`], by [`Estimates::in_turn`], gives those of all legs, one after another.
 //!

@@ -1,13 +1,15 @@
 -- What the events of a journey come to: all that a further event is judged by (4.2.7, 4.2.8).
-use Rattle.std.specs.Prelude.{ℕ, Bool, false, not, ◌||◌, ◌&&◌, if◌then◌else◌, List, slice_get, Option, Some, None, option_map}
+use Rattle.std.specs.Prelude.{ℕ, Bool, false, not, ◌||◌, ◌&&◌, if◌then◌else◌, List, slice_get, Option, Some, None, option_map, unwrap_or}
 use Rattle.std.specs.Option.{option_or}
 use Rattle.taf_codes.specs.declared.code.Railway.{Railway}
 use Rattle.taf_codes.specs.declared.code.Place.{Place}
 use Rattle.trip_plan.specs.Trip.{Trip}
+use Rattle.trip_plan.specs.declared.parts.Leg.{Leg}
 use Rattle.taf_messages.specs.declared.record.Stage.TheVariants as stage_is
 use Rattle.journey.specs.declared.event.Event.{Event}
 use Rattle.journey.specs.declared.event.EventBody.{EventBody}
 use Rattle.journey.specs.declared.journey_state.JourneyState.{JourneyState}
+use Rattle.journey.specs.declared.earlier_state.EarlierState.{EarlierState}
 use Rattle.journey.specs.Words.{newest}
 use Rattle.journey.specs.Stages.{stage, stage_after, leg_index, has_departed, is_delivered, is_departure, is_delivery, new_responsible}
 use Rattle.journey.specs.Legs.{legs, legs_after, index_after, lead_of, lead_in, yard, yard_in}
@@ -70,3 +72,16 @@ runner_in s i = option_map (λ l. l.ru) (slice_get s.legs i)
 -- where the current leg ends
 abbrev pub target_in : JourneyState → Option Place
 target_in s = option_map (λ l. l.target) (slice_get s.legs s.leg_index)
+
+-- the state before the newest event, by what was kept of it and the legs that there are with the event
+abbrev pub state_before : EarlierState → List Leg → JourneyState
+state_before earlier now = record {
+  stage = earlier.stage;
+  leg_index = earlier.leg_index;
+  legs = unwrap_or earlier.legs now;
+  lead = earlier.lead;
+  has_departed = earlier.has_departed;
+  is_delivered = earlier.is_delivered;
+  last_receiver = earlier.last_receiver;
+  yard = earlier.yard;
+}

@@ -17,7 +17,8 @@
 //! - [`Track`] is a wagon with the events of its journey, and contracts see it as these (`specs/Journey.antt`).
 //!   [`Track::open`] begins it with a plan, [`Track::admits`] says why an event may not come next, and
 //!   [`Track::add`] adds one that may. Where memory is refused, a track is as it was.
-//! - [`Track::take_back`] takes the newest event back, for a message on several wagons of which a later one is refused memory.
+//! - [`Track::take_back`] takes the newest event back, by what [`Track::state_before`] gave before it came: the state without the
+//!   legs, which few events change, and the legs where the event changes them ([`EarlierState`]).
 //! - [`JourneyState`] is what the events come to. A track keeps it beside them, so that no call but
 //!   [`Track::events`] leads to a walk: stage, leg index, legs, responsible railway, place and checks take no more
 //!   than a look at it. [`Track::state_after`] gives what they come to with one event more.
@@ -31,12 +32,14 @@
 #![tactic(auto)]
 
 mod checks;
+mod earlier_state;
 mod event;
 mod journey_state;
 mod laws;
 mod legs;
 mod track;
 
+pub use earlier_state::EarlierState;
 pub use event::{Event, EventBody};
 pub use journey_state::JourneyState;
 pub use laws::legs_are_what_the_newest_event_sets;

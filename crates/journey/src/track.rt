@@ -1,5 +1,6 @@
 ghost use Rattle.std.specs.Prelude.{◌≡◌, ◌+◌, ◌<◌, ◌≤◌, ◌^◌, [], ◌∷◌, ◌++◌, length, true, Some, None, IfOk, OnOk, OnErr};
 
+use crate::earlier_state::EarlierState;
 use crate::event::{Event, EventBody};
 use crate::journey_state::JourneyState;
 use std::alloc::Global;
@@ -39,7 +40,7 @@ impl Track {
     ghost use Rattle.journey.specs.declared.event.EventBody.TheVariants.{Planned};
     ghost use Rattle.journey.specs.Stages as of;
     ghost use Rattle.journey.specs.Legs as legs_of;
-    ghost use Rattle.journey.specs.JourneyStates.{journey_state};
+    ghost use Rattle.journey.specs.JourneyStates.{journey_state, state_before};
     ghost use Rattle.journey.specs.TrackStates.{IsTrackState, without_newest};
     ghost use Rattle.journey.specs.Checks.{refusal};
 
@@ -83,13 +84,23 @@ impl Track {
         Ok(())
     }
 
-    /// Takes the newest event back, before which the events came to this state. It takes no memory.
-    pub fn take_back(&mut self, before: JourneyState)
-        requires { IsTrackState (without_newest self.old.events) before }
+    /// What is kept of the state before this event, which may come next, so that it can be taken back. It takes memory where the
+    /// event changes the legs.
+    pub fn state_before(&self, event: &Event) -> Result<EarlierState, Memory>
+        ensures { IfOk result (λ earlier. IsTrackState self.now.events
+            (state_before earlier (legs_of.legs (self.now.events ++ event.now ∷ [])))) }
+    {
+        Ok(self.journey_state.before(*self.events.allocator(), event)?)
+    }
+
+    /// Takes the newest event back, before which this was kept of the state. It takes no memory.
+    pub fn take_back(&mut self, before: EarlierState)
+        requires { IsTrackState (without_newest self.old.events)
+            (state_before before (legs_of.legs self.old.events)) }
         ensures { self.new ≡ record self.old { events = without_newest self.old.events } }
     {
         self.events.truncate(self.events.len() - 1);
-        self.journey_state = before;
+        self.journey_state.take_back(before);
     }
 
     pub fn wagon(&self) -> WagonNumber

@@ -9,7 +9,7 @@ returns-then-keeps_legs c =
     let e = c.args.event.now in
     let newest = ap (λ (k : EstimatesState). k.estimate_basis.anchor) (c.self.view_is ∙ c.requires.of_track) in
     let anchors = c.anchor_after-anchor.ensures.value ∙ ap (λ a. anchor_after a e) newest in
-    ap not (c.fits.ensures ∙ ap fits_in (c.by.ensures ∙ (λ i. basis_from (c.journey_state.ensures.value i).leg_index (c.journey_state.ensures.value i).legs (anchors i)) ∙
+    ap not (c.fits.ensures ∙ ap fits_in (c.by.ensures ∙ (λ i. basis_from (c.journey_state-state.ensures.value i).leg_index (c.journey_state-state.ensures.value i).legs (anchors i)) ∙
     sym (basis-kept events e (sym c.keeps_legs.ensures ∙ c.if-keeps_legs.true))))
 
 pub returns : goal.returns
