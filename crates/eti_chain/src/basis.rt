@@ -43,11 +43,7 @@ impl<'a> EstimateBasis<'a> {
     }
 
     /// The same by the leg that the wagon is on, its legs and its newest anchor.
-    pub(crate) fn by(
-        leg_index: usize,
-        legs: &'a Legs,
-        anchor: Option<Anchor>,
-    ) -> EstimateBasis<'a>
+    pub(crate) fn by(leg_index: usize, legs: &'a Legs, anchor: Option<Anchor>) -> EstimateBasis<'a>
         requires on_a_leg { leg_index < length legs.now }
         requires small { of.delays_of anchor < 2 ^ 127 }
         ensures { result ≡ of.basis_from leg_index legs.now anchor }

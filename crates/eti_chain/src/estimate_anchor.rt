@@ -72,10 +72,7 @@ impl EstimateAnchor {
         ensures { result ≡ state_with_commitment (of.basis_from leg_index legs.now self.now.newest)
             self.now.commit }
     {
-        Estimates::by(
-            EstimateBasis::by(leg_index, legs, self.newest),
-            self.commit,
-        )
+        Estimates::by(EstimateBasis::by(leg_index, legs, self.newest), self.commit)
     }
 
     /// Adds an event to the track that this is kept for, and goes on with it. The event may come next, and no estimate

@@ -1,11 +1,11 @@
 -- Changes of journeys, in tables that know the same.
-use Rattle.hub_core.proofs.Common.{◌≡◌, if◌then◌else◌, List, ap, ◌∙◌, sym, subst, All-weaker, slice_get, has, without_newest, HubState, IsStateOf, AreChanges, IsChange, changed, known_before, TableEntries, table_state, Change}
+use Rattle.hub_core.proofs.Common.{◌≡◌, if◌then◌else◌, List, ap, ◌∙◌, sym, subst, All-weaker, slice_get, has, without_newest, HubState, IsStateBefore, AreChanges, IsChange, changed, known_before, TableEntries, table_state, Change}
 
 module _ (old new : TableEntries) (same : table_state new ≡ table_state old) where
   change_stays : (c : Change) → IsChange old c → IsChange new c
   change_stays c change = record {
     position_is = ap (λ (s : HubState). slice_get s.fleet c.position) same ∙ change.position_is;
-    before_is = subst (λ (s : HubState). IsStateOf (without_newest (s.journey c.wagon)) c.before) (sym same) change.before_is;
+    before_is = subst (λ (s : HubState). IsStateBefore (s.journey c.wagon) c.before) (sym same) change.before_is;
   }
 
   -- they can be taken back there too

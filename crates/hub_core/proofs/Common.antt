@@ -54,7 +54,7 @@ pub use Rattle.hub_model.specs.declared.fault.Fault.{Fault}
 pub use Rattle.hub_model.proofs.HistoryLemmas.{one_more_entry}
 pub use Rattle.hub_model.proofs.NoFaultLemmas.{or_none_left, or_none_right, GoesOn, no_known_fault, no_whole_fault, known_allowed, answer_fits, withdraw_fits, listed}
 pub use Rattle.hub_model.proofs.StepLemmas.{state_of-push}
-pub use Rattle.hub_tables.specs.Acceptance.{IsStateOf}
+pub use Rattle.hub_tables.specs.Acceptance.{IsStateBefore}
 pub use Rattle.hub_tables.specs.Changes.{AreChanges, IsChange, IsTaken, changed, known_before}
 pub use Rattle.hub_tables.specs.GoingOn.{KeepsCalendar}
 pub use Rattle.hub_tables.specs.TableStates.{continues_journeys, IsAcceptable, table_part, TableEntries, table_state}

@@ -10,6 +10,7 @@ ghost use Rattle.hub_items.specs.Transitions.{IsAmong, IsTransitionBy};
 use crate::acceptable::Acceptable;
 use eti_chain::Estimates;
 use hub_tables::{Change, Wagon, WagonState};
+use journey::Legs;
 use std::marker::Model;
 use taf_codes::Railway;
 use trip_plan::Leg;
@@ -24,14 +25,14 @@ pub(crate) struct WagonChange<'a> {
 
 impl<'a> Model for WagonChange<'a> {
     ghost use Rattle.journey.specs.TrackStates.{without_newest};
-    ghost use Rattle.hub_tables.specs.Acceptance.{IsStateOf};
+    ghost use Rattle.hub_tables.specs.Acceptance.{IsStateBefore};
     ghost use Rattle.hub_items.specs.Transitions.{Transition, newest_transition};
 
     ghost Value = { Transition };
 
     ghost view = { λ c. newest_transition c.wagon.now };
 
-    ghost invariant = { λ c. IsStateOf (without_newest c.wagon.now.events) c.before.now };
+    ghost invariant = { λ c. IsStateBefore c.wagon.now.events c.before.now };
 }
 
 impl<'a> WagonChange<'a> {
@@ -86,21 +87,31 @@ impl<'a> WagonChange<'a> {
         ensures value { result ≡ length (legs_of.legs self.now.after) }
         ensures few { result ≤ 8 }
     {
-        self.wagon.track().journey_state().legs.as_slice().len()
+        self.legs_after().as_slice().len()
+    }
+
+    // The legs with the event.
+    fn legs_after(&self) -> &Legs
+        ensures { result.now ≡ legs_of.legs self.now.after }
+    {
+        &self.wagon.track().journey_state().legs
     }
 
     /// The railway of a leg before the event.
     pub(crate) fn runner_before(&self, leg: usize) -> Option<Railway>
         ensures { result ≡ legs_of.runner_of self.now.before leg }
     {
-        self.before.journey_state.legs.leg(leg).map(|leg| leg.ru)
+        self.before
+            .legs(self.legs_after())
+            .leg(leg)
+            .map(|leg| leg.ru)
     }
 
     /// The legs before the event.
     pub(crate) fn legs_before(&self) -> &[Leg]
         ensures { result.now ≡ legs_of.legs self.now.before }
     {
-        self.before.journey_state.legs.as_slice()
+        self.before.legs(self.legs_after()).as_slice()
     }
 
     /// How many legs were behind the wagon before the event.
@@ -108,7 +119,7 @@ impl<'a> WagonChange<'a> {
         ensures value { result ≡ stages.leg_index self.now.before }
         ensures on_a_leg { result < length (legs_of.legs self.now.before) }
     {
-        self.before.journey_state.leg_index
+        self.before.earlier.leg_index
     }
 
     /// The railway of a leg with the event.
@@ -122,7 +133,7 @@ impl<'a> WagonChange<'a> {
     pub(crate) fn estimates_before(&self) -> Estimates<'_>
         ensures { result ≡ estimates_state self.now.before }
     {
-        self.before.estimates()
+        self.before.estimates(self.legs_after())
     }
 
     /// When the wagon is expected with the event.

@@ -1,5 +1,5 @@
 -- Changes of journeys, and how they are taken back.
-use Rattle.hub_tables.proofs.Common.{◌≡◌, ℕ, ◌==◌, ◌||◌, Bool, true, false, List, [], ◌∷◌, ◌++◌, refl, sym, ap, subst, ◌∙◌, true≢false, if◌then◌else◌, map-append, All, All-head, All-tail, All-cons, All-nil, slice_get, keys_of, or_right, numbers, has, all_differ, Event, without_newest, TableEntries, events_in, Change, changed, known_before, IsChange, AreChanges, IsStateOf, without_newest_of}
+use Rattle.hub_tables.proofs.Common.{◌≡◌, ℕ, ◌==◌, ◌||◌, Bool, true, false, List, [], ◌∷◌, ◌++◌, refl, sym, ap, subst, ◌∙◌, true≢false, if◌then◌else◌, map-append, All, All-head, All-tail, All-cons, All-nil, slice_get, keys_of, or_right, numbers, has, all_differ, Event, without_newest, TableEntries, events_in, Change, changed, known_before, IsChange, AreChanges, IsStateBefore, without_newest_of}
 use Rattle.hub_tables.proofs.DifferLemmas.{differ_first, next_differs, named_apart, has_last}
 
 pub changed_more : (cs : List Change) (c : Change) → changed (cs ++ c ∷ []) ≡ changed cs ++ c.wagon ∷ []
@@ -12,7 +12,7 @@ module _ (t u : TableEntries) (keys : keys_of u.wagons ≡ keys_of t.wagons) whe
   one_same : (c : Change) → events_in u.wagons c.wagon ≡ events_in t.wagons c.wagon → IsChange t c → IsChange u c
   one_same c same is = record {
     position_is = ap (λ (ws : List ℕ). slice_get ws c.position) keys ∙ is.position_is;
-    before_is = subst (λ (es : List Event). IsStateOf (without_newest es) c.before) (sym same) is.before_is;
+    before_is = subst (λ (es : List Event). IsStateBefore es c.before) (sym same) is.before_is;
   }
 
   -- changes of journeys that stay

@@ -6,7 +6,7 @@ pub use Rattle.std.specs.Option.{option_or, option_map_or, option_copied_mut}
 pub use Rattle.std.specs.Prelude.{bytes_eq, unwrap_or, option_map, nat_eq, filter, fold, All, ◌&&◌}
 pub use Rattle.std.specs.Vec.Iter.{into_iter_items, into_iter_len}
 pub use Rattle.std.specs.Vec.{vec_capacity, vec_len}
-pub use Rattle.std.proofs.Common.{◌≡◌, ℕ, zero, suc, ◌==◌, Bool, true, false, List, [], ◌∷◌, ◌++◌, Option, Some, None, IfSome, Result, Ok, Err, OnOk, refl, sym, ap, ◌∙◌, append-nil, true≢false, ◌||◌, cond, length, subst, arith, if◌then◌else◌, not, map, append_assoc, ◌+◌, ◌<◌, ◌≤◌, ◌^◌, get_or, inl, inr, take, take_all, rules, OnErr, drop, add-one, drop-cons}
+pub use Rattle.std.proofs.Common.{is_some, ◌≡◌, ℕ, zero, suc, ◌==◌, Bool, true, false, List, [], ◌∷◌, ◌++◌, Option, Some, None, IfSome, Result, Ok, Err, OnOk, refl, sym, ap, ◌∙◌, append-nil, true≢false, ◌||◌, cond, length, subst, arith, if◌then◌else◌, not, map, append_assoc, ◌+◌, ◌<◌, ◌≤◌, ◌^◌, get_or, inl, inr, take, take_all, rules, OnErr, drop, add-one, drop-cons}
 pub use Rattle.std.proofs.lemmas.Bool.{and_parts, eqb-true, or_cases, cases_Bool, or_right}
 pub use Rattle.std.proofs.lemmas.Bool.Decides.{Decides-eqb}
 pub use Rattle.std.proofs.lemmas.List.{map_more, at_drop_all, at_drop_more, take_more, take-append-drop, map-append}
@@ -39,7 +39,7 @@ pub use Rattle.journey.proofs.TakenBackLemmas.{without_newest-push}
 pub use Rattle.journey.specs.Checks.{refusal}
 pub use Rattle.journey.specs.Journey.{Journey}
 pub use Rattle.journey.specs.Stages.{is_plan}
-pub use Rattle.journey.specs.TrackStates.{IsTrackState, without_newest}
+pub use Rattle.journey.specs.TrackStates.{IsTrackState, first_plan, without_newest}
 pub use Rattle.journey.specs.declared.event.Event.{Event}
 pub use Rattle.journey.specs.declared.event.EventBody.{EventBody}
 pub use Rattle.eti_chain.specs.EstimateStates.{EstimateAnchor, estimate_anchor}
@@ -53,7 +53,7 @@ pub use Rattle.hub_model.specs.Laws.{OpenIsOffered}
 pub use Rattle.hub_model.specs.Units.{units_in, is_unit_busy}
 pub use Rattle.hub_model.specs.Updates.{after_acceptance, plan_given, unit_plan_given, offer_given, opening_given, planned_in, fleet_after, each_wagon}
 pub use Rattle.hub_model.specs.declared.fault.Fault.{Fault}
-pub use Rattle.hub_tables.specs.Acceptance.{HasAccepted, with_event_of, IsStateOf, without_newest_of}
+pub use Rattle.hub_tables.specs.Acceptance.{HasAccepted, with_event_of, IsStateBefore, without_newest_of}
 pub use Rattle.hub_tables.specs.Changes.{continued_in, gone_on, changed, known_before, IsChange, AreChanges, HasGoneOn, IsTaken, with_wagons}
 pub use Rattle.hub_tables.specs.GoingOn.{wagon_refusal, KeepsCalendar, GoesOn, Passes, IsKept, after_each, HaveGoneOn, IsGoneOnOrRefused}
 pub use Rattle.hub_tables.specs.TableStates.{TableEntries, table_state, table_part, continues_journeys, named_alone, events_in, IsJourneyEntry, AreJourneyEntries, IsAcceptable}

@@ -1,5 +1,5 @@
 -- Journeys that go on in the table of wagons.
-use Rattle.hub_tables.proofs.Common.{◌≡◌, ℕ, ◌==◌, Bool, true, false, cond, List, [], ◌∷◌, ◌++◌, length, Option, Some, IfSome, refl, sym, ap, subst, ◌∙◌, arith, true≢false, if◌then◌else◌, nat_eq, option_map_or, lookup, keys_of, update_all, IndexMap, get, insert_entry, insert_all, eqb-true, numbers, Event, Journey, is_unknown, WagonState, IsStateOf, events_in, IsJourneyEntry, AreJourneyEntries, slice_get, map, zero, suc, lookup_from_place, is_equivalence, same_Some, values, with_value_at, IsUnique, updates-with_value_at}
+use Rattle.hub_tables.proofs.Common.{◌≡◌, ℕ, ◌==◌, Bool, true, false, cond, List, [], ◌∷◌, ◌++◌, length, Option, Some, IfSome, refl, sym, ap, subst, ◌∙◌, arith, true≢false, if◌then◌else◌, nat_eq, option_map_or, lookup, keys_of, update_all, IndexMap, get, insert_entry, insert_all, eqb-true, numbers, Event, Journey, is_unknown, is_some, first_plan, without_newest, WagonState, IsStateBefore, events_in, IsJourneyEntry, AreJourneyEntries, slice_get, map, zero, suc, lookup_from_place, is_equivalence, same_Some, values, with_value_at, IsUnique, updates-with_value_at}
 
 pub nothing_left : {X : Type 0} (xs : List X) → length xs ≡ 0 → xs ≡ []
 nothing_left [] h = refl
@@ -89,9 +89,12 @@ still_begun [] e = refl
 still_begun (first ∷ events) e = refl
 
 -- so has one beside which a state is kept
-pub begun_beside : (events : List Event) (s : WagonState) → IsStateOf events s → is_unknown events ≡ false
-begun_beside [] s is = absurd (true≢false (sym is.track.planned))
-begun_beside (e ∷ events) s is = refl
+pub begun_beside : (events : List Event) (s : WagonState) → IsStateBefore events s → is_unknown (without_newest events) ≡ false
+begun_beside events s is = begun_by (without_newest events) is.track.planned
+  where
+    begun_by : (before : List Event) → is_some (first_plan before) ≡ true → is_unknown before ≡ false
+    begun_by [] planned = absurd (true≢false (sym planned))
+    begun_by (e ∷ earlier) planned = refl
 
 -- a table into which entries are put one after another
 module _ {K V S : Type 0} (eq : K → K → Bool) (before table next : IndexMap K V S) (all items rest : List (K × V)) (key : K) (value : V) (steps : items ≡ (key, value) ∷ rest) where

@@ -1,5 +1,5 @@
 -- Journeys that go on by a message, one after another.
-use Rattle.hub_tables.proofs.Common.{or_none_left, ◌≡◌, ℕ, ◌+◌, ◌<◌, ◌≤◌, ◌==◌, ◌||◌, Bool, true, false, if◌then◌else◌, List, [], ◌∷◌, ◌++◌, Option, Some, None, refl, sym, ap, subst, ◌∙◌, true≢false, inl, inr, bytes_eq, lookup, keys_of, slice_get, or_cases, or_right, eqb-true, numbers, All, All-head, All-tail, All-cons, All-nil, All-push, has, all_differ, Message, Body, Event, without_newest, without_newest-push, offer_of, is_standing, HubState, new_state, named_wagons, event_for, journey_after, with_event, whole_fault, first_fault, fault, Fault, TableEntries, table_state, events_in, continues_journeys, IsStateOf, with_event_of, Change, continued_in, changed, known_before, IsChange, AreChanges, HasGoneOn, IsTaken, wagon_refusal, Passes, IsKept, after_each, HaveGoneOn, GoesOn, Why, fits, length, take, drop, get_or, take_all, take_more, take-append-drop, at_drop_all, at_drop_more, option_or, option_map}
+use Rattle.hub_tables.proofs.Common.{or_none_left, ◌≡◌, ℕ, ◌+◌, ◌<◌, ◌≤◌, ◌==◌, ◌||◌, Bool, true, false, if◌then◌else◌, List, [], ◌∷◌, ◌++◌, Option, Some, None, refl, sym, ap, subst, ◌∙◌, true≢false, inl, inr, bytes_eq, lookup, keys_of, slice_get, or_cases, or_right, eqb-true, numbers, All, All-head, All-tail, All-cons, All-nil, All-push, has, all_differ, Message, Body, Event, without_newest, without_newest-push, offer_of, is_standing, HubState, new_state, named_wagons, event_for, journey_after, with_event, whole_fault, first_fault, fault, Fault, TableEntries, table_state, events_in, continues_journeys, IsStateBefore, with_event_of, Change, continued_in, changed, known_before, IsChange, AreChanges, HasGoneOn, IsTaken, wagon_refusal, Passes, IsKept, after_each, HaveGoneOn, GoesOn, Why, fits, length, take, drop, get_or, take_all, take_more, take-append-drop, at_drop_all, at_drop_more, option_or, option_map}
 use Rattle.taf_messages.specs.declared.message.Body.TheVariants as body
 use Rattle.hub_tables.proofs.CheckLemmas.{at_wagon, each_fault}
 use Rattle.hub_tables.proofs.ContinuationLemmas.{both_asked}
@@ -34,13 +34,13 @@ module _ (old new : TableEntries) (m : Message) (c : Change) (e : Event) (is : e
       subst (λ (v : ℕ). s.journey v ++ e ∷ [] ≡ journey_after s m v) (eqb-true c.wagon w same) (ap (λ x. s.journey c.wagon ++ x ∷ []) is ∙ sym (passed_last s m c.wagon passes))
   on_by w false same = refl
 
-  pub one_on : IsKept s c → keys_of new.wagons ≡ keys_of old.wagons → new.plans ≡ old.plans → new.units ≡ old.units → new.offers ≡ old.offers →
+  pub one_on : IsKept s m c → keys_of new.wagons ≡ keys_of old.wagons → new.plans ≡ old.plans → new.units ≡ old.units → new.offers ≡ old.offers →
       ((w : ℕ) → events_in new.wagons w ≡ with_event_of c.wagon e s.journey w) → HaveGoneOn s new m (c.wagon ∷ []) (c ∷ [])
   one_on kept keys plans units offers events = record {
     known = same_but_journeys new old (events_in new.wagons) (after_each s m (c.wagon ∷ [])).journey (λ w. events w ∙ on_by w (c.wagon == w) refl) keys plans units offers;
     wagons = refl;
     passed = λ w h. subst (Passes s m) (eqb-true c.wagon w (sym (or_false (c.wagon == w)) ∙ h)) passes;
-    before = All-cons (IsKept s) c [] kept (All-nil (IsKept s));
+    before = All-cons (IsKept s m) c [] kept (All-nil (IsKept s m));
   }
 
 module _ (s : HubState) (m : Message) where
@@ -82,11 +82,11 @@ module _ (s : HubState) (m : Message) where
         let there = next.passed v (ap (λ (b : Bool). b || false) same) in
         record { is_named = there.is_named; admits = sym (same_refusal ws v (ap (has ws) (sym (eqb-true w v same)) ∙ out)) ∙ there.admits }
 
-    kept_too : IsKept s c
+    kept_too : IsKept s m c
     kept_too =
-        let kept = All-head (IsKept k) c [] next.before in
+        let kept = All-head (IsKept k m) c [] next.before in
         let elsewhere : has ws c.wagon ≡ false = ap (has ws) (is_w c.wagon next.wagons) ∙ out in
-        record { position_is = kept.position_is; before_is = subst (λ (b : Bool). IsStateOf (if b then journey_after s m c.wagon else s.journey c.wagon) c.before) elsewhere kept.before_is }
+        record { position_is = kept.position_is; before_is = subst (λ (es : List Event). IsStateBefore es c.before) (same_after ws c.wagon elsewhere) kept.before_is }
 
     pub one_more : HaveGoneOn s u m (ws ++ w ∷ []) (cs ++ c ∷ [])
     one_more = record {
@@ -98,7 +98,7 @@ module _ (s : HubState) (m : Message) where
         | inl e ↦ on.passed v e
         | inr e ↦ passed_too v e
       ];
-      before = All-push (IsKept s) cs c on.before kept_too;
+      before = All-push (IsKept s m) cs c on.before kept_too;
     }
 
   -- journeys that have gone on can be taken back
@@ -115,18 +115,18 @@ module _ (s : HubState) (m : Message) where
         (λ i. let k = on.known i in record k { journey = λ w. if has (on.wagons i) w then without_newest (k.journey w) else k.journey w }) ∙
         (λ i. record s { journey = λ w. back_by w (has ws w) refl i })
 
-    each_change : (ds : List Change) → ((w : ℕ) → has (changed ds) w ≡ true → has ws w ≡ true) → All (IsKept s) ds → All (IsChange t) ds
+    each_change : (ds : List Change) → ((w : ℕ) → has (changed ds) w ≡ true → has ws w ≡ true) → All (IsKept s m) ds → All (IsChange t) ds
     each_change [] among all = All-nil (IsChange t)
     each_change (c ∷ ds) among all =
-        let kept = All-head (IsKept s) c ds all in
+        let kept = All-head (IsKept s m) c ds all in
         let here = among c.wagon (ap (λ (b : Bool). b || has (changed ds) c.wagon) (numbers.itself c.wagon)) in
         let after : events_in t.wagons c.wagon ≡ journey_after s m c.wagon = ap (λ (k : HubState). k.journey c.wagon) on.known ∙ ap (λ (b : Bool). if b then journey_after s m c.wagon else s.journey c.wagon) here in
         All-cons (IsChange t) c ds
         (record {
           position_is = ap (λ (k : HubState). slice_get k.fleet c.position) on.known ∙ kept.position_is;
-          before_is = subst (λ (es : List Event). IsStateOf es c.before) (sym (ap without_newest after ∙ newest_back c.wagon here)) kept.before_is;
+          before_is = subst (λ (es : List Event). IsStateBefore es c.before) (sym after) kept.before_is;
         })
-        (each_change ds (λ w h. among w (or_right (c.wagon == w) (has (changed ds) w) h)) (All-tail (IsKept s) c ds all))
+        (each_change ds (λ w h. among w (or_right (c.wagon == w) (has (changed ds) w) h)) (All-tail (IsKept s m) c ds all))
 
     pub are_changes : all_differ ws ≡ true → AreChanges t cs
     are_changes differ = record { differ = ap all_differ on.wagons ∙ differ; each = each_change cs (λ w h. ap (λ (us : List ℕ). has us w) (sym on.wagons) ∙ h) on.before }

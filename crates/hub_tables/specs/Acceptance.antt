@@ -9,6 +9,8 @@ use Rattle.taf_messages.specs.declared.message.Message.{Message}
 use Rattle.journey.specs.declared.event.Event.{Event}
 use Rattle.journey.specs.Stages.{is_plan}
 use Rattle.journey.specs.TrackStates.{IsTrackState, without_newest}
+use Rattle.journey.specs.JourneyStates.{earlier_state}
+use Rattle.journey.specs.Legs.{legs}
 use Rattle.eti_chain.specs.Estimates.{fits}
 use Rattle.eti_chain.specs.EstimateStates.{estimate_anchor}
 use Rattle.interchange.specs.OfferTable.{offer_of, is_standing}
@@ -30,11 +32,11 @@ with_event_of wagon e events w = if wagon == w then events w ++ e ∷ [] else ev
 abbrev pub without_newest_of : ℕ → (ℕ → List Event) → ℕ → List Event
 without_newest_of wagon events w = if wagon == w then without_newest (events w) else events w
 
--- this is kept beside the events of a wagon
-pub record IsStateOf (events : List Event) (s : WagonState) : Type 0 where
-  pub track : IsTrackState events s.journey_state
-  pub kept : s.kept ≡ estimate_anchor events
-  pub fits : fits events ≡ true
+-- this was kept beside the events of a wagon before the newest of them
+pub record IsStateBefore (events : List Event) (s : WagonState) : Type 0 where
+  pub track : IsTrackState (without_newest events) (earlier_state s.earlier (legs events))
+  pub kept : s.kept ≡ estimate_anchor (without_newest events)
+  pub fits : fits (without_newest events) ≡ true
 
 -- each look-up has taken the message, once its events stand in the journeys
 pub record HasAccepted (s : HubState) (new : TableEntries) (m : Message) : Type 0 where

@@ -9,7 +9,7 @@ use Rattle.hub_model.specs.HubState.{HubState, named_wagons, journey_after}
 use Rattle.hub_model.specs.Faults.{fault, known_fault}
 use Rattle.hub_model.specs.declared.fault.Fault.{Fault}
 use Rattle.hub_tables.specs.TableStates.{TableEntries, events_in, table_state, continues_journeys}
-use Rattle.hub_tables.specs.Acceptance.{IsStateOf}
+use Rattle.hub_tables.specs.Acceptance.{IsStateBefore}
 use Rattle.hub_tables.specs.declared.changes.Change.{Change}
 
 -- the wagons whose journeys go on by a message: all that it names, unless it is a plan, which begins them
@@ -35,7 +35,7 @@ known_before t cs = record (table_state t) { journey = λ w. if has (changed cs)
 -- the wagon stands at its position, its newest event can be taken back, and this was kept before
 pub record IsChange (t : TableEntries) (c : Change) : Type 0 where
   pub position_is : slice_get (keys_of t.wagons) c.position ≡ Some c.wagon
-  pub before_is : IsStateOf (without_newest (events_in t.wagons c.wagon)) c.before
+  pub before_is : IsStateBefore (events_in t.wagons c.wagon) c.before
 
 -- these are changes of different wagons
 pub record AreChanges (t : TableEntries) (cs : List Change) : Type 0 where

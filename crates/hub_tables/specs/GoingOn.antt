@@ -9,7 +9,7 @@ use Rattle.hub_model.specs.HubState.{HubState, named_wagons, journey_after}
 use Rattle.hub_model.specs.Faults.{whole_fault, known_fault, calendar_fault}
 use Rattle.hub_model.specs.Laws.{OpenIsOffered}
 use Rattle.hub_tables.specs.TableStates.{TableEntries, table_state, continues_journeys}
-use Rattle.hub_tables.specs.Acceptance.{IsStateOf}
+use Rattle.hub_tables.specs.Acceptance.{IsStateBefore}
 use Rattle.hub_tables.specs.Changes.{changed}
 use Rattle.hub_tables.specs.declared.changes.Change.{Change}
 
@@ -34,10 +34,10 @@ pub record Passes (s : HubState) (m : Message) (w : ℕ) : Type 0 where
   pub is_named : has (named_wagons s.offer m) w ≡ true
   pub admits : wagon_refusal s m w ≡ None
 
--- the wagon stands at its position of the fleet, and has this beside its events
-pub record IsKept (s : HubState) (c : Change) : Type 0 where
+-- the wagon stands at its position of the fleet, and this was kept beside its events before the message
+pub record IsKept (s : HubState) (m : Message) (c : Change) : Type 0 where
   pub position_is : slice_get s.fleet c.position ≡ Some c.wagon
-  pub before_is : IsStateOf (s.journey c.wagon) c.before
+  pub before_is : IsStateBefore (journey_after s m c.wagon) c.before
 
 -- what is known once the journeys of these wagons have gone on by the message
 abbrev pub after_each : HubState → Message → List ℕ → HubState
@@ -48,7 +48,7 @@ pub record HaveGoneOn (s : HubState) (t : TableEntries) (m : Message) (ws : List
   pub known : table_state t ≡ after_each s m ws
   pub wagons : changed cs ≡ ws
   pub passed : (w : ℕ) → has ws w ≡ true → Passes s m w
-  pub before : All (IsKept s) cs
+  pub before : All (IsKept s m) cs
 
 -- the wagon's journey has gone on by the message with this change, or it is refused so, and nothing is changed
 abbrev pub IsGoneOnOrRefused : HubState → TableEntries → Message → ℕ → Result Change Why → Type 0

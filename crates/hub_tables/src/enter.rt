@@ -6,7 +6,7 @@ ghost use Rattle.journey.specs.Checks.{refusal};
 ghost use Rattle.journey.specs.TrackStates.{without_newest};
 ghost use Rattle.eti_chain.specs.Estimates.{fits};
 ghost use Rattle.hub_tables.specs.TableStates.{AreJourneyEntries, events_in};
-ghost use Rattle.hub_tables.specs.Acceptance.{IsStateOf, with_event_of, without_newest_of};
+ghost use Rattle.hub_tables.specs.Acceptance.{IsStateBefore, with_event_of, without_newest_of};
 
 use crate::wagon::{Wagon, WagonState};
 use indexmap::IndexMap;
@@ -66,7 +66,7 @@ pub(crate) fn take_back(
 )
     requires journeys { AreJourneyEntries wagons.old.entries }
     requires position { slice_get (keys_of wagons.old.entries) position ≡ Some wagon }
-    requires before { IsStateOf (without_newest (events_in wagons.old.entries wagon)) before }
+    requires before { IsStateBefore (events_in wagons.old.entries wagon) before }
     ensures events { (w : ℕ) → events_in wagons.new.entries w
         ≡ without_newest_of wagon (events_in wagons.old.entries) w }
     ensures keys { keys_of wagons.new.entries ≡ keys_of wagons.old.entries }

@@ -75,7 +75,7 @@ impl Tables {
         if let Some(why) = event_fault(found, &event) {
             return Ok(Err(why));
         }
-        let before = found.state();
+        let before = found.state_before(&event)?;
         add(&mut self.wagons, wagon, position, event)?;
         Ok(Ok(Change {
             wagon,

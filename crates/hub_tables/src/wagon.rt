@@ -1,15 +1,17 @@
 ghost use Rattle.std.specs.Prelude.{◌≡◌, ◌<◌, List, [], ◌∷◌, ◌++◌, length, true, None, IfOk, OnOk, OnErr};
 ghost use Rattle.journey.specs.Stages.{is_plan};
 ghost use Rattle.journey.specs.Checks.{refusal};
+ghost use Rattle.journey.specs.Legs.{legs};
+ghost use Rattle.journey.specs.JourneyStates.{earlier_state};
 ghost use Rattle.journey.specs.TrackStates.{without_newest};
 ghost use Rattle.eti_chain.specs.Estimates.{basis_from, fits, fits_in};
 ghost use Rattle.journey.specs.declared.event.Event.{Event};
 ghost use Rattle.eti_chain.specs.EstimateStates.{estimate_anchor, estimates_state};
 ghost use Rattle.hub_model.specs.Units.{is_on_plan};
-ghost use Rattle.hub_tables.specs.Acceptance.{IsStateOf};
+ghost use Rattle.hub_tables.specs.Acceptance.{IsStateBefore};
 
 use eti_chain::{EstimateAnchor, Estimates};
-use journey::{Event, JourneyState, Track};
+use journey::{EarlierState, Event, Legs, Track};
 use std::alloc::Global;
 use std::marker::Model;
 use taf_codes::Memory;
@@ -83,43 +85,55 @@ impl Wagon {
         self.kept.add(&mut self.track, event)
     }
 
-    /// What is kept beside the events.
-    pub(crate) fn state(&self) -> WagonState
-        ensures { IsStateOf self.now.events result }
+    /// What is kept beside the events from before this one, which may come next. It takes memory where the event changes the legs.
+    pub(crate) fn state_before(&self, event: &Event) -> Result<WagonState, Memory>
+        ensures { IfOk result (IsStateBefore (self.now.events ++ event.now ∷ [])) }
     {
-        WagonState {
-            journey_state: self.track.journey_state().copy(),
+        Ok(WagonState {
+            earlier: self.track.state_before(event)?,
             kept: self.kept.copy(),
-        }
+        })
     }
 
     /// Takes the newest event back, before which this was kept beside the events. It takes no memory.
     pub(crate) fn take_back(&mut self, before: WagonState)
-        requires { IsStateOf (without_newest self.old.events) before }
+        requires { IsStateBefore self.old.events before }
         ensures { self.new ≡ record self.old { events = without_newest self.old.events } }
     {
-        self.track.take_back(before.journey_state);
+        self.track.take_back(before.earlier);
         self.kept = before.kept;
     }
 }
 
-/// What a wagon keeps beside the events of its journey.
+/// What a wagon kept beside the events of its journey, before the newest of them.
 #[derive(Drop)]
 pub struct WagonState {
-    /// What the events come to.
-    pub journey_state: JourneyState,
+    /// What the events came to.
+    pub earlier: EarlierState,
     pub(crate) kept: EstimateAnchor,
 }
 
 impl WagonState {
-    /// When the wagon was expected.
-    pub fn estimates(&self) -> Estimates<'_>
-        requires on_a_leg { self.now.journey_state.leg_index < length self.now.journey_state.legs }
-        requires fits { fits_in (basis_from self.now.journey_state.leg_index
-            self.now.journey_state.legs self.now.kept.newest) ≡ true }
-        ensures { (events : List Event) → IsStateOf events self.now → result
-            ≡ estimates_state events }
+    /// The legs, where there are these with the newest event.
+    pub fn legs<'a>(&'a self, now: &'a Legs) -> &'a Legs
+        ensures { result.now ≡ (earlier_state self.now.earlier now.now).legs }
     {
-        self.kept.estimates_by(&self.journey_state)
+        match &self.earlier.legs {
+            Some(legs) => legs.get(),
+            None => now,
+        }
+    }
+
+    /// When the wagon was expected, where there are these legs with the newest event.
+    pub fn estimates<'a>(&'a self, now: &'a Legs) -> Estimates<'a>
+        requires on_a_leg { self.now.earlier.leg_index
+            < length (earlier_state self.now.earlier now.now).legs }
+        requires fits { fits_in (basis_from self.now.earlier.leg_index
+            (earlier_state self.now.earlier now.now).legs self.now.kept.newest) ≡ true }
+        ensures { (events : List Event) → now.now ≡ legs events → IsStateBefore events self.now
+            → result ≡ estimates_state (without_newest events) }
+    {
+        self.kept
+            .estimates_by(self.earlier.leg_index, self.legs(now))
     }
 }

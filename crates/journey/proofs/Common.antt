@@ -19,7 +19,7 @@ pub use Rattle.taf_messages.specs.declared.record.Stage.{Stage}
 pub use Rattle.taf_messages.specs.declared.reply.Why.TheVariants.{WrongStage}
 pub use Rattle.journey.specs.Checks.{checks, refusal, route_checks, same_stage}
 pub use Rattle.journey.specs.Journey.{Journey}
-pub use Rattle.journey.specs.JourneyStates.{state_before, journey_state, journey_state_after}
+pub use Rattle.journey.specs.JourneyStates.{earlier_state, journey_state, journey_state_after}
 pub use Rattle.journey.specs.Legs.{LegPosition, leg_position, leg_position_after, index_after, legs, legs_after, with_leg_minutes, HasRoom, HaveRoom, lead_of, lead_in, yard_in}
 pub use Rattle.journey.specs.NewestLegs.{EventOnLeg, with_minutes, events_on_legs_from, events_on_legs, route_leg, leg_set, minutes_set, count_set, count_by_newest, leg_by_newest, IsPlanOfLegs, AllAdmitted, IsJourney, OnLegsByCount, LegsAreTheNewest, AsManyLegs, RerouteUndoesTimes}
 pub use Rattle.journey.specs.Stages.{stage, stage_after, leg_index, is_reception, plan, plan_in, moved_to, is_delivery, is_delivered, responsible, is_on_its_way, is_departure, has_departed, new_responsible, is_plan, has_later_plan}

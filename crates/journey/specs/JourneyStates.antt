@@ -74,8 +74,8 @@ abbrev pub target_in : JourneyState → Option Place
 target_in s = option_map (λ l. l.target) (slice_get s.legs s.leg_index)
 
 -- the state before the newest event, by what was kept of it and the legs that there are with the event
-abbrev pub state_before : EarlierState → List Leg → JourneyState
-state_before earlier now = record {
+abbrev pub earlier_state : EarlierState → List Leg → JourneyState
+earlier_state earlier now = record {
   stage = earlier.stage;
   leg_index = earlier.leg_index;
   legs = unwrap_or earlier.legs now;

@@ -1,7 +1,7 @@
 //! What a journey came to before its newest event, kept so that the event can be taken back.
 ghost use Rattle.std.specs.Prelude.{◌≡◌, IfOk};
 ghost use Rattle.journey.specs.Legs.{legs_after};
-ghost use Rattle.journey.specs.JourneyStates.{state_before};
+ghost use Rattle.journey.specs.JourneyStates.{earlier_state};
 
 use crate::event::{Event, EventBody};
 use crate::journey_state::JourneyState;
@@ -28,7 +28,7 @@ pub struct EarlierState {
 impl JourneyState {
     /// What is kept of the state while the journey goes on by this event. It takes memory where the event changes the legs.
     pub(crate) fn before(&self, alloc: Global, event: &Event) -> Result<EarlierState, AllocError>
-        ensures { IfOk result (λ earlier. state_before earlier
+        ensures { IfOk result (λ earlier. earlier_state earlier
             (legs_after self.now.leg_index self.now.legs event.now.body) ≡ self.now) }
     {
         let legs = match &event.body {
@@ -51,7 +51,7 @@ impl JourneyState {
 
     /// Becomes the state of which this was kept.
     pub(crate) fn take_back(&mut self, before: EarlierState)
-        ensures { self.new ≡ state_before before self.old.legs }
+        ensures { self.new ≡ earlier_state before self.old.legs }
     {
         self.leg_index = before.leg_index;
         self.stage = before.stage;

@@ -40,7 +40,7 @@ impl Track {
     ghost use Rattle.journey.specs.declared.event.EventBody.TheVariants.{Planned};
     ghost use Rattle.journey.specs.Stages as of;
     ghost use Rattle.journey.specs.Legs as legs_of;
-    ghost use Rattle.journey.specs.JourneyStates.{journey_state, state_before};
+    ghost use Rattle.journey.specs.JourneyStates.{journey_state, earlier_state};
     ghost use Rattle.journey.specs.TrackStates.{IsTrackState, without_newest};
     ghost use Rattle.journey.specs.Checks.{refusal};
 
@@ -88,7 +88,7 @@ impl Track {
     /// event changes the legs.
     pub fn state_before(&self, event: &Event) -> Result<EarlierState, Memory>
         ensures { IfOk result (λ earlier. IsTrackState self.now.events
-            (state_before earlier (legs_of.legs (self.now.events ++ event.now ∷ [])))) }
+            (earlier_state earlier (legs_of.legs (self.now.events ++ event.now ∷ [])))) }
     {
         Ok(self.journey_state.before(*self.events.allocator(), event)?)
     }
@@ -96,7 +96,7 @@ impl Track {
     /// Takes the newest event back, before which this was kept of the state. It takes no memory.
     pub fn take_back(&mut self, before: EarlierState)
         requires { IsTrackState (without_newest self.old.events)
-            (state_before before (legs_of.legs self.old.events)) }
+            (earlier_state before (legs_of.legs self.old.events)) }
         ensures { self.new ≡ record self.old { events = without_newest self.old.events } }
     {
         self.events.truncate(self.events.len() - 1);

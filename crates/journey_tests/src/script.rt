@@ -267,7 +267,7 @@ impl Run {
         let eta = foretold.eta();
         self.kept.add(&mut self.track, next)?;
         let is_foretold = state.stage == Some(self.track.stage()) && eta == self.estimates().eta();
-        Ok(is_foretold && eta == self.kept.estimates_by(&state).eta())
+        Ok(is_foretold && eta == self.kept.estimates_by(state.leg_index, &state.legs).eta())
     }
 
     /// Adds an event, and takes it back.
@@ -275,7 +275,7 @@ impl Run {
         if self.track.admits(&next).is_some() {
             return Err(Fail::new("refused by a check"));
         }
-        let before = self.track.journey_state().copy();
+        let before = self.track.state_before(&next)?;
         self.track.add(next)?;
         self.track.take_back(before);
         Ok(())

@@ -296,6 +296,7 @@ fn estimates_follow_an_event(rt: HostRuntime) -> Result<(), Fail> {
 fn the_newest_event_is_taken_back(rt: HostRuntime) -> Result<(), Fail> {
     let mut run = two_legs(rt.alloc(), DEPARTED)?;
     run.add_and_take_back(event(rt.alloc(), "R101 2 10:40 yard_in AT00002")?)?;
+    run.add_and_take_back(event(rt.alloc(), "R102 1 - leg_time 1 200")?)?;
     assert!(rt; run.track.events().len() == 3);
     let delay = "R101 2 07:00 exception 5 = Running 0 ------- R101 2025-03-01T15:05Z";
     run.goes_on_as(rt.alloc(), delay)?;
