@@ -9,7 +9,7 @@ use taf_messages::MovementKind;
 use taf_moment::Moment;
 
 /// The newest event that fixes the estimates, and the delays since.
-#[derive(Clone, Copy, Debug)]
+#[derive(Clone, Copy, Debug, PartialEq)]
 pub(crate) struct Anchor {
     pub(crate) at: Moment,
     /// Whether the minutes of the current leg are still to pass.

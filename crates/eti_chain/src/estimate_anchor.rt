@@ -1,4 +1,4 @@
-ghost use Rattle.std.specs.Prelude.{◌≡◌, ◌<◌, [], ◌∷◌, ◌++◌, length, true, None, OnOk, OnErr};
+ghost use Rattle.std.specs.Prelude.{◌≡◌, ◌<◌, ◌↔◌, [], ◌∷◌, ◌++◌, length, true, IsTrue, None, OnOk, OnErr};
 ghost use Rattle.journey.specs.Checks.{refusal};
 ghost use Rattle.eti_chain.specs.Estimates as of;
 
@@ -53,6 +53,13 @@ impl EstimateAnchor {
             newest: self.newest,
             commit: self.commit,
         }
+    }
+
+    /// Whether this is the same as what is kept of another journey.
+    pub fn is_same(&self, other: &EstimateAnchor) -> bool
+        ensures { IsTrue result ↔ (self.now ≡ other.now) }
+    {
+        self.newest == other.newest && self.commit == other.commit
     }
 
     /// The estimates of the track that this is kept for. It takes no walk.

@@ -37,7 +37,7 @@ fn make_room(state: &mut State) -> Result<(), Memory>
         (length state.new.items.items) state.new.items.items) }
     ensures room { OnOk result (0 < state.new.history.spare) }
 {
-    make_room_for(&mut state.outboxes, &state.items, &mut state.places)?;
+    make_room_for(&mut state.outboxes, &state.items)?;
     state.history.reserve()?;
     Ok(())
 }
@@ -99,7 +99,7 @@ pub(crate) fn accept(
     let content = message.get().content();
     let by = content.by;
     let no = content.no;
-    deliver(&mut state.outboxes, &mut state.items, &state.places);
+    deliver(&mut state.outboxes, &mut state.items);
     let position = state.history.len() as u32;
     state.seen.note_reserved(by, no, position);
     state

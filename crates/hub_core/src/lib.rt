@@ -13,7 +13,7 @@
 //! by it at once. A list of changes gets what was kept of these journeys before: the items are made by it, and the journeys can
 //! be taken back.
 //!
-//! The message is then accepted in two steps. First comes all that may be refused memory: the items, their places in the
+//! The message is then accepted in two steps. First comes all that may be refused memory: the items, room for them in the
 //! outboxes, room in the history, and what else the tables change, which is all or nothing. Where memory is refused, the
 //! journeys are taken back, which takes none. Then come steps that cannot fail. So there is no half-taken message. Its changes
 //! and items are put into lists that the state keeps from message to message, and the items move on from theirs into the

@@ -21,11 +21,10 @@ pub(crate) struct State {
     pub tables: Tables,
     pub seen: Seen,
     pub outboxes: Outboxes,
-    // Of the message that is being taken: the changes of journeys, the items, and the places of their boxes. Between calls they
-    // mean nothing, and only the memory of the lists is kept.
+    // Of the message that is being taken: the changes of journeys, and the items. Between calls they mean nothing, and only the
+    // memory of the lists is kept.
     pub changes: Vec<Change>,
     pub items: Vec<AddressedItem>,
-    pub places: Vec<usize>,
 }
 
 impl State {
@@ -41,7 +40,6 @@ impl State {
             outboxes: Outboxes::new(alloc),
             changes: Vec::new(alloc),
             items: Vec::new(alloc),
-            places: Vec::new(alloc),
         }
     }
 }

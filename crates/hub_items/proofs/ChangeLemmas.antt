@@ -1,5 +1,5 @@
 -- What the journeys of a message's wagons were before it, and are with it.
-use Rattle.hub_items.proofs.Common.{◌≡◌, ℕ, zero, suc, ◌<◌, Bool, true, false, if◌then◌else◌, List, [], ◌∷◌, length, get_or, All, All-head, All-tail, Some, None, refl, ap, ◌∙◌, sym, subst, arith, ◌||◌, or_right, slice_get, same_Some, false≢true, has, Message, Body, HubState, named_wagons, journey_after, known_fault, keeps_estimates, TableEntries, events_in, table_state, continues_journeys, named_alone, alone_named, alone_continues, Change, IsChange, HasGoneOn, changed, continued_in, gone_on}
+use Rattle.hub_items.proofs.Common.{◌≡◌, ℕ, zero, suc, ◌<◌, Bool, true, false, if◌then◌else◌, List, [], ◌∷◌, length, get_or, All, All-head, All-tail, Some, refl, ap, ◌∙◌, sym, subst, arith, ◌||◌, or_right, slice_get, same_Some, false≢true, has, Message, Body, HubState, named_wagons, journey_after, TableEntries, events_in, table_state, continues_journeys, Change, IsChange, changed, continued_in, gone_on}
 use Rattle.taf_messages.specs.declared.message.Body.TheVariants as body
 use Rattle.hub_items.proofs.UnchangedEstimateLemmas.{same_number}
 
@@ -30,9 +30,6 @@ without_message s t m known off w = ap (λ (k : HubState). k.journey w) known �
 pub changed_named : (s : HubState) (m : Message) (cs : List Change) → changed cs ≡ continued_in s m → continues_journeys m.body ≡ true → changed cs ≡ named_wagons s.offer m
 changed_named s m cs are on = are ∙ ap (λ (b : Bool). if b then named_wagons s.offer m else []) on
 
-pub changed_alone : (s : HubState) (m : Message) (cs : List Change) (w : ℕ) → changed cs ≡ continued_in s m → named_alone m.body ≡ Some w → changed cs ≡ w ∷ []
-changed_alone s m cs w are alone = changed_named s m cs are (alone_continues m.body w alone) ∙ alone_named s.offer m.by m.body w alone
-
 -- a change at a place of the list is among it
 pub among_at : (t : TableEntries) (cs : List Change) (i : ℕ) (c : Change) → i < length cs → c ≡ get_or cs i c → All (IsChange t) cs → IsChange t c × (has (changed cs) c.wagon ≡ true)
 among_at t [] i c lt is h = absurd (omega (arith, lt))
@@ -46,12 +43,3 @@ among_at t (x ∷ cs) (suc i) c lt is h =
 pub first_among : (t : TableEntries) (cs : List Change) (c : Change) (w : ℕ) → changed cs ≡ w ∷ [] → All (IsChange t) cs → IsChange t (get_or cs 0 c) × (has (changed cs) (get_or cs 0 c).wagon ≡ true) × ((get_or cs 0 c).wagon ≡ w)
 first_among t [] c w are h = cc
 first_among t (x ∷ cs) c w are h = (All-head (IsChange t) x cs h, ap (λ (b : Bool). b || has (changed cs) x.wagon) (same_number x.wagon), cc)
-
-keeping_continues : (says : Body) → keeps_estimates says ≡ true → continues_journeys says ≡ true
-keeping_continues (body.Plan p) h = absurd (false≢true h)
-keeping_continues _ h = refl
-
--- the wagons of a message that keeps the estimates admitted it
-pub admitted_named : (s : HubState) (m : Message) (t : TableEntries) (cs : List Change) → HasGoneOn s t m cs → keeps_estimates m.body ≡ true → (w : ℕ) → has (named_wagons s.offer m) w ≡ true → known_fault s m w ≡ None
-admitted_named s m t cs gone keeps w h =
-    gone.admitted w (ap (λ (b : Bool). has (if b then named_wagons s.offer m else []) w) (keeping_continues m.body keeps) ∙ h)

@@ -33,19 +33,17 @@ pub use Rattle.journey.specs.declared.event.Event.{Event}
 pub use Rattle.journey.specs.declared.event.EventBody.{EventBody}
 pub use Rattle.journey.specs.declared.event.EventBody.TheVariants.{Planned, Moved}
 pub use Rattle.journey.proofs.LegPositionLemmas.{plan-push}
-pub use Rattle.eti_chain.specs.EstimateStates.{EstimatesInTurn, in_turn_from}
+pub use Rattle.eti_chain.specs.EstimateStates.{EstimatesInTurn, EstimatesState, estimates_state, in_turn_from}
 pub use Rattle.eti_chain.specs.Estimates.{estimate, estimates, EstimateBasis, estimate_basis, end_in, eta_in, eta, commitment, late_by, lateness, is_late}
 pub use Rattle.eti_chain.proofs.CalendarLemmas.{no_end, same_test}
-pub use Rattle.eti_chain.proofs.EstimateLemmas.{IsSilent, basis-silent, silent_yard_arrival, silent_yard_departure, silent_offered, silent_withdrawn, silent_asked}
 pub use Rattle.hub_model.specs.Faults.{known_fault}
 pub use Rattle.hub_model.specs.HubState.{HubState, Offers, named_wagons, event_for, journey_after, event_body_for}
 pub use Rattle.hub_model.specs.Items.{each_once, alert, alert_receivers, alert_items, notice_receivers, sub_items, notices, estimate_items, is_news, estimate_item, movement_receivers}
 pub use Rattle.hub_model.specs.declared.addressed_item.AddressedItem.{AddressedItem}
 pub use Rattle.hub_model.proofs.NoFaultLemmas.{planned_anew}
 pub use Rattle.hub_tables.specs.Changes.{IsChange, HasGoneOn, changed, continued_in, gone_on, known_before}
-pub use Rattle.hub_tables.specs.TableStates.{IsAcceptable, TableEntries, events_in, table_state, continues_journeys, named_alone}
+pub use Rattle.hub_tables.specs.TableStates.{IsAcceptable, TableEntries, events_in, table_state, continues_journeys}
 pub use Rattle.hub_tables.specs.declared.changes.Change.{Change}
-pub use Rattle.hub_tables.proofs.AloneLemmas.{alone_named, alone_continues}
 pub use Rattle.hub_tables.proofs.NextEventLemmas.{comes_last}
-pub use Rattle.hub_items.specs.MessageItems.{state_before, is_in_yard, keeps_estimates, estimates_at, alerts_at, all_items}
+pub use Rattle.hub_items.specs.MessageItems.{state_before, estimates_at, alerts_at, all_items}
 pub use Rattle.hub_items.specs.Transitions.{IsTransitionBy, estimate_of}

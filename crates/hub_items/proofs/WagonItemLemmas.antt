@@ -1,8 +1,8 @@
 -- The items of the wagons that a message names.
-use Rattle.hub_items.proofs.Common.{◌≡◌, ℕ, Bool, true, List, [], ◌∷◌, ◌++◌, refl, ap, ◌∙◌, sym, ◌||◌, flat_map, append-nil, or_right, has, Message, HubState, named_wagons, notices, known_fault, None, estimates_at, alerts_at, all_items, keeps_estimates, Change, changed, Trip}
+use Rattle.hub_items.proofs.Common.{◌≡◌, ℕ, Bool, true, List, [], ◌∷◌, ◌++◌, refl, ap, ◌∙◌, sym, ◌||◌, flat_map, or_right, has, Message, HubState, named_wagons, estimates_at, alerts_at, Change, changed, Trip}
 use Rattle.taf_messages.specs.declared.message.Body.TheVariants as body
 use Rattle.hub_items.proofs.PlanLemmas.{planned_estimates}
-use Rattle.hub_items.proofs.UnchangedEstimateLemmas.{same_number, no_estimates_at, no_alerts_at}
+use Rattle.hub_items.proofs.UnchangedEstimateLemmas.{same_number}
 
 none_of_each : {B : Type 0} (f : ℕ → List B) (ws : List ℕ) → ((w : ℕ) → has ws w ≡ true → f w ≡ []) → flat_map f ws ≡ []
 none_of_each f [] h = refl
@@ -15,14 +15,6 @@ pub planned_items : (s : HubState) (m : Message) (p : Trip) → m.body ≡ body.
 planned_items s m p is =
     sym (ap (λ xs. xs ++ flat_map (alerts_at s m) (named_wagons s.offer m)) (none_of_each _ (named_wagons s.offer m) (λ w h. planned_estimates s m p w is h)) ∙
     ap (λ says. flat_map (alerts_at s m) (named_wagons s.offer (record m { body = says }))) is)
-
--- a message that keeps the estimates has nothing but its notices
-pub notices_alone : (s : HubState) (m : Message) → ((w : ℕ) → has (named_wagons s.offer m) w ≡ true → known_fault s m w ≡ None) → keeps_estimates m.body ≡ true → notices s m ≡ all_items s m
-notices_alone s m admitted keeps =
-    let ws = named_wagons s.offer m in
-    sym (
-    ap (λ xs. notices s m ++ xs ++ flat_map (alerts_at s m) ws) (none_of_each _ ws (no_estimates_at s m admitted keeps)) ∙
-    ap (λ xs. notices s m ++ [] ++ xs) (none_of_each _ ws (no_alerts_at s m admitted keeps)) ∙ append-nil (notices s m ++ []) ∙ append-nil (notices s m))
 
 -- what is put of each change is put of each wagon
 pub of_each : {B : Type 0} (f : ℕ → List B) (cs : List Change) (ws : List ℕ) → changed cs ≡ ws → flat_map (λ c. f c.wagon) cs ≡ flat_map f ws

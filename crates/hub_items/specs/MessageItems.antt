@@ -3,8 +3,6 @@ use Rattle.std.specs.Prelude.{ℕ, Bool, true, false, List, ◌++◌, flat_map}
 use Rattle.taf_messages.specs.declared.message.Message.{Message}
 use Rattle.taf_messages.specs.declared.message.Body.{Body}
 use Rattle.taf_messages.specs.declared.message.Body.TheVariants as body
-use Rattle.taf_messages.specs.declared.movement.MovementKind.{MovementKind}
-use Rattle.taf_messages.specs.declared.movement.MovementKind.TheVariants.{YardArrival, YardDeparture}
 use Rattle.hub_model.specs.declared.addressed_item.AddressedItem.{AddressedItem}
 use Rattle.hub_model.specs.HubState.{HubState, named_wagons, journey_after}
 use Rattle.hub_model.specs.Items.{notices, estimate_items, alert_items}
@@ -26,20 +24,6 @@ may_have_many_receivers (body.Plan p) = true
 may_have_many_receivers (body.Answer a) = true
 may_have_many_receivers (body.Reroute w route) = true
 may_have_many_receivers _ = false
-
--- a movement of a yard, which is on the way and no more
-abbrev pub is_in_yard : MovementKind → Bool
-is_in_yard (YardArrival place) = true
-is_in_yard (YardDeparture place) = true
-is_in_yard _ = false
-
--- a message that leaves the legs and the anchors of the estimates as they are, and delays nothing (4.2.6)
-abbrev pub keeps_estimates : Body → Bool
-keeps_estimates (body.Movement m) = is_in_yard m.what
-keeps_estimates (body.EtiAsk w) = true
-keeps_estimates (body.Offer o) = true
-keeps_estimates (body.Withdraw at k) = true
-keeps_estimates _ = false
 
 -- the estimates of a wagon that are news with the message, and its alerts
 abbrev pub estimates_at : HubState → Message → ℕ → List AddressedItem

@@ -1,5 +1,5 @@
 //! The estimates that are news (4.2.6).
-ghost use Rattle.std.specs.Prelude.{◌≡◌, ◌++◌, ◌<◌, OnOk, option_to_list};
+ghost use Rattle.std.specs.Prelude.{◌≡◌, ◌++◌, ◌<◌, [], IfOk, OnOk, false, option_to_list};
 ghost use Rattle.hub_model.specs.Items as of;
 ghost use Rattle.eti_chain.specs.Estimates as chain;
 ghost use Rattle.hub_items.specs.Transitions.{news_of};
@@ -10,14 +10,20 @@ use taf_codes::Memory;
 use taf_messages::{EstimateAt, ItemBody, LegIndex};
 use taf_moment::Moment;
 
-/// Adds the items of the estimates that are news.
+/// Adds the items of the estimates that are news. Gives whether the estimates may be others than before: otherwise no alert begins
+/// or ends.
 pub(crate) fn put_estimates(
     items: &mut Vec<AddressedItem>,
     change: &WagonChange<'_>,
-) -> Result<(), Memory>
-    ensures { OnOk result (items.new.items ≡ items.old.items
+) -> Result<bool, Memory>
+    ensures put { OnOk result (items.new.items ≡ items.old.items
         ++ of.estimate_items change.now.before change.now.after change.now.wagon) }
+    ensures kept { IfOk result (λ changed. changed ≡ false
+        → of.alert_items change.now.before change.now.after change.now.wagon ≡ []) }
 {
+    if change.keeps_estimates() {
+        return Ok(false);
+    }
     let (before, after) = (change.estimates_before(), change.estimates_after());
     let (mut each_before, mut each_after) = (before.in_turn(), after.in_turn());
     for leg in 0..change.leg_count() {
@@ -25,7 +31,7 @@ pub(crate) fn put_estimates(
         let at = each_after.next_estimate();
         put_of_leg(items, change, leg, was, at)?;
     }
-    Ok(())
+    Ok(true)
 }
 
 // Adds the item of a leg's estimate, if there is one and it is news.

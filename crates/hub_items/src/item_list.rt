@@ -3,7 +3,7 @@ ghost use Rattle.std.specs.Prelude.{◌≡◌, ◌++◌, OnOk, not, filter, byte
 ghost use Rattle.hub_model.specs.Items as of;
 ghost use Rattle.hub_tables.specs.TableStates.{IsAcceptable};
 ghost use Rattle.hub_tables.specs.Changes.{HasGoneOn, known_before};
-ghost use Rattle.hub_items.specs.MessageItems.{MayBeAccepted, all_items, is_in_yard, keeps_estimates, state_before};
+ghost use Rattle.hub_items.specs.MessageItems.{MayBeAccepted, all_items, state_before};
 
 use crate::acceptable::Acceptable;
 use crate::notices::put_notices;
@@ -12,7 +12,7 @@ use hub_model::AddressedItem;
 use hub_tables::{Change, Tables};
 use std::alloc::Global;
 use taf_codes::{Memory, Railway};
-use taf_messages::{Body, Message, MovementKind, Shared};
+use taf_messages::{Message, Shared};
 
 /// Puts what an acceptable message makes for the railways into the list, in order; nothing goes to its own sender. In the
 /// tables the journeys of its wagons have gone on by it, with these changes. What the list had before is dropped, and its memory
@@ -55,31 +55,7 @@ fn put_all(
         ++ all_items (state_before from.entry) from.entry.message.now) }
 {
     put_notices(alloc, items, from, notice)?;
-    if keeps_estimates(from.message.body()) {
-        return Ok(());
-    }
     put_of_wagons(items, from)
-}
-
-// Whether a message leaves all estimates as they are.
-fn keeps_estimates(says: &Body) -> bool
-    ensures { result ≡ keeps_estimates says.now }
-{
-    match says {
-        Body::Movement(movement) => is_in_yard(movement.what),
-        Body::EtiAsk { .. } | Body::Offer(_) | Body::Withdraw { .. } => true,
-        Body::Plan(_) | Body::LegTime { .. } | Body::Answer(_) | Body::Reroute { .. } => false,
-    }
-}
-
-// A movement of a yard, which is on the way and no more.
-fn is_in_yard(what: MovementKind) -> bool
-    ensures { result ≡ is_in_yard what }
-{
-    matches!(
-        what,
-        MovementKind::YardArrival { .. } | MovementKind::YardDeparture { .. }
-    )
 }
 
 // Takes the items for the sender out.

@@ -1,9 +1,9 @@
 //! The transition of a wagon that a message makes.
-ghost use Rattle.std.specs.Prelude.{◌≡◌, ◌<◌, ◌≤◌, length, Some};
+ghost use Rattle.std.specs.Prelude.{◌≡◌, ◌<◌, ◌≤◌, ◌∷◌, [], length, true};
 ghost use Rattle.journey.specs.Stages as stages;
 ghost use Rattle.journey.specs.Legs as legs_of;
 ghost use Rattle.eti_chain.specs.EstimateStates.{estimates_state};
-ghost use Rattle.hub_tables.specs.TableStates.{named_alone};
+ghost use Rattle.hub_tables.specs.Changes.{continued_in};
 ghost use Rattle.hub_items.specs.MessageItems.{MayBeAccepted, state_before};
 ghost use Rattle.hub_items.specs.Transitions.{IsAmong, IsTransitionBy};
 
@@ -52,10 +52,10 @@ impl<'a> WagonChange<'a> {
         }
     }
 
-    /// The change of a message that names this wagon alone.
+    /// The change of a message by which the journey of this wagon alone goes on.
     pub(crate) fn alone(from: Acceptable<'a>, wagon: WagonNumber) -> WagonChange<'a>
         requires acceptable { MayBeAccepted from }
-        requires alone { named_alone from.message.now.body ≡ Some wagon }
+        requires alone { continued_in (state_before from) from.message.now ≡ wagon ∷ [] }
         ensures { IsTransitionBy (state_before from.entry) from.entry.message.now wagon result }
     {
         let _wagon = wagon;
@@ -127,6 +127,14 @@ impl<'a> WagonChange<'a> {
         ensures { result ≡ legs_of.runner_of self.now.after leg }
     {
         self.wagon.track().leg(leg).map(|leg| leg.ru)
+    }
+
+    /// The event leaves the estimates as they were.
+    pub(crate) fn keeps_estimates(&self) -> bool
+        ensures { result ≡ true → estimates_state self.now.after
+            ≡ estimates_state self.now.before }
+    {
+        self.wagon.keeps_estimates(self.before)
     }
 
     /// When the wagon was expected before the event.

@@ -1,5 +1,5 @@
 //! The estimates and alerts of the wagons that a message names.
-ghost use Rattle.std.specs.Prelude.{◌≡◌, ◌++◌, OnOk, true, flat_map};
+ghost use Rattle.std.specs.Prelude.{◌≡◌, ◌++◌, [], IfOk, OnOk, false, true, flat_map};
 ghost use Rattle.trip_plan.specs.Rules.{has};
 ghost use Rattle.taf_messages.specs.declared.message.Body.TheVariants as body;
 ghost use Rattle.eti_chain.specs.Estimates.{is_late};
@@ -33,22 +33,34 @@ pub(crate) fn put_of_wagons(
     if let Body::Plan(plan) = from.message.body() {
         return put_alert_ends(items, from, plan);
     }
-    put_each_estimates(items, from)?;
-    put_each_alerts(items, from)
+    let is_changed = put_each_estimates(items, from)?;
+    if is_changed {
+        return put_each_alerts(items, from);
+    }
+    Ok(())
 }
 
-// The estimates of the wagons whose journeys went on.
-fn put_each_estimates(items: &mut Vec<AddressedItem>, from: Acceptable<'_>) -> Result<(), Memory>
+// The estimates of the wagons whose journeys went on. Gives whether those of a wagon may be others than before: otherwise no alert
+// begins or ends.
+fn put_each_estimates(
+    items: &mut Vec<AddressedItem>,
+    from: Acceptable<'_>,
+) -> Result<bool, Memory>
     requires { MayBeAccepted from }
-    ensures { let s = state_before from.entry in
+    ensures put { let s = state_before from.entry in
         let m = from.entry.message.now in
         OnOk result (items.new.items ≡ items.old.items
         ++ flat_map (λ c. estimates_at s m c.wagon) from.entry.changes.now) }
+    ensures kept { let s = state_before from.entry in
+        let m = from.entry.message.now in
+        IfOk result (λ changed. changed ≡ false
+        → flat_map (λ c. alerts_at s m c.wagon) from.entry.changes.now ≡ []) }
 {
+    let mut is_changed = false;
     for change in from.changes {
-        put_estimates(items, &WagonChange::of(from, change))?;
+        is_changed = put_estimates(items, &WagonChange::of(from, change))? | is_changed;
     }
-    Ok(())
+    Ok(is_changed)
 }
 
 // Their alerts.

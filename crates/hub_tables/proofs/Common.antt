@@ -56,6 +56,6 @@ pub use Rattle.hub_model.specs.declared.fault.Fault.{Fault}
 pub use Rattle.hub_tables.specs.Acceptance.{HasAccepted, with_event_of, IsStateBefore, without_newest_of}
 pub use Rattle.hub_tables.specs.Changes.{continued_in, gone_on, changed, known_before, IsChange, AreChanges, HasGoneOn, IsTaken, with_wagons}
 pub use Rattle.hub_tables.specs.GoingOn.{wagon_refusal, KeepsCalendar, GoesOn, Passes, IsKept, after_each, HaveGoneOn, IsGoneOnOrRefused}
-pub use Rattle.hub_tables.specs.TableStates.{TableEntries, table_state, table_part, continues_journeys, named_alone, events_in, IsJourneyEntry, AreJourneyEntries, IsAcceptable}
+pub use Rattle.hub_tables.specs.TableStates.{TableEntries, table_state, table_part, continues_journeys, events_in, IsJourneyEntry, AreJourneyEntries, IsAcceptable}
 pub use Rattle.hub_tables.specs.declared.changes.Change.{Change}
 pub use Rattle.hub_tables.specs.declared.wagon.WagonState.{WagonState}

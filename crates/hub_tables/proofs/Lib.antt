@@ -1,6 +1,5 @@
 pub mod Common
 pub mod EntryLemmas
-pub mod AloneLemmas
 pub mod DifferLemmas
 pub mod NextEventLemmas
 pub mod ChangeLemmas

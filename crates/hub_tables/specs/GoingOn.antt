@@ -1,5 +1,5 @@
 -- How the journeys of a message's wagons go on by it, one after another.
-use Rattle.std.specs.Prelude.{◌≡◌, ℕ, true, if◌then◌else◌, List, [], ◌∷◌, All, slice_get, Option, Some, None, Result, Ok, Err}
+use Rattle.std.specs.Prelude.{◌≡◌, ℕ, true, if◌then◌else◌, List, [], ◌∷◌, ◌++◌, All, slice_get, Option, Some, None}
 use Rattle.std.specs.Option.{option_or}
 use Rattle.trip_plan.specs.Rules.{has, all_differ}
 use Rattle.taf_messages.specs.declared.message.Message.{Message}
@@ -50,7 +50,13 @@ pub record HaveGoneOn (s : HubState) (t : TableEntries) (m : Message) (ws : List
   pub passed : (w : ℕ) → has ws w ≡ true → Passes s m w
   pub before : All (IsKept s m) cs
 
--- the wagon's journey has gone on by the message with this change, or it is refused so, and nothing is changed
-abbrev pub IsGoneOnOrRefused : HubState → TableEntries → Message → ℕ → Result Change Why → Type 0
-IsGoneOnOrRefused s t m w (Ok c) = HaveGoneOn s t m (w ∷ []) (c ∷ [])
-IsGoneOnOrRefused s t m w (Err why) = (wagon_refusal s m w ≡ Some why) × (table_state t ≡ s)
+-- the wagon's journey has gone on by the message, with the change that the list has got
+pub record HasGoneOnWithOneMore (s : HubState) (t : TableEntries) (m : Message) (w : ℕ) (old new : List Change) : Type 0 where
+  pub change : Change
+  pub gone_on : HaveGoneOn s t m (w ∷ []) (change ∷ [])
+  pub listed : new ≡ old ++ change ∷ []
+
+-- the wagon's journey has gone on by the message, or it is refused so, and nothing is changed
+abbrev pub IsGoneOnOrRefused : HubState → TableEntries → Message → ℕ → List Change → List Change → Option Why → Type 0
+IsGoneOnOrRefused s t m w old new None = HasGoneOnWithOneMore s t m w old new
+IsGoneOnOrRefused s t m w old new (Some why) = (wagon_refusal s m w ≡ Some why) × (table_state t ≡ s) × (new ≡ old)

@@ -1,5 +1,5 @@
 -- What the tables are seen as: all that is looked up but first sends and outboxes.
-use Rattle.std.specs.Prelude.{◌≡◌, ℕ, Bool, true, false, nat_eq, List, [], Option, Some, None, IfSome, bytes_eq}
+use Rattle.std.specs.Prelude.{◌≡◌, ℕ, Bool, true, false, nat_eq, List, [], None, IfSome, bytes_eq}
 use Rattle.std.specs.Option.{option_map_or}
 use Rattle.std.specs.Map.{lookup, keys_of}
 use Rattle.taf_codes.specs.declared.code.UnitCode.{UnitCode}
@@ -61,14 +61,6 @@ AreJourneyEntries wagons = (w : ℕ) → IfSome (lookup (nat_eq w) wagons) (IsJo
 abbrev pub continues_journeys : Body → Bool
 continues_journeys (body.Plan p) = false
 continues_journeys _ = true
-
--- the wagon of a message that names one alone, and never several
-abbrev pub named_alone : Body → Option ℕ
-named_alone (body.Movement m) = Some m.wagon
-named_alone (body.EtiAsk w) = Some w
-named_alone (body.LegTime w leg minutes) = Some w
-named_alone (body.Reroute w route) = Some w
-named_alone _ = None
 
 -- the message may be accepted: it has no fault, no estimate passes the calendar with it, and its name is new
 pub record IsAcceptable (s : HubState) (m : Message) : Type 0 where

@@ -1,5 +1,5 @@
 //! How the journeys of a message's wagons go on: each wagon is checked, and at once its journey goes on.
-ghost use Rattle.std.specs.Prelude.{◌≡◌, [], IfOk, None, OnErr, true};
+ghost use Rattle.std.specs.Prelude.{◌≡◌, ◌+◌, ◌<◌, ◌≤◌, [], IfOk, None, OnErr, true, vec_capacity, vec_len};
 ghost use Rattle.trip_plan.specs.Rules.{has};
 ghost use Rattle.eti_chain.specs.Estimates.{fits};
 ghost use Rattle.hub_model.specs.HubState.{journey_after, named_wagons};
@@ -34,9 +34,9 @@ impl Tables {
     {
         changes.reserve(wagons.len())?;
         for wagon in wagons {
-            match self.go_on(message, *wagon) {
-                Ok(Ok(change)) => changes.push_reserved(change),
-                Ok(Err(why)) => {
+            match self.go_on(message, *wagon, changes) {
+                Ok(None) => {}
+                Ok(Some(why)) => {
                     self.take_back(changes);
                     return Ok(Some(Fault {
                         why,
@@ -52,35 +52,45 @@ impl Tables {
         Ok(None)
     }
 
-    // Checks a wagon that the message names, by its own events and then by the calendar, and goes on with its journey. Gives the
-    // change, or why the message is refused there.
+    // Checks a wagon that the message names, by its own events and then by the calendar, and goes on with its journey. The list
+    // gets the change. The answer is why the message is refused there, if it is.
     #[inline(always)]
     fn go_on(
         &mut self,
         message: &Message,
         wagon: WagonNumber,
-    ) -> Result<Result<Change, Why>, Memory>
+        changes: &mut Vec<Change>,
+    ) -> Result<Option<Why>, Memory>
         requires whole { whole_fault (table_state self.old) message.now.by message.now.body ≡ None }
         requires named { has (named_wagons (table_state self.old).offer message.now) wagon ≡ true }
         requires calendar { wagon_refusal (table_state self.old) message.now wagon ≡ None
             → fits (journey_after (table_state self.old) message.now wagon) ≡ true }
+        requires room { vec_len changes.old < vec_capacity changes.old }
         ensures ok { IfOk result
-            (IsGoneOnOrRefused (table_state self.old) self.new message.now wagon) }
+            (IsGoneOnOrRefused (table_state self.old) self.new message.now wagon
+            changes.old.items changes.new.items) }
         ensures err { OnErr result (table_state self.new ≡ table_state self.old) }
+        ensures kept { OnErr result (changes.new.items ≡ changes.old.items) }
+        ensures capacity { vec_capacity changes.new ≡ vec_capacity changes.old }
+        ensures len { vec_len changes.new ≤ vec_len changes.old + 1 }
     {
         let Some((position, found)) = self.find(wagon) else {
-            return Ok(Err(Why::UnknownWagon));
+            return Ok(Some(Why::UnknownWagon));
         };
         let event = self.event_for(message, wagon)?;
         if let Some(why) = event_fault(found, &event) {
-            return Ok(Err(why));
+            return Ok(Some(why));
         }
         let before = found.state_before(&event)?;
-        add(&mut self.wagons, wagon, position, event)?;
-        Ok(Ok(Change {
+        changes.push_reserved(Change {
             wagon,
             position,
             before,
-        }))
+        });
+        if let Err(refused) = add(&mut self.wagons, wagon, position, event) {
+            let _change = changes.pop();
+            return Err(refused);
+        }
+        Ok(None)
     }
 }

@@ -95,6 +95,18 @@ impl Wagon {
         })
     }
 
+    /// The newest event, before which this was kept beside the events, leaves the estimates as they were: they are counted from
+    /// the same leg, legs and anchor.
+    pub fn keeps_estimates(&self, before: &WagonState) -> bool
+        requires { IsStateBefore self.now.events before.now }
+        ensures { result ≡ true → estimates_state self.now.events
+            ≡ estimates_state (without_newest self.now.events) }
+    {
+        before.earlier.legs.is_none()
+            && before.earlier.leg_index == self.track.leg_index()
+            && before.kept.is_same(&self.kept)
+    }
+
     /// Takes the newest event back, before which this was kept beside the events. It takes no memory.
     pub(crate) fn take_back(&mut self, before: WagonState)
         requires { IsStateBefore self.old.events before }

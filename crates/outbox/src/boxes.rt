@@ -12,21 +12,20 @@ use taf_messages::ItemBody;
 
 pub(crate) type Boxes = IndexMap<Railway, Outbox>;
 
-/// Makes room for so many items in the box of a railway, and the box where there is none. Gives its place among the boxes. The
-/// box is looked for at its place among these first.
+/// Makes room for so many items in the box of a railway, and the box where there is none. The box is looked for at its place among
+/// these first.
 pub(crate) fn make_room(
     boxes: &mut Boxes,
     places: &mut RailwayPlaces,
     railway: Railway,
     count: usize,
-) -> Result<usize, Memory>
+) -> Result<(), Memory>
     ensures kept { (also : Railway) → outbox_state_of boxes.new.entries also
         ≡ outbox_state_of boxes.old.entries also }
     ensures stay_open { (also : Railway) → has_box boxes.old.entries also ≡ true
         → has_box boxes.new.entries also ≡ true }
     ensures stay_roomy { (also : Railway) → room_for boxes.old.entries also
         ≤ room_for boxes.new.entries also }
-    ensures place { IfOk result (λ place. IsAt boxes.new.entries place railway) }
     ensures open { OnOk result (has_box boxes.new.entries railway ≡ true) }
     ensures room { OnOk result (count ≤ room_for boxes.new.entries railway) }
     ensures few { OnOk result (last_of (outbox_state_of boxes.new.entries railway) < 2 ^ 62) }
@@ -34,14 +33,8 @@ pub(crate) fn make_room(
         ≡ has_box boxes.old.entries also) }
 {
     match find_place(boxes, places, railway) {
-        Some(place) => {
-            make_room_at(boxes, place, railway, count)?;
-            Ok(place)
-        }
-        None => {
-            open(boxes, railway, count)?;
-            Ok(place_of(boxes, railway).unwrap())
-        }
+        Some(place) => make_room_at(boxes, place, railway, count),
+        None => open(boxes, railway, count),
     }
 }
 
@@ -119,8 +112,13 @@ fn open(boxes: &mut Boxes, railway: Railway, count: usize) -> Result<(), Memory>
     Ok(())
 }
 
-/// Adds an item for a railway that has room for it, and gives its number. The box is looked for at this place first.
-pub(crate) fn put(boxes: &mut Boxes, place: usize, railway: Railway, body: ItemBody) -> u64
+/// Adds an item for a railway that has room for it, and gives its number. The box is looked for at its place among these first.
+pub(crate) fn put(
+    boxes: &mut Boxes,
+    places: &mut RailwayPlaces,
+    railway: Railway,
+    body: ItemBody,
+) -> u64
     requires room { 0 < room_for boxes.old.entries railway }
     requires few { last_of (outbox_state_of boxes.old.entries railway) + 1 < 2 ^ 63 }
     ensures number { result ≡ last_of (outbox_state_of boxes.old.entries railway) + 1 }
@@ -134,11 +132,8 @@ pub(crate) fn put(boxes: &mut Boxes, place: usize, railway: Railway, body: ItemB
     ensures stay_open { (also : Railway) → has_box boxes.new.entries also
         ≡ has_box boxes.old.entries also }
 {
-    if is_at(boxes, place, railway) {
-        return put_at(boxes, place, railway, body);
-    }
-    match place_of(boxes, railway) {
-        Some(found) => put_at(boxes, found, railway, body),
+    match find_place(boxes, places, railway) {
+        Some(place) => put_at(boxes, place, railway, body),
         None => unreachable!(),
     }
 }

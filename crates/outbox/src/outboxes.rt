@@ -1,6 +1,6 @@
 ghost use Rattle.std.specs.Prelude.{◌≡◌, ◌+◌, ◌<◌, ◌≤◌, ◌^◌, ◌↔◌, [], ◌∷◌, true, max, if◌then◌else◌, bytes_eq, IfOk, IfErr, OnOk, OnErr, IsOk};
 ghost use Rattle.taf_codes.specs.declared.code.Railway.{Railway};
-ghost use Rattle.outbox.specs.OutboxStates.{IsAt, outbox_state_of, has_box, room_for, last_of, with_items, acknowledged_up_to, first_items};
+ghost use Rattle.outbox.specs.OutboxStates.{outbox_state_of, has_box, room_for, last_of, with_items, acknowledged_up_to, first_items};
 
 use crate::boxes::{self, Boxes};
 use crate::fault::AckAhead;
@@ -16,8 +16,8 @@ use taf_messages::{FetchLimit, ItemBody, ItemList};
 #[derive(Drop)]
 pub struct Outboxes {
     boxes: Boxes,
-    // Where boxes were found last. `make_room` looks there first, and looks the box up where another railway's is there, so
-    // any places are right.
+    // Where boxes were found last. `make_room` and `put` look there first, and look the box up where another railway's is there,
+    // so any places are right.
     places: RailwayPlaces,
 }
 
@@ -83,15 +83,13 @@ impl Outboxes {
     }
 
     /// Makes room for so many items more in the box of a railway, and the box where there is none: what is kept for each
-    /// railway stays. Gives the place of the box, by which [`Outboxes::put`] finds it soon. Where memory is refused, no box is
-    /// made. Memory is answered also where the railway had 2^62 items.
-    pub fn make_room(&mut self, railway: Railway, count: usize) -> Result<usize, Memory>
+    /// railway stays. Where memory is refused, no box is made. Memory is answered also where the railway had 2^62 items.
+    pub fn make_room(&mut self, railway: Railway, count: usize) -> Result<(), Memory>
         ensures kept { (also : Railway) → outbox_state_of self.new also
             ≡ outbox_state_of self.old also }
         ensures stay_open { (also : Railway) → has_box self.old also ≡ true → has_box self.new also
             ≡ true }
         ensures stay_roomy { (also : Railway) → room_for self.old also ≤ room_for self.new also }
-        ensures place { IfOk result (λ place. IsAt self.new place railway) }
         ensures open { OnOk result (has_box self.new railway ≡ true) }
         ensures room { OnOk result (count ≤ room_for self.new railway) }
         ensures few { OnOk result (last_of (outbox_state_of self.new railway) < 2 ^ 62) }
@@ -101,9 +99,8 @@ impl Outboxes {
         boxes::make_room(&mut self.boxes, &mut self.places, railway, count)
     }
 
-    /// Adds an item for a railway whose box has room for it, and gives its number: 1 for the first one. The box is looked for at
-    /// this place first, and may lie at another. Takes no memory.
-    pub fn put(&mut self, place: usize, railway: Railway, body: ItemBody) -> u64
+    /// Adds an item for a railway whose box has room for it, and gives its number: 1 for the first one. Takes no memory.
+    pub fn put(&mut self, railway: Railway, body: ItemBody) -> u64
         requires room { 0 < room_for self.old railway }
         requires few { last_of (outbox_state_of self.old railway) + 1 < 2 ^ 63 }
         ensures number { result ≡ last_of (outbox_state_of self.old railway) + 1 }
@@ -115,7 +112,7 @@ impl Outboxes {
             ≡ room_for self.old also }
         ensures stay_open { (also : Railway) → has_box self.new also ≡ has_box self.old also }
     {
-        boxes::put(&mut self.boxes, place, railway, body)
+        boxes::put(&mut self.boxes, &mut self.places, railway, body)
     }
 
     /// Makes room for an item and adds it, and gives its number: 1 for the first one. Where memory is refused, what is kept
@@ -132,8 +129,8 @@ impl Outboxes {
         ensures shut { OnErr result ((also : Railway) → has_box self.new also
             ≡ has_box self.old also) }
     {
-        let place = self.make_room(railway, 1)?;
-        Ok(self.put(place, railway, body))
+        self.make_room(railway, 1)?;
+        Ok(self.put(railway, body))
     }
 
     /// Drops a railway's items up to this number, and gives the acknowledged number that now stands: a lower number changes

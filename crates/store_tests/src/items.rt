@@ -93,21 +93,16 @@ fn items_wait_until_they_are_acknowledged(rt: HostRuntime) -> Result<(), Fail> {
     Ok(())
 }
 
-// Puts an item where there is room for it, and gives its number. The box is looked for first so many places behind its own.
-fn put(
-    outboxes: &mut Outboxes,
-    railway: Railway,
-    body: ItemBody,
-    behind: usize,
-) -> Result<u64, Memory> {
-    let place = outboxes.make_room(railway, 2)?;
-    Ok(outboxes.put(place.saturating_add(behind), railway, body))
+// Puts an item where there is room for it, and gives its number.
+fn put(outboxes: &mut Outboxes, railway: Railway, body: ItemBody) -> Result<u64, Memory> {
+    outboxes.make_room(railway, 2)?;
+    Ok(outboxes.put(railway, body))
 }
 
-// Puts three items, the first one by the place of its box. Fails where one gets another number than the one after that of the last.
+// Puts three items. Fails where one gets another number than the one after that of the last.
 fn put_three(outboxes: &mut Outboxes, railway: Railway) -> Result<(), Fail> {
     for number in 1..4u64 {
-        if put(outboxes, railway, alert_ends()?, number as usize - 1)? != number {
+        if put(outboxes, railway, alert_ends()?)? != number {
             return Err(Fail::new(number));
         }
     }

@@ -1,14 +1,5 @@
-use Rattle.hub_items.proofs.Common.{List, ◌++◌, ap, sym, ◌∙◌, append_assoc, flat_map, IfOk-equal, AddressedItem, named_wagons, notices, keeps_estimates, estimates_at, alerts_at, state_before}
-use Rattle.hub_items.proofs.ChangeLemmas.{admitted_named}
-use Rattle.hub_items.proofs.WagonItemLemmas.{notices_alone}
+use Rattle.hub_items.proofs.Common.{List, ◌++◌, ap, sym, ◌∙◌, append_assoc, flat_map, IfOk-equal, AddressedItem, named_wagons, notices, estimates_at, alerts_at, state_before}
 use Rattle.hub_items.proofs.item_list.put_all.Goals as goal
-
-pub returns-then-keeps_estimates : goal.returns-then-keeps_estimates
-returns-then-keeps_estimates c =
-    let s = state_before c.args.from in
-    let m = c.args.from.message.now in
-    let keeps = ap keeps_estimates (sym c.body.ensures) ∙ sym c.keeps_estimates.ensures ∙ c.if-keeps_estimates.true in
-    c.in_ok-put_notices.ensures ∙ ap (λ (xs : List AddressedItem). c.args.items.now.items ++ xs) (notices_alone s m (admitted_named s m c.args.from.tables.now c.args.from.changes.now c.requires.acceptable.1 keeps) keeps)
 
 pub returns : goal.returns
 returns c =

@@ -1,7 +1,9 @@
-use Rattle.hub_items.proofs.Common.{◌≡◌, ◌++◌, take, flat_map, estimates_at, state_before}
+use Rattle.hub_items.proofs.Common.{◌≡◌, ◌++◌, [], false, take, flat_map, alerts_at, estimates_at, state_before}
 use Rattle.hub_items.proofs.wagons.put_each_estimates.Given as goal
 
--- those of the changes so far
+-- those of the changes so far; where none has changed the estimates, no alert begins or ends
 abbrev pub invariant-loop-change : goal.invariant-loop-change
-invariant-loop-change l =
-    l.items.items ≡ l.initial.items.items ++ flat_map (λ c. estimates_at (state_before l.from) l.from.message.now c.wagon) (take l.change-index l.change-items)
+invariant-loop-change l = record {
+  put : l.items.items ≡ l.initial.items.items ++ flat_map (λ c. estimates_at (state_before l.from) l.from.message.now c.wagon) (take l.change-index l.change-items);
+  kept : l.is_changed ≡ false → flat_map (λ c. alerts_at (state_before l.from) l.from.message.now c.wagon) (take l.change-index l.change-items) ≡ [];
+}

@@ -1,4 +1,4 @@
-use Rattle.hub_tables.proofs.Common.{or_none_left, ◌++◌, ◌∷◌, [], List, refl, ◌∙◌, sym, ap, Journey, Event, fits, events_in, TableEntries, table_state, subst, IsStateBefore, with_event_of, keys_of}
+use Rattle.hub_tables.proofs.Common.{or_none_left, ◌++◌, ◌∷◌, [], List, refl, ◌∙◌, sym, ap, Journey, Event, fits, Change, events_in, TableEntries, table_state, subst, IsStateBefore, with_event_of, keys_of}
 use Rattle.hub_tables.proofs.ContinuationLemmas.{either_by}
 use Rattle.hub_tables.proofs.NextEventLemmas.{comes_last}
 use Rattle.hub_tables.proofs.GoingOnLemmas.{one_on}
@@ -9,6 +9,7 @@ returns-in-Some-event_fault-clause-ok c =
     let s = table_state c.args.self.now in
     let events = sym (ap (λ (j : Journey). j.events) c.in-Some.ensures.found) in (
       either_by s c.args.message.now c.args.wagon _ _ c.requires.named c.in-Some.ensures.known events (sym c.in_ok-event.ensures) ∙ sym c.event_fault.ensures ∙ c.in-Some-event_fault.is,
+      refl,
       refl,
     )
 
@@ -31,5 +32,10 @@ returns-clause-ok c =
     let events = sym (ap (λ (j : Journey). j.events) c.in-Some.ensures.found) in
     let none = either_by (table_state old) m w _ _ c.requires.named c.in-Some.ensures.known events (sym c.in_ok-event.ensures) ∙ sym c.event_fault.ensures ∙ c.in_default-event_fault.is in
     let last = ap (λ (es : List Event). es ++ c.in_ok-event.event ∷ []) (sym events) ∙ ap (λ (e : Event). (table_state old).journey w ++ e ∷ []) c.in_ok-event.ensures ∙ sym (comes_last (table_state old) m w c.requires.named (or_none_left _ _ none)) in
-    one_on old _ m (record { wagon = w; position = c.in-Some.position; before = c.in_ok-before.before }) c.in_ok-event.event c.in_ok-event.ensures (record { is_named = c.requires.named; admits = none })
-    (record { position_is = c.in-Some.ensures.position; before_is = subst (λ (es : List Event). IsStateBefore es c.in_ok-before.before) last c.in_ok-before.ensures }) (c.in_ok-add.ensures.keys ∙ ap (λ (t : TableEntries). keys_of t.wagons) is) (ap (λ (t : TableEntries). t.plans) is) (ap (λ (t : TableEntries). t.units) is) (ap (λ (t : TableEntries). t.offers) is) (λ v. c.in_ok-add.ensures.ok v ∙ ap (λ (t : TableEntries). with_event_of w c.in_ok-event.event (events_in t.wagons) v) is)
+    let change : Change = record { wagon = w; position = c.in-Some.position; before = c.in_ok-before.before } in
+    record {
+      change = change;
+      gone_on = one_on old _ m change c.in_ok-event.event c.in_ok-event.ensures (record { is_named = c.requires.named; admits = none })
+          (record { position_is = c.in-Some.ensures.position; before_is = subst (λ (es : List Event). IsStateBefore es c.in_ok-before.before) last c.in_ok-before.ensures }) (c.in_default-add.ensures.keys ∙ ap (λ (t : TableEntries). keys_of t.wagons) is) (ap (λ (t : TableEntries). t.plans) is) (ap (λ (t : TableEntries). t.units) is) (ap (λ (t : TableEntries). t.offers) is) (λ v. c.in_default-add.ensures.ok v ∙ ap (λ (t : TableEntries). with_event_of w c.in_ok-event.event (events_in t.wagons) v) is);
+      listed = c.push_reserved.ensures.items;
+    }

@@ -7,6 +7,6 @@ abbrev pub invariant-loop-wagon : goal.invariant-loop-wagon
 invariant-loop-wagon l = record {
   gone_on : HaveGoneOn (table_state l.fn.self) l.self l.message (take l.wagon-index l.wagons) l.changes.items;
   faults : of.first_fault (table_state l.fn.self) l.message l.wagons ≡ of.first_fault (table_state l.fn.self) l.message (drop l.wagon-index l.wagons);
-  counted : vec_len l.changes ≡ l.wagon-index;
+  counted : vec_len l.changes ≤ l.wagon-index;
   room : length l.wagons ≤ vec_capacity l.changes;
 }
