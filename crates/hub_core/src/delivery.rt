@@ -11,10 +11,7 @@ use taf_codes::Memory;
 
 /// Makes room for these items in the boxes of their railways: in each for all of them, however they are spread. What is
 /// kept in the boxes stays. Memory is answered also where a box had 2^62 items.
-pub(crate) fn make_room_for(
-    outboxes: &mut Outboxes,
-    items: &[AddressedItem],
-) -> Result<(), Memory>
+pub(crate) fn make_room_for(outboxes: &mut Outboxes, items: &[AddressedItem]) -> Result<(), Memory>
     ensures kept { (r : Railway) → outbox_state_of outboxes.new r ≡ outbox_state_of outboxes.old r }
     ensures ready { OnOk result (AreReady outboxes.new (2 ^ 62) (length items.now) items.now) }
 {

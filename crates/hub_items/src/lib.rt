@@ -10,9 +10,10 @@
 //! 4. of each wagon of the message, the alert that begins or ends: to the lead, and to the railway that answers for it.
 //!
 //! None goes to the sender of the message. Nothing is changed: in the tables the journeys of the message's wagons have gone on by
-//! it, and what was kept of them before is lent, each with its wagon's position. So what is news is found by comparing both. A
-//! message that keeps all estimates has its notices alone. The list is empty before the items are put, and keeps its memory: so one
-//! that is lent again for the next message mostly takes no more.
+//! it, and what was kept of them before is lent, each with its wagon's position. So what is news is found by comparing both.
+//! Where the estimates of a wagon are counted from the same leg, legs and anchor as before, none is news, and no alert of it begins
+//! or ends. The list is empty before the items are put, and keeps its memory: so one that is lent again for the next message mostly
+//! takes no more.
 #![tactic(auto)]
 
 mod acceptable;

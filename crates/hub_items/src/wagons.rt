@@ -42,10 +42,7 @@ pub(crate) fn put_of_wagons(
 
 // The estimates of the wagons whose journeys went on. Gives whether those of a wagon may be others than before: otherwise no alert
 // begins or ends.
-fn put_each_estimates(
-    items: &mut Vec<AddressedItem>,
-    from: Acceptable<'_>,
-) -> Result<bool, Memory>
+fn put_each_estimates(items: &mut Vec<AddressedItem>, from: Acceptable<'_>) -> Result<bool, Memory>
     requires { MayBeAccepted from }
     ensures put { let s = state_before from.entry in
         let m = from.entry.message.now in

@@ -22,8 +22,8 @@ use taf_messages::{Body, Message, MessageNumber, OfferedWagons, TrainAnswer};
 
 impl Tables {
     /// Checks a message that is new, and goes on with the journeys of its wagons by it, unless it has a fault, which is then the
-    /// answer: as a whole, at a wagon, or for an intermodal unit. The list gets the changes of these journeys; what it had before is dropped. `Memory` where memory is refused: then
-    /// all is as it was.
+    /// answer: as a whole, at a wagon, or for an intermodal unit. The list gets the changes of these journeys; what it had before
+    /// is dropped. `Memory` where memory is refused: then all is as it was.
     pub fn take(
         &mut self,
         alloc: Global,
