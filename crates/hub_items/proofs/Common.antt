@@ -10,7 +10,7 @@ pub use Rattle.std.proofs.lemmas.Grind.{flat_map-append}
 pub use Rattle.std.proofs.lemmas.List.{map-append, take_more}
 pub use Rattle.std.proofs.lemmas.List.Elements.{filter-append, filter_map-append, All-head, All-tail}
 pub use Rattle.std.proofs.lemmas.Option.{same_Some}
-pub use Rattle.std.proofs.lemmas.Result.{IfOk-equal}
+pub use Rattle.std.proofs.lemmas.Result.{IfOk-equal, on_ok_weaker}
 pub use Rattle.std.proofs.lemmas.Slice.Eq.{bytes_eq-Decides}
 pub use Rattle.taf_codes.specs.Words.{same_text}
 pub use Rattle.taf_codes.specs.declared.code.Railway.{Railway}
@@ -46,4 +46,5 @@ pub use Rattle.hub_tables.specs.TableStates.{IsAcceptable, TableEntries, events_
 pub use Rattle.hub_tables.specs.declared.changes.Change.{Change}
 pub use Rattle.hub_tables.proofs.NextEventLemmas.{comes_last}
 pub use Rattle.hub_items.specs.MessageItems.{state_before, estimates_at, alerts_at, all_items}
+pub use Rattle.hub_items.specs.Notices.{IsNotifiedToo, notices_to}
 pub use Rattle.hub_items.specs.Transitions.{IsTransitionBy, estimate_of}

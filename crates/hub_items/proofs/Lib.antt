@@ -5,5 +5,4 @@ pub mod UnchangedEstimateLemmas
 pub mod ChangeLemmas
 pub mod AlertLemmas
 pub mod NoticeLemmas
-pub mod MessageItemLemmas
 pub mod WagonItemLemmas

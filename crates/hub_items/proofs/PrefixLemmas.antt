@@ -1,5 +1,5 @@
 -- Lists that a loop makes, item by item.
-use Rattle.hub_items.proofs.Common.{◌≡◌, ℕ, zero, suc, ◌+◌, ◌<◌, Bool, true, false, cond, not, List, [], ◌∷◌, ◌++◌, length, take, get_or, Option, Some, None, refl, ap, ◌∙◌, sym, append_assoc, append-nil, arith, ◌||◌, map, filter, flat_map, filter_map, bytes_eq, option_to_list, list_any, range_with_len, map-append, take_more, filter-append, filter_map-append, flat_map-append, bytes_eq-Decides, Railway, each_once, same_test}
+use Rattle.hub_items.proofs.Common.{◌≡◌, ℕ, zero, suc, ◌+◌, ◌<◌, Bool, List, [], ◌∷◌, ◌++◌, length, take, get_or, Option, Some, None, refl, ap, ◌∙◌, sym, append_assoc, append-nil, arith, filter, flat_map, filter_map, option_to_list, range_with_len, take_more, filter-append, filter_map-append, flat_map-append}
 
 -- what a function of lists gives of one item more comes at the end
 pub record Grows {A B : Type 0} (g : List A → List B) (h : A → List B) : Type 0 where
@@ -21,42 +21,6 @@ one_taken f x (Some y) e = rw e refl
 
 pub filter_map_grows : {A B : Type 0} (f : A → Option B) → Grows (filter_map f) (λ x. option_to_list (f x))
 filter_map_grows f = record { grows = λ xs x. filter_map-append f xs (x ∷ []) ∙ ap (λ ys. filter_map f xs ++ ys) (one_taken f x (f x) refl) }
-
--- the railway is among these
-abbrev pub is_among : List Railway → Railway → Bool
-is_among rs r = list_any (λ q. bytes_eq q r) rs
-
-turned : (q r : Railway) → bytes_eq r q ≡ bytes_eq q r
-turned q r = same_test _ _ (λ h. (bytes_eq-Decides q r).1 (sym ((bytes_eq-Decides r q).0 h))) (λ h. (bytes_eq-Decides r q).1 (sym ((bytes_eq-Decides q r).0 h)))
-
-sieved : (a : Bool) (r : Railway) → cond (not a) (r ∷ []) [] ≡ cond (a || false) [] (r ∷ [])
-sieved true r = refl
-sieved false r = refl
-
-left_out : (a : Bool) (r : Railway) → cond (a || true) [] (r ∷ []) ≡ []
-left_out true r = refl
-left_out false r = refl
-
-sieve_one : (q r : Railway) (b : Bool) → filter (λ x. not (bytes_eq x q)) (cond b [] (r ∷ [])) ≡ cond (bytes_eq q r || b) [] (r ∷ [])
-sieve_one q r true = sym (left_out (bytes_eq q r) r)
-sieve_one q r false = ap (λ a. cond (not a) (r ∷ []) []) (turned q r) ∙ sieved (bytes_eq q r) r
-
-once_more : (rs : List Railway) (r : Railway) → each_once (rs ++ r ∷ []) ≡ each_once rs ++ cond (is_among rs r) [] (r ∷ [])
-once_more [] r = refl
-once_more (q ∷ rs) r =
-    ap (λ ys. q ∷ filter (λ x. not (bytes_eq x q)) ys) (once_more rs r) ∙
-    ap (λ ys. q ∷ ys) (filter-append (λ x. not (bytes_eq x q)) (each_once rs) (cond (is_among rs r) [] (r ∷ []))) ∙
-    ap (λ ys. q ∷ filter (λ x. not (bytes_eq x q)) (each_once rs) ++ ys) (sieve_one q r (is_among rs r))
-
--- a railway comes at the end of those before it, each once, if it is not among them: what a function gives of each, in a loop
-pub once_so_far : {B : Type 0} (f : Railway → B) (rs : List Railway) (i : ℕ) (r : Railway) (start before now : List B) → i < length rs → r ≡ get_or rs i r →
-    before ≡ start ++ map f (each_once (take i rs)) → now ≡ before ++ map f (cond (is_among (take i rs) r) [] (r ∷ [])) → now ≡ start ++ map f (each_once (take (i + 1) rs))
-once_so_far f rs i r start before now lt is b n =
-    let done : List Railway = take i rs in
-    let new : List Railway = cond (is_among (take i rs) r) [] (r ∷ []) in
-    n ∙ ap (λ ys. ys ++ map f new) b ∙ append_assoc start (map f (each_once done)) (map f new) ∙
-    ap (λ ys. start ++ ys) (sym (map-append f (each_once done) new) ∙ ap (map f) (sym (once_more done r))) ∙
-    ap (λ y. start ++ map f (each_once (done ++ y ∷ []))) is ∙ ap (λ ys. start ++ map f (each_once ys)) (sym (take_more rs i r lt))
 
 pub range_more : (a n j : ℕ) → a + n ≡ j → range_with_len a (suc n) ≡ range_with_len a n ++ j ∷ []
 range_more a zero j e = ap (λ k. k ∷ []) (let here : a ≡ j = omega arith in here)

@@ -1,8 +1,6 @@
 -- All items of a message, before those for its sender are taken out.
-use Rattle.std.specs.Prelude.{ℕ, Bool, true, false, List, ◌++◌, flat_map}
+use Rattle.std.specs.Prelude.{ℕ, List, ◌++◌, flat_map}
 use Rattle.taf_messages.specs.declared.message.Message.{Message}
-use Rattle.taf_messages.specs.declared.message.Body.{Body}
-use Rattle.taf_messages.specs.declared.message.Body.TheVariants as body
 use Rattle.hub_model.specs.declared.addressed_item.AddressedItem.{AddressedItem}
 use Rattle.hub_model.specs.HubState.{HubState, named_wagons, journey_after}
 use Rattle.hub_model.specs.Items.{notices, estimate_items, alert_items}
@@ -17,13 +15,6 @@ state_before from = known_before from.tables.now from.changes.now
 -- the message may be accepted, and the journeys of its wagons have gone on by it
 abbrev pub MayBeAccepted : Acceptable → Type 0
 MayBeAccepted from = IsAcceptable (state_before from) from.message.now × HasGoneOn (state_before from) from.tables.now from.message.now from.changes.now
-
--- several railways may get the notice
-abbrev pub may_have_many_receivers : Body → Bool
-may_have_many_receivers (body.Plan p) = true
-may_have_many_receivers (body.Answer a) = true
-may_have_many_receivers (body.Reroute w route) = true
-may_have_many_receivers _ = false
 
 -- the estimates of a wagon that are news with the message, and its alerts
 abbrev pub estimates_at : HubState → Message → ℕ → List AddressedItem

@@ -1,58 +1,95 @@
-//! The notice of a message, for one railway or for each of several.
-ghost use Rattle.std.specs.Prelude.{◌≡◌, ◌++◌, ◌∷◌, [], OnOk, map, option_to_list, if◌then◌else◌, bytes_eq};
+//! The notice of a message, for each railway that it concerns once.
+ghost use Rattle.std.specs.Prelude.{◌≡◌, ◌∷◌, [], OnOk, bytes_eq, filter_map, option_to_list};
 ghost use Rattle.std.specs.List.{list_any};
-ghost use Rattle.hub_model.specs.Items as of;
+ghost use Rattle.journey.specs.Legs.{lead_of};
+ghost use Rattle.hub_model.specs.Items.{runners};
+ghost use Rattle.hub_tables.specs.TableStates.{table_state};
+ghost use Rattle.hub_items.specs.Notices.{IsNotifiedToo};
 
 use hub_model::AddressedItem;
+use hub_tables::Tables;
 use taf_codes::{Memory, Railway};
 use taf_messages::{ItemBody, Message, Shared};
+use trip_plan::Leg;
+use wagon_number::WagonNumber;
 
-/// Adds the notice of the message for the railway, if there is one.
+/// Adds the notice of the message for the railway to a list of its notices, unless it is there.
 pub(crate) fn put_notice(
     items: &mut Vec<AddressedItem>,
     notice: &Shared<Message>,
-    receiver: Option<Railway>,
-) -> Result<(), Memory>
-    ensures { OnOk result (items.new.items ≡ items.old.items
-        ++ map (λ r. record { to = r; body = ItemBody.Notice notice.now })
-        (option_to_list receiver)) }
-{
-    if let Some(to) = receiver {
-        let body = ItemBody::Notice(notice.clone()?);
-        items.push(AddressedItem { to, body })?;
-    }
-    Ok(())
-}
-
-/// Adds the notice of the message for each of the railways, once where it comes first.
-pub(crate) fn put_each_once(
-    items: &mut Vec<AddressedItem>,
-    notice: &Shared<Message>,
-    railways: &[Railway],
-) -> Result<(), Memory>
-    ensures { OnOk result (items.new.items ≡ items.old.items
-        ++ map (λ r. record { to = r; body = ItemBody.Notice notice.now })
-        (of.each_once railways.now)) }
-{
-    for (i, railway) in railways.iter().enumerate() {
-        put_new(items, notice, &railways[..i], *railway)?;
-    }
-    Ok(())
-}
-
-// Adds the notice for the railway, if it is not among those before it.
-fn put_new(
-    items: &mut Vec<AddressedItem>,
-    notice: &Shared<Message>,
-    before: &[Railway],
     railway: Railway,
 ) -> Result<(), Memory>
-    ensures { OnOk result (items.new.items ≡ items.old.items
-        ++ map (λ r. record { to = r; body = ItemBody.Notice notice.now })
-        (if list_any (λ r. bytes_eq r railway) before.now then [] else railway ∷ [])) }
+    ensures { OnOk result (IsNotifiedToo notice.now (railway ∷ []) items.old.items
+        items.new.items) }
 {
-    if before.contains(&railway) {
+    if has_item_for(items, railway) {
         return Ok(());
     }
-    put_notice(items, notice, Some(railway))
+    let body = ItemBody::Notice(notice.clone()?);
+    items.push(AddressedItem { to: railway, body })?;
+    Ok(())
+}
+
+// An item of the list goes to the railway.
+fn has_item_for(items: &[AddressedItem], railway: Railway) -> bool
+    ensures { result ≡ list_any (λ i. bytes_eq i.to railway) items.now }
+{
+    items.iter().any(|item| item.to == railway)
+}
+
+/// Adds it for the railway, if there is one.
+pub(crate) fn put_notice_if_any(
+    items: &mut Vec<AddressedItem>,
+    notice: &Shared<Message>,
+    railway: Option<Railway>,
+) -> Result<(), Memory>
+    ensures { OnOk result (IsNotifiedToo notice.now (option_to_list railway) items.old.items
+        items.new.items) }
+{
+    match railway {
+        Some(railway) => put_notice(items, notice, railway),
+        None => Ok(()),
+    }
+}
+
+/// Adds it for the railways of these legs.
+pub(crate) fn put_for_runners(
+    items: &mut Vec<AddressedItem>,
+    notice: &Shared<Message>,
+    legs: &[Leg],
+) -> Result<(), Memory>
+    ensures { OnOk result (IsNotifiedToo notice.now (runners legs.now) items.old.items
+        items.new.items) }
+{
+    for leg in legs {
+        put_notice(items, notice, leg.ru)?;
+    }
+    Ok(())
+}
+
+/// Adds it for the leads of those of these wagons that were planned.
+pub(crate) fn put_for_leads(
+    items: &mut Vec<AddressedItem>,
+    notice: &Shared<Message>,
+    tables: &Tables,
+    wagons: &[WagonNumber],
+) -> Result<(), Memory>
+    ensures { OnOk result (IsNotifiedToo notice.now
+        (filter_map (λ w. lead_of ((table_state tables.now).journey w)) wagons.now)
+        items.old.items items.new.items) }
+{
+    for wagon in wagons {
+        put_notice_if_any(items, notice, lead_of(tables, *wagon))?;
+    }
+    Ok(())
+}
+
+// The lead of a wagon, if it was planned.
+fn lead_of(tables: &Tables, wagon: WagonNumber) -> Option<Railway>
+    ensures { result ≡ lead_of ((table_state tables.now).journey wagon) }
+{
+    match tables.wagon(wagon) {
+        Some(found) => found.track().journey_state().lead,
+        None => None,
+    }
 }

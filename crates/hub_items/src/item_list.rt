@@ -1,5 +1,5 @@
 //! The items of an accepted message.
-ghost use Rattle.std.specs.Prelude.{◌≡◌, ◌++◌, OnOk, not, filter, bytes_eq};
+ghost use Rattle.std.specs.Prelude.{◌≡◌, [], OnOk, not, filter, bytes_eq};
 ghost use Rattle.hub_model.specs.Items as of;
 ghost use Rattle.hub_tables.specs.TableStates.{IsAcceptable};
 ghost use Rattle.hub_tables.specs.Changes.{HasGoneOn, known_before};
@@ -42,7 +42,7 @@ pub fn put_items(
     Ok(())
 }
 
-// Adds the items of an acceptable message, with those for its own sender. Its notices share it.
+// Puts the items of an acceptable message into an empty list, with those for its own sender. Its notices share it.
 fn put_all(
     alloc: Global,
     items: &mut Vec<AddressedItem>,
@@ -51,8 +51,9 @@ fn put_all(
 ) -> Result<(), Memory>
     requires acceptable { MayBeAccepted from }
     requires notice { notice.now ≡ from.message.now }
-    ensures { OnOk result (items.new.items ≡ items.old.items
-        ++ all_items (state_before from.entry) from.entry.message.now) }
+    requires empty { items.old.items ≡ [] }
+    ensures { OnOk result (items.new.items
+        ≡ all_items (state_before from.entry) from.entry.message.now) }
 {
     put_notices(alloc, items, from, notice)?;
     put_of_wagons(items, from)

@@ -1,18 +1,21 @@
 //! The notices of a message, and the sub notice (4.2.8).
-ghost use Rattle.std.specs.Prelude.{◌≡◌, ◌++◌, true, IfOk, OnOk, option_to_list};
+ghost use Rattle.std.specs.Prelude.{◌≡◌, ◌++◌, [], IfOk, OnOk, option_to_list};
+ghost use Rattle.taf_messages.specs.declared.message.Body.TheVariants as body;
 ghost use Rattle.hub_model.specs.Items as of;
-ghost use Rattle.hub_items.specs.MessageItems.{MayBeAccepted, may_have_many_receivers, state_before};
+ghost use Rattle.hub_items.specs.MessageItems.{MayBeAccepted, state_before};
+ghost use Rattle.hub_items.specs.Notices.{IsNotifiedToo};
 
 use crate::acceptable::Acceptable;
-use crate::each::{put_each_once, put_notice};
-use crate::receivers::{movement_receivers, notice_receivers, withdrawal_receivers};
+use crate::each::{put_for_leads, put_for_runners, put_notice, put_notice_if_any};
+use crate::receivers::{movement_receivers, withdrawal_receivers};
 use crate::wagon_change::WagonChange;
 use hub_model::AddressedItem;
 use std::alloc::Global;
 use taf_codes::{Memory, Railway};
 use taf_messages::{Body, ItemBody, Message, Shared, SubNotice, TrainAnswer};
+use trip_plan::Leg;
 
-/// Adds the notices of a message, and the sub notice.
+/// Puts the notices of a message, and the sub notice, into an empty list.
 pub(crate) fn put_notices(
     alloc: Global,
     items: &mut Vec<AddressedItem>,
@@ -21,47 +24,69 @@ pub(crate) fn put_notices(
 ) -> Result<(), Memory>
     requires acceptable { MayBeAccepted from }
     requires notice { notice.now ≡ from.message.now }
-    ensures { OnOk result (items.new.items ≡ items.old.items
-        ++ of.notices (state_before from.entry) from.entry.message.now) }
+    requires empty { items.old.items ≡ [] }
+    ensures { OnOk result (items.new.items
+        ≡ of.notices (state_before from.entry) from.entry.message.now) }
 {
     match from.message.body() {
         Body::LegTime { .. } => Ok(()),
         Body::Movement(movement) => {
             let change = WagonChange::alone(from, movement.wagon);
-            put_notice(items, notice, movement_receivers(&change, movement.what))
+            put_notice_if_any(items, notice, movement_receivers(&change, movement.what))
         }
         Body::EtiAsk { wagon } => {
             let change = WagonChange::alone(from, *wagon);
-            put_notice(items, notice, change.responsible())
+            put_notice_if_any(items, notice, change.responsible())
         }
-        Body::Offer(offer) => put_notice(items, notice, Some(offer.get().to)),
+        Body::Offer(offer) => put_notice(items, notice, offer.get().to),
         Body::Withdraw { offer, .. } => {
             let asked = withdrawal_receivers(from.tables, from.message.by(), *offer);
-            put_notice(items, notice, asked)
+            put_notice_if_any(items, notice, asked)
         }
-        Body::Plan(_) | Body::Answer(_) | Body::Reroute { .. } => {
-            put_many(alloc, items, from, notice)
+        Body::Plan(plan) => put_for_runners(items, notice, plan.legs()),
+        Body::Answer(answer) => put_of_answer(alloc, items, from, notice, answer.get()),
+        Body::Reroute { wagon, route } => {
+            let change = WagonChange::alone(from, *wagon);
+            put_of_route(items, notice, &change, route.legs())
         }
     }
 }
 
-// Adds the notices of a message that several railways may get, and the sub notice.
-fn put_many(
+// Adds the notice of new legs: for the current leg's railway, and those of the legs taken away and set.
+fn put_of_route(
+    items: &mut Vec<AddressedItem>,
+    notice: &Shared<Message>,
+    change: &WagonChange<'_>,
+    route: &[Leg],
+) -> Result<(), Memory>
+    ensures { OnOk result (IsNotifiedToo notice.now
+        (of.route_receivers change.now.before route.now) items.old.items items.new.items) }
+{
+    let current = change.leg_index_before();
+    put_notice_if_any(items, notice, change.runner_before(current))?;
+    put_for_runners(items, notice, &change.legs_before()[current + 1..])?;
+    put_for_runners(items, notice, route)
+}
+
+// Puts the notices of an answer into an empty list, for who made the offer and for the leads of the wagons, and the sub notice.
+fn put_of_answer(
     alloc: Global,
     items: &mut Vec<AddressedItem>,
     from: Acceptable<'_>,
     notice: &Shared<Message>,
+    answer: &TrainAnswer,
 ) -> Result<(), Memory>
     requires acceptable { MayBeAccepted from }
     requires notice { notice.now ≡ from.message.now }
-    requires many { may_have_many_receivers from.message.now.body ≡ true }
-    ensures { OnOk result (items.new.items ≡ items.old.items
-        ++ of.notices (state_before from.entry) from.entry.message.now) }
+    requires answer { from.message.now.body ≡ body.Answer answer.now }
+    requires empty { items.old.items ≡ [] }
+    ensures { OnOk result (items.new.items
+        ≡ of.notices (state_before from.entry) from.entry.message.now) }
 {
-    let concerned = notice_receivers(alloc, from)?;
-    put_each_once(items, notice, concerned.as_slice())?;
-    put_sub_notice(alloc, items, from.message.by(), from.message.body())?;
-    Ok(())
+    put_notice(items, notice, answer.offerer)?;
+    put_for_leads(items, notice, from.tables, answer.received.as_slice())?;
+    put_for_leads(items, notice, from.tables, answer.refused.as_slice())?;
+    put_sub_notice(alloc, items, from.message.by(), from.message.body())
 }
 
 // Adds the sub notice, if there is one.

@@ -5,8 +5,7 @@ pub returns : goal.returns
 returns c =
     let s = state_before c.args.from in
     let m = c.args.from.message.now in
-    let wagons = named_wagons s.offer m in
-    let others = flat_map (estimates_at s m) wagons ++ flat_map (alerts_at s m) wagons in
+    let estimates = flat_map (estimates_at s m) (named_wagons s.offer m) in
+    let alerts = flat_map (alerts_at s m) (named_wagons s.offer m) in
     IfOk-equal c.put_of_wagons.result c.put_of_wagons.new.items.items _ _ c.put_of_wagons.ensures
-    (ap (λ (xs : List AddressedItem). xs ++ others) c.in_ok-put_notices.ensures ∙ append_assoc c.args.items.now.items (notices s m) others ∙
-    ap (λ (xs : List AddressedItem). c.args.items.now.items ++ xs) (sym (append_assoc (notices s m) (flat_map (estimates_at s m) wagons) (flat_map (alerts_at s m) wagons))))
+    (ap (λ (xs : List AddressedItem). xs ++ (estimates ++ alerts)) c.in_ok-put_notices.ensures ∙ sym (append_assoc (notices s m) estimates alerts))

@@ -1,4 +1,4 @@
-use Rattle.hub_items.proofs.Common.{subst, IsAcceptable, List, ap, ◌∙◌, ◌++◌, sym, filter, not, bytes_eq, Railway, Message, AddressedItem, HasGoneOn, known_before, all_items}
+use Rattle.hub_items.proofs.Common.{subst, IsAcceptable, ap, ◌∙◌, sym, filter, not, bytes_eq, Railway, Message, AddressedItem, HasGoneOn, known_before, all_items}
 use Rattle.hub_items.proofs.item_list.put_items.Goals as goal
 
 pub put_all-requires-clause-acceptable : goal.put_all-requires-clause-acceptable
@@ -13,5 +13,5 @@ returns c =
     let sent = c.get-sent in
     c.keep_others.ensures ∙ ap (λ (by : Railway). filter (λ (i : AddressedItem). not (bytes_eq i.to by)) c.put_all.new.items.items) c.by.ensures ∙
     ap (filter (λ (i : AddressedItem). not (bytes_eq i.to sent.result.now.by)))
-    (c.in_ok-put_all.ensures ∙ ap (λ (is : List AddressedItem). is ++ all_items s sent.result.now) c.clear.ensures.items) ∙
+    c.in_ok-put_all.ensures ∙
     ap (λ (m : Message). filter (λ (i : AddressedItem). not (bytes_eq i.to m.by)) (all_items s m)) sent.ensures
