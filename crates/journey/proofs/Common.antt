@@ -2,14 +2,13 @@
 pub use Rattle.std.specs.List.{list_any}
 pub use Rattle.std.specs.Option.{option_or, option_flatten, option_eq}
 pub use Rattle.std.specs.Prelude.{fold, slice_index_or, slice_set, slice_get, option_map, unwrap_or, nat_lt, if◌then◌else◌, ◌||◌, ◌↔◌, IsSome, is_some}
-pub use Rattle.std.proofs.Common.{◌≡◌, ℕ, ◌+◌, zero, suc, cond, List, [], ◌∷◌, ◌++◌, length, refl, ap, ◌∙◌, ◌<◌, ◌≤◌, take, arith, ◌-◌, Bool, true, false, Option, Some, None, sym, inl, inr, ◌⊎◌, ◌==◌, append-nil, append_assoc, add-zero, drop, subst}
+pub use Rattle.std.proofs.Common.{◌≡◌, ℕ, ◌+◌, zero, suc, cond, List, [], ◌∷◌, ◌++◌, length, refl, ap, ◌∙◌, ◌<◌, ◌≤◌, take, arith, ◌-◌, Bool, true, false, Option, Some, None, sym, inl, inr, ◌==◌, append-nil, append_assoc, add-zero, drop, subst}
 pub use Rattle.std.proofs.Math.Seq.{take-append_seam}
-pub use Rattle.std.proofs.lemmas.Bool.{lt-ltb, le-ltb, or_cases, and_parts, false≢true, cases_Bool, not-false, ltb-false}
-pub use Rattle.std.proofs.lemmas.Bool.Decides.{eqb_tells}
+pub use Rattle.std.proofs.lemmas.Bool.{lt-ltb, le-ltb, or_cases, and_parts, false≢true, cases_Bool, cases_lt, not-false, ltb-false}
+pub use Rattle.std.proofs.lemmas.Bool.Decides.{nat_tests}
 pub use Rattle.std.proofs.lemmas.List.{length-append, length-take-le}
 pub use Rattle.std.proofs.lemmas.List.Folds.{list_any-append}
 pub use Rattle.std.proofs.lemmas.List.Sums.{fold-append}
-pub use Rattle.std.proofs.lemmas.Option.{slice_get_within}
 pub use Rattle.taf_codes.specs.Words.{first_of, is_text}
 pub use Rattle.taf_codes.specs.declared.code.Railway.{Railway}
 pub use Rattle.trip_plan.specs.declared.parts.Leg.{Leg}

@@ -1,5 +1,5 @@
 -- The legs of a journey are those that the newest events set.
-use Rattle.journey.proofs.Common.{◌≡◌, ℕ, ◌+◌, ◌-◌, ◌<◌, ◌≤◌, zero, suc, Bool, true, false, cond, List, [], ◌∷◌, ◌++◌, length, take, Option, Some, None, refl, ap, ◌∙◌, sym, inl, inr, ◌⊎◌, arith, ◌==◌, append-nil, append_assoc, fold, slice_get, option_map, unwrap_or, nat_lt, if◌then◌else◌, option_or, lt-ltb, le-ltb, eqb_tells, length-append, length-take-le, slice_get_within, first_of, Leg, Event, EventBody, Planned, Moved, EstimateAsked, LegTimed, Offered, Answered, Withdrawn, Rerouted, newest, leg_index, is_reception, legs, legs_after, index_after, with_leg_minutes, journey_state, checks, IsSound, EventOnLeg, with_minutes, events_on_legs_from, events_on_legs, route_leg, leg_set, minutes_set, count_set, count_by_newest, leg_by_newest, IsPlanOfLegs, AllAdmitted, IsJourney, OnLegsByCount, LegsAreTheNewest, AsManyLegs, RerouteUndoesTimes}
+use Rattle.journey.proofs.Common.{◌≡◌, ℕ, ◌+◌, ◌-◌, ◌<◌, ◌≤◌, zero, suc, Bool, true, false, cond, List, [], ◌∷◌, ◌++◌, length, take, Option, Some, None, refl, ap, ◌∙◌, sym, inl, inr, arith, ◌==◌, append-nil, append_assoc, fold, slice_get, option_map, unwrap_or, nat_lt, if◌then◌else◌, option_or, lt-ltb, le-ltb, cases_lt, nat_tests, length-append, length-take-le, first_of, Leg, Event, EventBody, Planned, LegTimed, Rerouted, newest, leg_index, is_reception, legs, legs_after, index_after, with_leg_minutes, journey_state, checks, IsSound, EventOnLeg, with_minutes, events_on_legs_from, events_on_legs, route_leg, leg_set, minutes_set, count_set, count_by_newest, leg_by_newest, IsPlanOfLegs, AllAdmitted, IsJourney, OnLegsByCount, LegsAreTheNewest, AsManyLegs, RerouteUndoesTimes}
 use Rattle.journey.proofs.NewestLemmas.{newest-push}
 use Rattle.journey.proofs.LegPositionLemmas.{legs-push, timed_length}
 use Rattle.journey.proofs.SoundStateLemmas.{journey_state-push, sound-after}
@@ -36,35 +36,12 @@ leg_by_newest-push events c body i =
     let set = newest-push (λ (e : EventOnLeg). leg_set e.on e.says i) events last in
     λ j. leg_from (unwrap_or (counts j) 0) (times j) (set j) i
 
-below : (i n : ℕ) → i < n → nat_lt i n ≡ true
-below i n h = lt-ltb i n h
-
-not_below : (i n : ℕ) → n ≤ i → nat_lt i n ≡ false
-not_below i n h = le-ltb i n h
-
-split : (i c : ℕ) → (i ≤ c) ⊎ (c < i)
-split zero c = inl (omega arith)
-split (suc i) zero = inr (omega arith)
-split (suc i) (suc c) = elim (split i c) [
-  | inl h ↦ inl (omega arith)
-  | inr h ↦ inr (omega arith)
-]
-
--- a leg that is set now
-leg_set_now : (n i : ℕ) (o : Option Leg) (minutes : Option ℕ) (put : Option Leg) → (o ≡ None → n ≤ i) → ((l : Leg) → o ≡ Some l → i < n) →
-    o ≡ leg_from n (option_or (option_map (λ l. l.minutes) o) minutes) (option_or o put) i
-leg_set_now n i None minutes put past within = rw (not_below i n (past refl)) refl
-leg_set_now n i (Some l) minutes put past within = rw (below i n (within l refl)) refl
-
--- a leg that is not there is none of the list
-past_end : (ls : List Leg) (i : ℕ) → slice_get ls i ≡ None → length ls ≤ i
-past_end [] i h = omega arith
-past_end (l ∷ ls) zero h = cc
-past_end (l ∷ ls) (suc i) h = let rest = past_end ls i h in omega arith
-
-planned_leg : (ls : List Leg) (i : ℕ) (minutes : Option ℕ) (put : Option Leg) →
-    slice_get ls i ≡ leg_from (length ls) (option_or (option_map (λ l. l.minutes) (slice_get ls i)) minutes) (option_or (slice_get ls i) put) i
-planned_leg ls i minutes put = leg_set_now (length ls) i (slice_get ls i) minutes put (past_end ls i) (λ l h. slice_get_within ls i l h)
+-- leg k of those that are set now, which is leg i of n
+leg_set_now : (ls : List Leg) (k n i : ℕ) (minutes : Option ℕ) (put : Option Leg) → i + length ls ≡ n + k →
+    slice_get ls k ≡ leg_from n (option_or (option_map (λ l. l.minutes) (slice_get ls k)) minutes) (option_or (slice_get ls k) put) i
+leg_set_now [] k n i minutes put e = rw (le-ltb i n (omega arith)) refl
+leg_set_now (l ∷ ls) zero n i minutes put e = rw (lt-ltb i n (omega arith)) refl
+leg_set_now (l ∷ ls) (suc k) n i minutes put e = leg_set_now ls k n i minutes put (omega arith)
 
 -- a leg behind the first n
 routed_behind : (n : ℕ) (ls route : List Leg) (i k : ℕ) → n ≤ length ls → i ≡ n + k → slice_get (take n ls ++ route) i ≡ slice_get route k
@@ -80,42 +57,24 @@ routed_before (suc n) [] route i h e = absurd (omega arith)
 routed_before (suc n) (l ∷ ls) route zero h e = refl
 routed_before (suc n) (l ∷ ls) route (suc i) h e = routed_before n ls route i (omega arith) (omega arith)
 
--- the same leg, however many there are
-same_leg : (n m i : ℕ) (minutes : Option ℕ) (put : Option Leg) → i < n → i < m → leg_from n minutes put i ≡ leg_from m minutes put i
-same_leg n m i minutes put h k = rw (below i n h, below i m k) refl
-
 routed_leg : (ls route : List Leg) (c i n : ℕ) (minutes : Option ℕ) (put : Option Leg) → c < length ls → length ls ≡ n →
     slice_get ls i ≡ leg_from n minutes put i →
     slice_get (take (c + 1) ls ++ route) i ≡
     leg_from (c + 1 + length route) (option_or (option_map (λ l. l.minutes) (route_leg c route i)) minutes) (option_or (route_leg c route i) put) i
-routed_leg ls route c i n minutes put on size h = elim (split i c) [
-  | inl k ↦ rw (not_below c i k) (routed_before (c + 1) ls route i (omega arith) (omega arith) ∙ h ∙ same_leg n (c + 1 + length route) i minutes put (omega arith) (omega arith))
-  | inr k ↦ rw (below c i k) (routed_behind (c + 1) ls route i (i - (c + 1)) (omega arith) (omega arith) ∙
-      leg_set_now (c + 1 + length route) i (slice_get route (i - (c + 1))) minutes put
-      (λ none. let past = past_end route (i - (c + 1)) none in omega arith)
-      (λ l some. let within = slice_get_within route (i - (c + 1)) l some in omega arith))
+routed_leg ls route c i n minutes put on size h = elim (cases_lt c i) [
+  | inr k ↦ rw (le-ltb c i k, lt-ltb i (c + 1 + length route) (omega arith)) (routed_before (c + 1) ls route i (omega arith) (omega arith) ∙ (rw (lt-ltb i n (omega arith)) at h))
+  | inl k ↦ rw (lt-ltb c i k) (routed_behind (c + 1) ls route i (i - (c + 1)) (omega arith) (omega arith) ∙
+      leg_set_now route (i - (c + 1)) (c + 1 + length route) i minutes put (omega arith))
 ]
 
--- the leg that takes other minutes
-timed_same : (ls : List Leg) (t minutes : ℕ) → slice_get (with_leg_minutes ls t minutes) t ≡ option_map (with_minutes minutes) (slice_get ls t)
-timed_same [] t minutes = refl
-timed_same (l ∷ ls) zero minutes = refl
-timed_same (l ∷ ls) (suc t) minutes = timed_same ls t minutes
-
--- any other leg
-timed_other : (ls : List Leg) (t minutes i : ℕ) → (i ≡ t → ⊥) → slice_get (with_leg_minutes ls t minutes) i ≡ slice_get ls i
-timed_other [] t minutes i h = refl
-timed_other (l ∷ ls) zero minutes zero h = absurd (h refl)
-timed_other (l ∷ ls) zero minutes (suc i) h = refl
-timed_other (l ∷ ls) (suc t) minutes zero h = refl
-timed_other (l ∷ ls) (suc t) minutes (suc i) h = timed_other ls t minutes i (λ e. h (ap suc e))
-
+-- the legs, of which one takes other minutes
 slice_get-with_leg_minutes : (ls : List Leg) (t minutes i : ℕ) →
     slice_get (with_leg_minutes ls t minutes) i ≡ (if i == t then option_map (with_minutes minutes) (slice_get ls i) else slice_get ls i)
-slice_get-with_leg_minutes ls t minutes i = elim (eqb_tells i t) [
-  | inl h ↦ rw (h.0, h.1) (timed_same ls t minutes)
-  | inr h ↦ rw h.0 (timed_other ls t minutes i h.1)
-]
+slice_get-with_leg_minutes [] t minutes i = grind (arith, nat_tests)
+slice_get-with_leg_minutes (l ∷ ls) zero minutes zero = refl
+slice_get-with_leg_minutes (l ∷ ls) zero minutes (suc i) = grind (arith, nat_tests)
+slice_get-with_leg_minutes (l ∷ ls) (suc t) minutes zero = grind (arith, nat_tests)
+slice_get-with_leg_minutes (l ∷ ls) (suc t) minutes (suc i) = grind (arith, nat_tests, slice_get-with_leg_minutes ls t minutes i)
 
 timed_leg : (here there : Bool) (m : ℕ) (minutes : Option ℕ) (put : Option Leg) →
     (if here then option_map (with_minutes m) (if there then option_map (λ (l : Leg). with_minutes (unwrap_or minutes l.minutes) l) put else None)
@@ -128,16 +87,12 @@ timed_leg false there m minutes put = refl
 
 next_leg : (ls : List Leg) (c : ℕ) (body : EventBody) (i : ℕ) (count minutes : Option ℕ) (put : Option Leg) → c < length ls → length ls ≡ unwrap_or count 0 →
     slice_get ls i ≡ leg_from (unwrap_or count 0) minutes put i → slice_get (legs_after c ls body) i ≡ leg_next c body i count minutes put
-next_leg ls c (Planned plan) i count minutes put on size h = planned_leg plan.legs i minutes put
+next_leg ls c (Planned plan) i count minutes put on size h = leg_set_now plan.legs i (length plan.legs) i minutes put (omega arith)
 next_leg ls c (Rerouted route) i count minutes put on size h = routed_leg ls route c i (unwrap_or count 0) minutes put on size h
 next_leg ls c (LegTimed t m) i count minutes put on size h =
     slice_get-with_leg_minutes ls t m i ∙ ap (λ o. if i == t then option_map (with_minutes m) o else o) h ∙
     timed_leg (i == t) (nat_lt i (unwrap_or count 0)) m minutes put
-next_leg ls c (Moved what) i count minutes put on size h = h
-next_leg ls c EstimateAsked i count minutes put on size h = h
-next_leg ls c (Offered place to) i count minutes put on size h = h
-next_leg ls c (Answered place received) i count minutes put on size h = h
-next_leg ls c (Withdrawn place) i count minutes put on size h = h
+next_leg ls c _ i count minutes put on size h = h
 
 next_count : (ls : List Leg) (c : ℕ) (body : EventBody) (count : Option ℕ) → c < length ls → length ls ≡ unwrap_or count 0 →
     length (legs_after c ls body) ≡ unwrap_or (option_or (count_set c body) count) 0
@@ -145,11 +100,7 @@ next_count ls c (Planned plan) count on size = refl
 next_count ls c (Rerouted route) count on size =
     length-append (take (c + 1) ls) route ∙ ap (λ n. n + length route) (length-take-le (c + 1) ls (omega arith))
 next_count ls c (LegTimed t m) count on size = timed_length ls t m ∙ size
-next_count ls c (Moved what) count on size = size
-next_count ls c EstimateAsked count on size = size
-next_count ls c (Offered place to) count on size = size
-next_count ls c (Answered place received) count on size = size
-next_count ls c (Withdrawn place) count on size = size
+next_count ls c _ count on size = size
 
 agree-push : (events : List EventOnLeg) (ls : List Leg) (c : ℕ) (body : EventBody) → Agree events ls → c < length ls → Agree (events ++ record { on = c; says = body } ∷ []) (legs_after c ls body)
 agree-push events ls c body a on = record {
@@ -181,7 +132,7 @@ lawful_plan e h = by e.by e.no e.at e.body h
     by : (sender : _) (number : _) (at : _) (body : EventBody) → IsPlanOfLegs body → IsLawful (record { by = sender; no = number; at = at; body = body } ∷ [])
     by sender number at (Planned plan) h = record {
       sound = record { staged = refl; on_a_leg = h.0; few_legs = h.1; next_leg = λ o. cc };
-      agree = record { as_many = refl; each = λ i. planned_leg plan.legs i None None ∙ sym (leg_by_newest-push [] 0 (Planned plan) i) };
+      agree = record { as_many = refl; each = λ i. leg_set_now plan.legs i (length plan.legs) i None None (omega arith) ∙ sym (leg_by_newest-push [] 0 (Planned plan) i) };
     }
     by sender number at _ h = absurd h
 

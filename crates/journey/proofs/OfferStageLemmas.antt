@@ -1,5 +1,5 @@
 -- How the offer that a wagon is in, and its stage, go along.
-use Rattle.journey.proofs.Common.{◌≡◌, ℕ, Bool, true, false, List, [], ◌∷◌, ◌++◌, Option, Some, None, refl, ap, ◌∙◌, ◌||◌, option_or, option_flatten, list_any-append, Railway, WrongStage, MovementKind, Release, Departure, YardArrival, YardDeparture, Exception, Estimate, Arrival, Delivery, Stage, Event, EventBody, Planned, Moved, EstimateAsked, LegTimed, Offered, Answered, Withdrawn, Rerouted, newest, stage, stage_after, moved_to, is_delivery, is_delivered, refusal}
+use Rattle.journey.proofs.Common.{◌≡◌, ℕ, Bool, true, false, List, [], ◌∷◌, ◌++◌, Option, Some, None, refl, ap, ◌∙◌, ◌||◌, option_or, option_flatten, list_any-append, Railway, WrongStage, Exception, Estimate, Delivery, Stage, Event, EventBody, Planned, Moved, EstimateAsked, LegTimed, Offered, Answered, Withdrawn, Rerouted, newest, stage, stage_after, is_delivery, is_delivered, refusal}
 use Rattle.taf_messages.specs.declared.record.Stage.TheVariants as stage_is
 use Rattle.journey.proofs.NewestLemmas.{newest-push}
 use Rattle.journey.proofs.LegPositionLemmas.{stage-push}
@@ -32,13 +32,7 @@ agree_stage None = refl
 
 agree_one : (by : Railway) (number : ℕ) (body : EventBody) → Agree (offering by number body) (stage_after body)
 agree_one by number (Offered place to) = refl
-agree_one by number (Planned plan) = tt
-agree_one by number (Moved what) = agree_stage (moved_to what)
-agree_one by number (Answered place received) = tt
-agree_one by number (Withdrawn place) = tt
-agree_one by number EstimateAsked = refl
-agree_one by number (LegTimed leg minutes) = refl
-agree_one by number (Rerouted route) = refl
+agree_one by number body = agree_stage (stage_after body)
 
 agree_or : (o p : Option (Option (Railway × ℕ))) (s t : Option Stage) → Agree o s → Agree p t → Agree (option_or o p) (option_or s t)
 agree_or None p s t a b = rw a b
@@ -51,8 +45,7 @@ agree_all (e ∷ events) = agree_or (newest offering_by events) (offering_by e) 
 
 stage_by_agree : (o : Option (Option (Railway × ℕ))) (s : Option Stage) (x : Railway × ℕ) → Agree o s → option_flatten o ≡ Some x → s ≡ Some stage_is.Offered
 stage_by_agree (Some (Some y)) s x a h = a
-stage_by_agree (Some None) s x a h = cc
-stage_by_agree None s x a h = cc
+stage_by_agree _ s x a h = cc
 
 -- a wagon that is in an offer is in the stage offered
 pub stage_in_offer : (events : List Event) (x : Railway × ℕ) → in_offer events ≡ Some x → stage events ≡ Some stage_is.Offered
@@ -67,27 +60,13 @@ settles (Answered place received) = true
 settles (Withdrawn place) = true
 settles _ = false
 
--- a movement that leads to a stage doesn't come to an offered wagon
-moved_refused : (events : List Event) (by : Railway) (what : MovementKind) → stage events ≡ Some stage_is.Offered → refusal events by (Moved what) ≡ None → moved_to what ≡ None
-moved_refused events by Release h r = let z : Some WrongStage ≡ None = rw h at r in cc
-moved_refused events by Departure h r = let z : Some WrongStage ≡ None = rw h at r in cc
-moved_refused events by (YardArrival place) h r = let z : Some WrongStage ≡ None = rw h at r in cc
-moved_refused events by (YardDeparture place) h r = let z : Some WrongStage ≡ None = rw h at r in cc
-moved_refused events by (Exception delay) h r = refl
-moved_refused events by Estimate h r = refl
-moved_refused events by Arrival h r = let z : Some WrongStage ≡ None = rw h at r in cc
-moved_refused events by Delivery h r = let z : Some WrongStage ≡ None = rw h at r in cc
-
 in_offer_kept : (events : List Event) (x : Railway × ℕ) (by : Railway) (number : ℕ) (body : EventBody) → refusal events by body ≡ None → settles body ≡ false → in_offer events ≡ Some x →
     option_flatten (option_or (offering by number body) (newest offering_by events)) ≡ Some x
-in_offer_kept events x by number (Planned plan) r k h = cc
-in_offer_kept events x by number (Moved what) r k h = rw (moved_refused events by what (stage_in_offer events x h) r) h
 in_offer_kept events x by number (Offered place to) r k h = let z : Some WrongStage ≡ None = rw (stage_in_offer events x h) at r in cc
-in_offer_kept events x by number (Answered place received) r k h = cc
-in_offer_kept events x by number (Withdrawn place) r k h = cc
-in_offer_kept events x by number EstimateAsked r k h = h
-in_offer_kept events x by number (LegTimed leg minutes) r k h = h
-in_offer_kept events x by number (Rerouted route) r k h = h
+in_offer_kept events x by number (Moved (Exception delay)) r k h = h
+in_offer_kept events x by number (Moved Estimate) r k h = h
+in_offer_kept events x by number (Moved what) r k h = let z : Some WrongStage ≡ None = rw (stage_in_offer events x h) at r in cc
+in_offer_kept events x by number _ r k h = cc
 
 -- an event that may come next, and settles no offer, leaves the wagon in its offer
 pub in_offer-kept : (events : List Event) (x : Railway × ℕ) (e : Event) → refusal events e.by e.body ≡ None → settles e.body ≡ false → in_offer events ≡ Some x → in_offer (events ++ e ∷ []) ≡ Some x
@@ -101,27 +80,16 @@ or_false_true : (b : Bool) → (b || (false || false)) ≡ true → b ≡ true
 or_false_true true h = refl
 or_false_true false h = h
 
-moved_delivered : (events : List Event) (by : Railway) (what : MovementKind) → refusal events by (Moved what) ≡ None → StaysDelivered events →
-    (is_delivered events || (is_delivery (Moved what) || false)) ≡ true → option_or (moved_to what) (stage events) ≡ Some stage_is.Delivered
-moved_delivered events by Release r h d = let z : Some WrongStage ≡ None = rw (h (or_false_true _ d)) at r in cc
-moved_delivered events by Departure r h d = let z : Some WrongStage ≡ None = rw (h (or_false_true _ d)) at r in cc
-moved_delivered events by (YardArrival place) r h d = let z : Some WrongStage ≡ None = rw (h (or_false_true _ d)) at r in cc
-moved_delivered events by (YardDeparture place) r h d = let z : Some WrongStage ≡ None = rw (h (or_false_true _ d)) at r in cc
-moved_delivered events by (Exception delay) r h d = h (or_false_true _ d)
-moved_delivered events by Estimate r h d = h (or_false_true _ d)
-moved_delivered events by Arrival r h d = let z : Some WrongStage ≡ None = rw (h (or_false_true _ d)) at r in cc
-moved_delivered events by Delivery r h d = refl
-
 delivered_kept : (events : List Event) (by : Railway) (body : EventBody) → refusal events by body ≡ None → StaysDelivered events →
     (is_delivered events || (is_delivery body || false)) ≡ true → option_or (stage_after body) (stage events) ≡ Some stage_is.Delivered
 delivered_kept events by (Planned plan) r h d = cc
-delivered_kept events by (Moved what) r h d = moved_delivered events by what r h d
-delivered_kept events by (Offered place to) r h d = let z : Some WrongStage ≡ None = rw (h (or_false_true _ d)) at r in cc
-delivered_kept events by (Answered place received) r h d = let z : Some WrongStage ≡ None = rw (h (or_false_true _ d)) at r in cc
-delivered_kept events by (Withdrawn place) r h d = let z : Some WrongStage ≡ None = rw (h (or_false_true _ d)) at r in cc
+delivered_kept events by (Moved Delivery) r h d = refl
+delivered_kept events by (Moved (Exception delay)) r h d = h (or_false_true _ d)
+delivered_kept events by (Moved Estimate) r h d = h (or_false_true _ d)
 delivered_kept events by EstimateAsked r h d = h (or_false_true _ d)
 delivered_kept events by (LegTimed leg minutes) r h d = h (or_false_true _ d)
 delivered_kept events by (Rerouted route) r h d = h (or_false_true _ d)
+delivered_kept events by _ r h d = let z : Some WrongStage ≡ None = rw (h (or_false_true _ d)) at r in cc
 
 pub delivered-kept : (events : List Event) (e : Event) → refusal events e.by e.body ≡ None → StaysDelivered events → StaysDelivered (events ++ e ∷ [])
 delivered-kept events e r h d =

@@ -1,5 +1,5 @@
 -- One more event: the state that it leads to, and what stays true of it.
-use Rattle.journey.proofs.Common.{◌≡◌, ℕ, ◌+◌, ◌<◌, ◌≤◌, Bool, true, false, cond, zero, suc, List, [], ◌∷◌, ◌++◌, length, take, Option, Some, None, refl, ap, ◌∙◌, sym, inl, inr, arith, add-zero, ◌||◌, fold, slice_get, option_map, is_some, option_or, option_eq, list_any, cases_Bool, not-false, ltb-false, length-append, length-take-le, list_any-append, Railway, first_of, is_text, Leg, MovementKind, Release, Departure, YardArrival, YardDeparture, Exception, Estimate, Arrival, Delivery, Stage, Event, EventBody, Planned, Moved, EstimateAsked, LegTimed, Offered, Answered, Withdrawn, Rerouted, JourneyState, stage_after, is_reception, is_departure, is_delivery, new_responsible, is_plan, plan, plan_in, has_later_plan, HasRoom, HaveRoom, legs_after, index_after, lead_of, lead_in, yard_in, journey_state, journey_state_after, checks, route_checks, same_stage, IsSound, IsTrackState, first_plan}
+use Rattle.journey.proofs.Common.{◌≡◌, ℕ, ◌+◌, ◌<◌, ◌≤◌, Bool, true, false, cond, zero, suc, List, [], ◌∷◌, ◌++◌, length, take, Option, Some, None, refl, ap, ◌∙◌, sym, inl, inr, arith, add-zero, ◌||◌, fold, slice_get, option_map, is_some, option_or, option_eq, list_any, cases_Bool, not-false, ltb-false, length-append, length-take-le, list_any-append, Railway, first_of, is_text, Leg, Exception, Estimate, Stage, Event, EventBody, Planned, Moved, EstimateAsked, LegTimed, Offered, Answered, Rerouted, JourneyState, stage_after, is_reception, is_departure, is_delivery, new_responsible, is_plan, plan, plan_in, has_later_plan, HasRoom, HaveRoom, legs_after, index_after, lead_of, lead_in, yard_in, journey_state, journey_state_after, checks, route_checks, same_stage, IsSound, IsTrackState, first_plan}
 use Rattle.taf_messages.specs.declared.record.Stage.TheVariants as stage_is
 use Rattle.journey.proofs.NewestLemmas.{newest-push}
 use Rattle.journey.proofs.LegPositionLemmas.{stage-push, plan-push, leg_index-push, legs-push, timed_length}
@@ -51,13 +51,7 @@ passed (c ∷ checks) h = elim (cases_Bool c.0) [
 -- new legs that pass the checks are not too many
 pub has_room : (s : JourneyState) (by : Railway) (body : EventBody) → first_of (checks s by body) ≡ None → HasRoom s.leg_index body
 has_room s by (Rerouted route) r = let p = passed (route_checks s by route) r in ltb-false 8 (s.leg_index + 1 + length route) p.1.1.1.1.0
-has_room s by (Planned plan) r = tt
-has_room s by (Moved what) r = tt
-has_room s by EstimateAsked r = tt
-has_room s by (LegTimed leg minutes) r = tt
-has_room s by (Offered place to) r = tt
-has_room s by (Answered place received) r = tt
-has_room s by (Withdrawn place) r = tt
+has_room s by _ r = tt
 
 -- a leg that a railway runs is there
 leg_is_there : (ls : List Leg) (i : ℕ) (by : Railway) → is_text (option_map (λ l. l.ru) (slice_get ls i)) by ≡ true → i < length ls
@@ -68,13 +62,7 @@ leg_is_there (l ∷ ls) (suc i) by h = let k = leg_is_there ls i by h in omega a
 -- the wagon is offered
 stage_offered : (o : Option Stage) → (option_eq same_stage o (Some stage_is.Offered) || false) ≡ true → o ≡ Some stage_is.Offered
 stage_offered (Some stage_is.Offered) h = refl
-stage_offered (Some stage_is.Planned) h = cc
-stage_offered (Some stage_is.Released) h = cc
-stage_offered (Some stage_is.Running) h = cc
-stage_offered (Some stage_is.InYard) h = cc
-stage_offered (Some stage_is.Arrived) h = cc
-stage_offered (Some stage_is.Delivered) h = cc
-stage_offered None h = cc
+stage_offered _ h = cc
 
 -- an event that leaves the leg index and the number of legs
 kept : (s : JourneyState) (e : Event) → IsSound s → is_reception e.body ≡ false → length (legs_after s.leg_index s.legs e.body) ≡ length s.legs →
@@ -90,16 +78,6 @@ kept s e k r l n =
 
 abbrev an : Railway → ℕ → Option ℕ → EventBody → Event
 an by number at body = record { by = by; no = number; at = at; body = body }
-
-moved : (s : JourneyState) (by : Railway) (number : ℕ) (at : Option ℕ) (what : MovementKind) → IsSound s → IsSound (journey_state_after s (an by number at (Moved what)))
-moved s by number at Release k = kept s (an by number at (Moved Release)) k refl refl (λ h. cc)
-moved s by number at Departure k = kept s (an by number at (Moved Departure)) k refl refl (λ h. cc)
-moved s by number at (YardArrival place) k = kept s (an by number at (Moved (YardArrival place))) k refl refl (λ h. cc)
-moved s by number at (YardDeparture place) k = kept s (an by number at (Moved (YardDeparture place))) k refl refl (λ h. cc)
-moved s by number at (Exception delay) k = kept s (an by number at (Moved (Exception delay))) k refl refl k.next_leg
-moved s by number at Estimate k = kept s (an by number at (Moved Estimate)) k refl refl k.next_leg
-moved s by number at Arrival k = kept s (an by number at (Moved Arrival)) k refl refl (λ h. cc)
-moved s by number at Delivery k = kept s (an by number at (Moved Delivery)) k refl refl (λ h. cc)
 
 answered : (s : JourneyState) (by : Railway) (number : ℕ) (at : Option ℕ) (place : List ℕ) (received : Bool) → IsSound s → s.stage ≡ Some stage_is.Offered → IsSound (journey_state_after s (an by number at (Answered place received)))
 answered s by number at place true k o = record {
@@ -132,7 +110,8 @@ rerouted s by number at route k r =
 
 sound_said : (s : JourneyState) (by : Railway) (number : ℕ) (at : Option ℕ) (body : EventBody) → IsSound s → first_of (checks s by body) ≡ None → IsSound (journey_state_after s (an by number at body))
 sound_said s by number at (Planned plan) k r = cc
-sound_said s by number at (Moved what) k r = moved s by number at what k
+sound_said s by number at (Moved (Exception delay)) k r = kept s (an by number at (Moved (Exception delay))) k refl refl k.next_leg
+sound_said s by number at (Moved Estimate) k r = kept s (an by number at (Moved Estimate)) k refl refl k.next_leg
 sound_said s by number at EstimateAsked k r = kept s (an by number at EstimateAsked) k refl refl k.next_leg
 sound_said s by number at (LegTimed leg minutes) k r = kept s (an by number at (LegTimed leg minutes)) k refl (timed_length s.legs leg minutes) k.next_leg
 sound_said s by number at (Offered place to) k r =
@@ -141,33 +120,17 @@ sound_said s by number at (Offered place to) k r =
 sound_said s by number at (Answered place received) k r =
     let p = passed (checks s by (Answered place received)) r in
     answered s by number at place received k (stage_offered s.stage (not-false _ p.0))
-sound_said s by number at (Withdrawn place) k r = kept s (an by number at (Withdrawn place)) k refl refl (λ h. cc)
 sound_said s by number at (Rerouted route) k r = rerouted s by number at route k r
+sound_said s by number at body k r = kept s (an by number at body) k refl refl (λ h. cc)
 
 -- an event that may come next leaves the state sound
 pub sound-after : (s : JourneyState) (e : Event) → IsSound s → first_of (checks s e.by e.body) ≡ None → IsSound (journey_state_after s e)
 sound-after s e k r = sound_said s e.by e.no e.at e.body k r
 
 -- no plan comes after the first event
-no_plan : (s : JourneyState) (by : Railway) (body : EventBody) → first_of (checks s by body) ≡ None → plan_in body ≡ None
-no_plan s by (Planned plan) r = cc
-no_plan s by (Moved what) r = refl
-no_plan s by EstimateAsked r = refl
-no_plan s by (LegTimed leg minutes) r = refl
-no_plan s by (Offered place to) r = refl
-no_plan s by (Answered place received) r = refl
-no_plan s by (Withdrawn place) r = refl
-no_plan s by (Rerouted route) r = refl
-
-is_plan-in : (body : EventBody) → plan_in body ≡ None → is_plan body ≡ false
-is_plan-in (Planned plan) h = cc
-is_plan-in (Moved what) h = refl
-is_plan-in EstimateAsked h = refl
-is_plan-in (LegTimed leg minutes) h = refl
-is_plan-in (Offered place to) h = refl
-is_plan-in (Answered place received) h = refl
-is_plan-in (Withdrawn place) h = refl
-is_plan-in (Rerouted route) h = refl
+no_plan : (s : JourneyState) (by : Railway) (body : EventBody) → first_of (checks s by body) ≡ None → (plan_in body ≡ None) × (is_plan body ≡ false)
+no_plan s by (Planned plan) r = absurd (some_is_none _ r)
+no_plan s by _ r = (refl, refl)
 
 has_later_plan-push : (events : List Event) (e : Event) → is_some (first_plan events) ≡ true → has_later_plan (events ++ e ∷ []) ≡ (has_later_plan events || is_plan e.body)
 has_later_plan-push [] e h = cc
@@ -179,7 +142,7 @@ first_plan-push (d ∷ events) e h = refl
 
 -- an event that may come next leaves the plan
 pub plan-kept : (events : List Event) (e : Event) → first_of (checks (journey_state events) e.by e.body) ≡ None → plan (events ++ e ∷ []) ≡ plan events
-plan-kept events e r = plan-push events e ∙ ap (λ p. option_or p (plan events)) (no_plan (journey_state events) e.by e.body r)
+plan-kept events e r = plan-push events e ∙ ap (λ p. option_or p (plan events)) ((no_plan (journey_state events) e.by e.body r).0)
 
 have_room_from : (c : ℕ) (events : List Event) (e : Event) → HaveRoom c events → HasRoom (fold (λ a d. a + cond (is_reception d.body) 1 0) c events) e.body → HaveRoom c (events ++ e ∷ [])
 have_room_from c [] e h k = (k, tt)
@@ -190,7 +153,7 @@ pub kept-push : (events : List Event) (s next : JourneyState) (e : Event) → Is
 kept-push events s next e k r is =
     let first = first_plan-push events e k.planned in
     let admitted : first_of (checks s e.by e.body) ≡ None = ap (λ t. first_of (checks t e.by e.body)) k.state_is ∙ r in
-    let no_plan_here = is_plan-in e.body (no_plan (journey_state events) e.by e.body r) in
+    let no_plan_here = (no_plan (journey_state events) e.by e.body r).1 in
     record {
       planned = ap is_some first ∙ k.planned;
       one_plan = plan-kept events e r ∙ k.one_plan ∙ sym first;

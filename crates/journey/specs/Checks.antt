@@ -45,29 +45,9 @@ is_responsible s by = is_text (responsible_in s) by
 abbrev pub runs_leg : JourneyState → ℕ → Railway → Bool
 runs_leg s i by = is_text (runner_in s i) by
 
--- the wagon has departed, and is on the leg or past it
-abbrev pub is_leg_started : JourneyState → ℕ → Bool
-is_leg_started s i = s.has_departed && nat_le i s.leg_index
-
--- the current leg is the last one
-abbrev pub is_on_last_leg : JourneyState → Bool
-is_on_last_leg s = s.leg_index + 1 == length s.legs
-
--- the wagon has not arrived, and is in no offer
-abbrev pub may_be_rerouted : JourneyState → Bool
-may_be_rerouted s = is_in s (stage_is.Planned ∷ stage_is.Released ∷ stage_is.Running ∷ stage_is.InYard ∷ [])
-
 -- the wagon stands in the yard of this place, where its current leg ends (4.2.8)
 abbrev pub may_be_offered_at : JourneyState → Place → Bool
 may_be_offered_at s place = is_text s.yard place && is_text (target_in s) place
-
--- where a route begins
-abbrev pub first_origin : List Leg → Option Place
-first_origin route = option_map (λ l. l.origin) (slice_get route 0)
-
--- the railway that a route begins with
-abbrev pub first_runner : List Leg → Option Railway
-first_runner route = option_map (λ l. l.ru) (slice_get route 0)
 
 -- what may be wrong where a railway reports this movement, in the order of the checks (4.2.7)
 abbrev pub movement_checks : JourneyState → Railway → MovementKind → List (Bool × Why)
@@ -93,7 +73,7 @@ movement_checks s by Estimate =
 movement_checks s by Arrival =
     (not (is_in s (stage_is.Running ∷ stage_is.InYard ∷ [])), WrongStage) ∷
     (not (is_responsible s by), NotYours) ∷
-    (not (is_on_last_leg s), NotLastLeg) ∷ []
+    (not (s.leg_index + 1 == length s.legs), NotLastLeg) ∷ []
 movement_checks s by Delivery =
     (not (is_in s (stage_is.Arrived ∷ [])), WrongStage) ∷
     (not (is_responsible s by), NotYours) ∷ []
@@ -101,10 +81,10 @@ movement_checks s by Delivery =
 -- the same for new legs after the current one
 abbrev pub route_checks : JourneyState → Railway → List Leg → List (Bool × Why)
 route_checks s by route =
-    (not (may_be_rerouted s), WrongStage) ∷
+    (not (is_in s (stage_is.Planned ∷ stage_is.Released ∷ stage_is.Running ∷ stage_is.InYard ∷ [])), WrongStage) ∷
     (not (is_lead s by), NotYours) ∷
-    (not (same_text (first_origin route) (target_in s)), WrongPlace) ∷
-    (same_text (first_runner route) (runner_in s s.leg_index), WrongNext) ∷
+    (not (same_text (option_map (λ l. l.origin) (slice_get route 0)) (target_in s)), WrongPlace) ∷
+    (same_text (option_map (λ l. l.ru) (slice_get route 0)) (runner_in s s.leg_index), WrongNext) ∷
     (nat_lt 8 (s.leg_index + 1 + length route), TooManyLegs) ∷ []
 
 -- the same for the minutes of leg i
@@ -112,7 +92,7 @@ abbrev pub time_checks : JourneyState → Railway → ℕ → List (Bool × Why)
 time_checks s by i =
     (is_none (slice_get s.legs i), NoSuchLeg) ∷
     (not (runs_leg s i by), NotYours) ∷
-    (is_leg_started s i, LegStarted) ∷ []
+    (s.has_departed && nat_le i s.leg_index, LegStarted) ∷ []
 
 -- the same for any event; no plan comes after the first event
 abbrev pub checks : JourneyState → Railway → EventBody → List (Bool × Why)

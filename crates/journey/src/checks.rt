@@ -21,14 +21,14 @@ impl JourneyState {
             EventBody::Moved(what) => self.movement_refusal(by, *what),
             EventBody::EstimateAsked => first_of(&[
                 (!self.is_on_its_way(), Why::WrongStage),
-                (!self.is_lead(by), Why::NotYours),
+                (self.lead != Some(by), Why::NotYours),
             ]),
             EventBody::LegTimed { leg, minutes: _ } => self.time_refusal(by, leg.get() as usize),
             EventBody::Offered { place, to } => first_of(&[
                 (!self.is_in(&[Stage::InYard]), Why::WrongStage),
-                (!self.is_responsible(by), Why::NotYours),
+                (self.responsible() != Some(by), Why::NotYours),
                 (!self.may_be_offered_at(*place), Why::WrongPlace),
-                (!self.runs_leg(self.leg_index + 1, *to), Why::WrongNext),
+                (self.runner(self.leg_index + 1) != Some(*to), Why::WrongNext),
             ]),
             EventBody::Answered { .. } | EventBody::Withdrawn { .. } => {
                 first_of(&[(!self.is_in(&[Stage::Offered]), Why::WrongStage)])
@@ -44,36 +44,39 @@ impl JourneyState {
         match what {
             MovementKind::Release => first_of(&[
                 (!self.is_in(&[Stage::Planned]), Why::WrongStage),
-                (!self.is_lead(by), Why::NotYours),
+                (self.lead != Some(by), Why::NotYours),
             ]),
             MovementKind::Departure => first_of(&[
                 (!self.is_in(&[Stage::Released]), Why::WrongStage),
-                (!self.runs_leg(0, by), Why::NotYours),
+                (self.runner(0) != Some(by), Why::NotYours),
             ]),
             MovementKind::YardArrival { .. } => first_of(&[
                 (!self.is_in(&[Stage::Running]), Why::WrongStage),
-                (!self.is_responsible(by), Why::NotYours),
+                (self.responsible() != Some(by), Why::NotYours),
             ]),
             MovementKind::YardDeparture { place } => first_of(&[
                 (!self.is_in(&[Stage::InYard]), Why::WrongStage),
-                (!self.is_responsible(by), Why::NotYours),
+                (self.responsible() != Some(by), Why::NotYours),
                 (self.yard != Some(place), Why::WrongPlace),
             ]),
             MovementKind::Exception { .. } | MovementKind::Estimate => first_of(&[
                 (!self.is_on_its_way(), Why::WrongStage),
-                (!self.is_responsible(by), Why::NotYours),
+                (self.responsible() != Some(by), Why::NotYours),
             ]),
             MovementKind::Arrival => first_of(&[
                 (
                     !self.is_in(&[Stage::Running, Stage::InYard]),
                     Why::WrongStage,
                 ),
-                (!self.is_responsible(by), Why::NotYours),
-                (!self.is_on_last_leg(), Why::NotLastLeg),
+                (self.responsible() != Some(by), Why::NotYours),
+                (
+                    self.leg_index + 1 != self.legs.as_slice().len(),
+                    Why::NotLastLeg,
+                ),
             ]),
             MovementKind::Delivery => first_of(&[
                 (!self.is_in(&[Stage::Arrived]), Why::WrongStage),
-                (!self.is_responsible(by), Why::NotYours),
+                (self.responsible() != Some(by), Why::NotYours),
             ]),
         }
     }
@@ -83,7 +86,7 @@ impl JourneyState {
     {
         first_of(&[
             (self.legs.leg(leg).is_none(), Why::NoSuchLeg),
-            (!self.runs_leg(leg, by), Why::NotYours),
+            (self.runner(leg) != Some(by), Why::NotYours),
             (self.has_departed && leg <= self.leg_index, Why::LegStarted),
         ])
     }
@@ -94,28 +97,25 @@ impl JourneyState {
         ensures { result ≡ words.first_of (of.route_checks self.now by route.now) }
     {
         first_of(&[
-            (!self.may_be_rerouted(), Why::WrongStage),
-            (!self.is_lead(by), Why::NotYours),
             (
-                first_origin(route) != self.current_target(),
+                !self.is_in(&[
+                    Stage::Planned,
+                    Stage::Released,
+                    Stage::Running,
+                    Stage::InYard,
+                ]),
+                Why::WrongStage,
+            ),
+            (self.lead != Some(by), Why::NotYours),
+            (
+                route.first().map(|leg| leg.origin) != self.current_target(),
                 Why::WrongPlace,
             ),
             (
-                first_runner(route) == self.runner(self.leg_index),
+                route.first().map(|leg| leg.ru) == self.runner(self.leg_index),
                 Why::WrongNext,
             ),
             (self.leg_index + 1 + route.len() > 8, Why::TooManyLegs),
-        ])
-    }
-
-    fn may_be_rerouted(&self) -> bool
-        ensures { result ≡ of.may_be_rerouted self.now }
-    {
-        self.is_in(&[
-            Stage::Planned,
-            Stage::Released,
-            Stage::Running,
-            Stage::InYard,
         ])
     }
 
@@ -130,43 +130,6 @@ impl JourneyState {
     {
         stages.iter().any(|stage| self.stage == Some(*stage))
     }
-
-    fn is_lead(&self, by: Railway) -> bool
-        ensures { result ≡ of.is_lead self.now by }
-    {
-        self.lead == Some(by)
-    }
-
-    fn is_responsible(&self, by: Railway) -> bool
-        ensures { result ≡ of.is_responsible self.now by }
-    {
-        self.responsible() == Some(by)
-    }
-
-    fn runs_leg(&self, leg: usize, by: Railway) -> bool
-        ensures { result ≡ of.runs_leg self.now leg by }
-    {
-        self.runner(leg) == Some(by)
-    }
-
-    fn is_on_last_leg(&self) -> bool
-        requires { self.now.leg_index < 8 }
-        ensures { result ≡ of.is_on_last_leg self.now }
-    {
-        self.leg_index + 1 == self.legs.as_slice().len()
-    }
-}
-
-fn first_origin(route: &[Leg]) -> Option<Place>
-    ensures { result ≡ of.first_origin route.now }
-{
-    Some(route.first()?.origin)
-}
-
-fn first_runner(route: &[Leg]) -> Option<Railway>
-    ensures { result ≡ of.first_runner route.now }
-{
-    Some(route.first()?.ru)
 }
 
 // What the first check that applies says.

@@ -1,4 +1,4 @@
-use Rattle.journey.proofs.Common.{◌≡◌, List, [], ◌∷◌, ◌++◌, ap, ◌∙◌, subst, Event, Journey, JourneyState, refusal, journey_state_after, IsTrackState}
+use Rattle.journey.proofs.Common.{[], ◌∷◌, ◌++◌, ap, ◌∙◌, subst, Journey, refusal, journey_state_after, IsTrackState}
 use Rattle.journey.proofs.SoundStateLemmas.{kept-push}
 use Rattle.journey.proofs.track.Track.state_after.Goals as goal
 
