@@ -1,6 +1,5 @@
 -- Estimates within the calendar.
-use Rattle.eti_chain.proofs.Common.{◌≡◌, ℕ, ◌+◌, ◌-◌, ◌≤◌, ◌<◌, Bool, true, false, cond, ltb, leb, zero, suc, List, [], ◌∷◌, ◌++◌, length, get_or, take, drop, Option, Some, None, refl, ap, ◌∙◌, sym, arith, zero-add, ◌&&◌, nat_le, sum_by, slice_range, filter_map, option_map, option_or, list_all, range_with_len, cons_option, and_parts, and_from, leb-true, ltb-true, le-leb, lt-ltb, cond-true, cond_both, sum_by-cons, AllPass-from_list_all, list_all-from_AllPass, get_or-range_with_len, length-range_with_len, last_minute, Leg, EstimateAt, Event, leg_index, is_reception, legs, Anchor, anchor_in, anchor, EstimateBasis, basis_from, estimate_basis, minutes_in, delays_of, end_in, eta_in, fits_in, fits, with_delay_of, IsWithin}
-use Rattle.eti_chain.proofs.EstimateLemmas.{KeepsLegs, IsSilent, basis-push, basis-silent}
+use Rattle.eti_chain.proofs.Common.{◌≡◌, ℕ, ◌+◌, ◌-◌, ◌≤◌, ◌<◌, Bool, true, false, cond, ltb, leb, zero, suc, List, [], ◌∷◌, length, get_or, take, drop, Option, Some, None, refl, ap, ◌∙◌, sym, arith, zero-add, ◌&&◌, nat_le, sum_by, slice_range, filter_map, option_map, list_all, range_with_len, cons_option, and_parts, and_from, leb-true, ltb-true, le-leb, lt-ltb, cond-true, cond_both, sum_by-cons, AllPass-from_list_all, list_all-from_AllPass, get_or-range_with_len, length-range_with_len, last_minute, Leg, EstimateAt, Anchor, EstimateBasis, basis_from, minutes_in, delays_of, end_in, eta_in, fits_in, IsWithin}
 
 -- ---- the end of a leg
 
@@ -107,35 +106,19 @@ small-delays : (c : ℕ) (ls : List Leg) (a : Option Anchor) → c < length ls �
 small-delays c ls None h f = omega arith
 small-delays c ls (Some a) h f = let k = end-fits (basis_from c ls (Some a)) c (end_by c ls a c) f (end_is c ls a c (omega arith) h) in omega arith
 
-pub small-of : (events : List Event) (a : Option Anchor) → a ≡ anchor events → leg_index events < length (legs events) → fits events ≡ true → delays_of a ≤ last_minute
-small-of events a is h f = rw is (small-delays (leg_index events) (legs events) (anchor events) h f)
-
--- the estimates of a journey that fits are kept
-pub is_within_of : (r : EstimateBasis) (events : List Event) → r ≡ estimate_basis events → r.leg_index < length r.legs → fits events ≡ true → IsWithin r
-is_within_of r events e h f =
-    let fit = ap fits_in e ∙ f in
-    record { on_a_leg = h; fit = fit; small = small-delays r.leg_index r.legs r.anchor h fit }
+-- the estimates of a wagon that is on one of its legs
+pub is_within : (r : EstimateBasis) → r.leg_index < length r.legs → fits_in r ≡ true → IsWithin r
+is_within r h f = record { on_a_leg = h; fit = f; small = small-delays r.leg_index r.legs r.anchor h f }
 
 -- ---- one event more
 
 -- an anchor at the end of the current leg
-abbrev at_end : ℕ → Anchor
+abbrev pub at_end : ℕ → Anchor
 at_end m = record { at = m; runs_leg = false; delays = 0 }
 
 -- on the last leg the only estimate is its moment
-fits-last : (c : ℕ) (ls : List Leg) (m : ℕ) → c + 1 ≡ length ls → m ≤ last_minute → fits_in (basis_from c ls (Some (at_end m))) ≡ true
+pub fits-last : (c : ℕ) (ls : List Leg) (m : ℕ) → c + 1 ≡ length ls → m ≤ last_minute → fits_in (basis_from c ls (Some (at_end m))) ≡ true
 fits-last c ls m e h =
     let none_left : length ls - 1 + 1 - (c + 1) ≡ 0 = omega arith in
     let nothing = ap (λ n. sum_by (λ (l : Leg). l.minutes) (take n (drop (c + 1) ls))) none_left in
     fit_by_ends (basis_from c ls (Some (at_end m))) (in_order c ls (at_end m) (omega arith) (omega arith))
-
--- an event that ends the last leg at its moment
-pub fits-end : (events : List Event) (e : Event) (m : ℕ) → KeepsLegs e.body → is_reception e.body ≡ false → anchor_in e.at e.body ≡ Some (at_end m) →
-    leg_index events + 1 ≡ length (legs events) → m ≤ last_minute → fits (events ++ e ∷ []) ≡ true
-fits-end events e m k r is last h =
-    ap fits_in (basis-push events e k r) ∙ ap (λ o. fits_in (basis_from (leg_index events) (legs events) (option_or o (with_delay_of (anchor events) e.body)))) is ∙
-    fits-last (leg_index events) (legs events) m last h
-
--- an event that changes no estimate
-pub fits-silent : (events : List Event) (e : Event) → IsSilent e.body → fits events ≡ true → fits (events ++ e ∷ []) ≡ true
-fits-silent events e s h = ap fits_in (basis-silent events e s) ∙ h

@@ -19,7 +19,7 @@ pub use Rattle.journey.specs.Checks.{refusal, movement_checks}
 pub use Rattle.journey.specs.TrackStates.{IsTrackState}
 pub use Rattle.journey.specs.declared.journey_state.JourneyState.{JourneyState}
 pub use Rattle.journey.specs.JourneyStates.{journey_state}
-pub use Rattle.journey.specs.Legs.{legs, legs_after}
+pub use Rattle.journey.specs.Legs.{legs, legs_after, index_after}
 pub use Rattle.journey.specs.Stages.{leg_index, is_reception, stage, stage_after}
 pub use Rattle.journey.specs.Words.{newest, since}
 pub use Rattle.journey.specs.declared.event.Event.{Event}

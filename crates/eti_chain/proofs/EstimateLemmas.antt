@@ -1,14 +1,7 @@
 -- What one more event does to what estimates are counted from.
-use Rattle.eti_chain.proofs.Common.{◌≡◌, ℕ, ◌+◌, Bool, true, false, cond, List, [], ◌∷◌, ◌++◌, Option, Some, None, refl, ap, ◌∙◌, sym, add-zero, add_assoc, sum_by, is_some, option_map, option_or, false≢true, sum_by_push, Leg, YardArrival, YardDeparture, Event, EventBody, Moved, EstimateAsked, Offered, Withdrawn, newest, since, leg_index, is_reception, legs_after, legs, newest-push, since-push, legs-push, leg_index-push, Anchor, anchor_in, delay_in, delays, delayed_by, anchor, basis_from, estimate_basis, keeps_legs, with_delay_of, anchor_after}
+use Rattle.eti_chain.proofs.Common.{◌≡◌, ℕ, ◌+◌, Bool, true, false, cond, List, [], ◌∷◌, ◌++◌, Option, Some, None, refl, ap, ◌∙◌, sym, add-zero, add_assoc, sum_by, is_some, option_map, option_or, sum_by_push, Leg, Event, EventBody, EstimateAsked, newest, since, leg_index, is_reception, legs_after, legs, newest-push, since-push, legs-push, leg_index-push, index_after, Anchor, anchor_in, delay_in, delays, delayed_by, anchor, basis_from, estimate_basis, keeps_legs, anchor_after}
 
--- an event that says nothing of legs
-abbrev pub KeepsLegs : EventBody → Type 0
-KeepsLegs body = (c : ℕ) (so_far : List Leg) → legs_after c so_far body ≡ so_far
-
-legs-kept : (events : List Event) (e : Event) → KeepsLegs e.body → legs (events ++ e ∷ []) ≡ legs events
-legs-kept events e k = legs-push events e ∙ k (leg_index events) (legs events)
-
--- and one that receives nothing
+-- an event that receives nothing leaves the leg index
 pub leg_index-kept : (events : List Event) (e : Event) → is_reception e.body ≡ false → leg_index (events ++ e ∷ []) ≡ leg_index events
 leg_index-kept events e r = leg_index-push events e ∙ ap (λ b. leg_index events + cond b 1 0) r ∙ add-zero (leg_index events)
 
@@ -22,7 +15,8 @@ delays-push events e =
     ap (sum_by (λ d. delay_in d.body)) (since-push (λ d. is_some (anchor_in d.at d.body)) events e) ∙
     sum_by_since (is_some (anchor_in e.at e.body)) (since (λ d. is_some (anchor_in d.at d.body)) events) e
 
-not_delayed : (a : Option Anchor) → option_map (delayed_by 0) a ≡ a
+-- no delay changes no anchor
+pub not_delayed : (a : Option Anchor) → option_map (delayed_by 0) a ≡ a
 not_delayed None = refl
 not_delayed (Some a) = ap (λ (n : ℕ). Some (record a { delays = n })) (add-zero a.delays)
 
@@ -40,51 +34,10 @@ anchor_push events e =
     later_anchor (anchor_in e.at e.body) (newest (λ d. anchor_in d.at d.body) events) (delays events) (delay_in e.body)
 
 -- an event that says nothing of legs, and receives nothing, changes the anchor alone
-pub basis-push : (events : List Event) (e : Event) → KeepsLegs e.body → is_reception e.body ≡ false →
-    estimate_basis (events ++ e ∷ []) ≡ basis_from (leg_index events) (legs events) (anchor_after (anchor events) e)
-basis-push events e k r = λ i. basis_from (leg_index-kept events e r i) (legs-kept events e k i) (anchor_push events e i)
-
 pub basis-kept : (events : List Event) (e : Event) → keeps_legs e.body ≡ true → estimate_basis (events ++ e ∷ []) ≡ basis_from (leg_index events) (legs events) (anchor_after (anchor events) e)
-basis-kept events e h = basis-push events e (legs_by e.body h) (index_by e.body h)
+basis-kept events e h =
+    (λ i. basis_from (leg_index-push events e i) (legs-push events e i) (anchor_push events e i)) ∙ by e.body h (leg_index events) (legs events) (anchor_after (anchor events) e)
   where
-    legs_by : (body : EventBody) → keeps_legs body ≡ true → KeepsLegs body
-    legs_by (Moved what) h = λ c so_far. refl
-    legs_by EstimateAsked h = λ c so_far. refl
-    legs_by (Offered place to) h = λ c so_far. refl
-    legs_by (Withdrawn place) h = λ c so_far. refl
-    legs_by _ h = absurd (false≢true h)
-
-    index_by : (body : EventBody) → keeps_legs body ≡ true → is_reception body ≡ false
-    index_by (Moved what) h = refl
-    index_by EstimateAsked h = refl
-    index_by (Offered place to) h = refl
-    index_by (Withdrawn place) h = refl
-    index_by _ h = absurd (false≢true h)
-
--- an event that changes no estimate
-pub record IsSilent (body : EventBody) : Type 0 where
-  pub keeps_legs : KeepsLegs body
-  pub no_reception : is_reception body ≡ false
-  pub no_anchor : (at : Option ℕ) → anchor_in at body ≡ None
-  pub no_delay : delay_in body ≡ 0
-
-pub basis-silent : (events : List Event) (e : Event) → IsSilent e.body → estimate_basis (events ++ e ∷ []) ≡ estimate_basis events
-basis-silent events e s =
-    basis-push events e s.keeps_legs s.no_reception ∙
-    ap (basis_from (leg_index events) (legs events))
-    (ap (λ o. option_or o (with_delay_of (anchor events) e.body)) (s.no_anchor e.at) ∙ ap (λ n. option_map (delayed_by n) (anchor events)) s.no_delay ∙ not_delayed (anchor events))
-
-pub silent_yard_arrival : (place : List ℕ) → IsSilent (Moved (YardArrival place))
-silent_yard_arrival place = record { keeps_legs = λ c so_far. refl; no_reception = refl; no_anchor = λ at. refl; no_delay = refl }
-
-pub silent_yard_departure : (place : List ℕ) → IsSilent (Moved (YardDeparture place))
-silent_yard_departure place = record { keeps_legs = λ c so_far. refl; no_reception = refl; no_anchor = λ at. refl; no_delay = refl }
-
-pub silent_offered : (place to : List ℕ) → IsSilent (Offered place to)
-silent_offered place to = record { keeps_legs = λ c so_far. refl; no_reception = refl; no_anchor = λ at. refl; no_delay = refl }
-
-pub silent_withdrawn : (place : List ℕ) → IsSilent (Withdrawn place)
-silent_withdrawn place = record { keeps_legs = λ c so_far. refl; no_reception = refl; no_anchor = λ at. refl; no_delay = refl }
-
-pub silent_asked : IsSilent EstimateAsked
-silent_asked = record { keeps_legs = λ c so_far. refl; no_reception = refl; no_anchor = λ at. refl; no_delay = refl }
+    by : (body : EventBody) → keeps_legs body ≡ true → (c : ℕ) (ls : List Leg) (a : Option Anchor) → basis_from (index_after c body) (legs_after c ls body) a ≡ basis_from c ls a
+    by EstimateAsked h c ls a = cc (add-zero c)
+    by _ h c ls a = cc (add-zero c)

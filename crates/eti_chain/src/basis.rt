@@ -3,9 +3,11 @@ ghost use Rattle.std.specs.Prelude.{◌≡◌, ◌+◌, ◌*◌, ◌<◌, ◌≤
 ghost use Rattle.std.specs.List.{sum_by};
 ghost use Rattle.eti_chain.specs.Estimates as of;
 ghost use Rattle.eti_chain.specs.EstimateStates as states;
+ghost use Rattle.eti_chain.specs.HeldLegs.{legs_in};
 
 use crate::anchor::{Anchor, anchor_after};
-use journey::{Event, Legs, Track};
+use crate::held_legs::HeldLegs;
+use journey::{Event, Track};
 use std::marker::Model;
 use taf_moment::Moment;
 use trip_plan::Leg;
@@ -13,23 +15,24 @@ use trip_plan::Leg;
 // 2199-12-31T23:59Z, in minutes since 1970.
 const LAST_MINUTE: u128 = 120_968_639;
 
-/// The legs of a wagon with the current one, and the newest anchor. It borrows the legs.
+/// The legs of a wagon with the current one, and the newest anchor.
 #[derive(Drop)]
 pub(crate) struct EstimateBasis<'a> {
     pub(crate) leg_index: usize,
-    pub(crate) legs: &'a Legs,
+    pub(crate) legs: HeldLegs<'a>,
     pub(crate) anchor: Option<Anchor>,
 }
 
 impl<'a> Model for EstimateBasis<'a> {
     ghost use Rattle.eti_chain.specs.Estimates.{EstimateBasis, basis_from};
     ghost use Rattle.eti_chain.specs.EstimateStates.{IsSummable};
+    ghost use Rattle.eti_chain.specs.HeldLegs.{legs_in};
 
     ghost Value = { EstimateBasis };
 
-    ghost view = { λ b. basis_from b.leg_index b.legs.now b.anchor };
+    ghost view = { λ b. basis_from b.leg_index (legs_in b.legs) b.anchor };
 
-    ghost invariant = { λ b. IsSummable (basis_from b.leg_index b.legs.now b.anchor) };
+    ghost invariant = { λ b. IsSummable (basis_from b.leg_index (legs_in b.legs) b.anchor) };
 }
 
 impl<'a> EstimateBasis<'a> {
@@ -39,14 +42,22 @@ impl<'a> EstimateBasis<'a> {
         ensures on_a_leg { result.leg_index < length result.legs }
     {
         let state = track.journey_state();
-        EstimateBasis::by(state.leg_index, &state.legs, newest_anchor(track.events()))
+        EstimateBasis::by(
+            state.leg_index,
+            HeldLegs::Lent(&state.legs),
+            newest_anchor(track.events()),
+        )
     }
 
     /// The same by the leg that the wagon is on, its legs and its newest anchor.
-    pub(crate) fn by(leg_index: usize, legs: &'a Legs, anchor: Option<Anchor>) -> EstimateBasis<'a>
-        requires on_a_leg { leg_index < length legs.now }
+    pub(crate) fn by(
+        leg_index: usize,
+        legs: HeldLegs<'a>,
+        anchor: Option<Anchor>,
+    ) -> EstimateBasis<'a>
+        requires on_a_leg { leg_index < length (legs_in legs) }
         requires small { of.delays_of anchor < 2 ^ 127 }
-        ensures { result ≡ of.basis_from leg_index legs.now anchor }
+        ensures { result ≡ of.basis_from leg_index (legs_in legs.entry) anchor }
     {
         EstimateBasis {
             leg_index,
@@ -59,7 +70,7 @@ impl<'a> EstimateBasis<'a> {
     pub(crate) fn end_of(&self, leg: usize) -> Option<u128>
         ensures { result ≡ of.end_in self.now leg }
     {
-        let legs = self.legs.as_slice();
+        let legs = self.legs.legs().as_slice();
         if leg < self.leg_index || leg >= legs.len() {
             return None;
         }
@@ -72,7 +83,7 @@ impl<'a> EstimateBasis<'a> {
         ensures value { result ≡ of.eta_in self.now }
         ensures on_a_leg { self.now.leg_index < length self.now.legs }
     {
-        self.end_of(self.legs.as_slice().len() - 1)
+        self.end_of(self.legs.legs().as_slice().len() - 1)
     }
 
     /// Whether no estimate passes the last minute of the calendar.
@@ -100,7 +111,7 @@ impl<'a> EstimateBasis<'a> {
         requires { states.IsWithin self.now }
         ensures { result ≡ of.eta_in self.now }
     {
-        self.moment(self.legs.as_slice().len() - 1)
+        self.moment(self.legs.legs().as_slice().len() - 1)
     }
 
     // The end of the current leg by the anchor, without delays.
@@ -118,7 +129,7 @@ impl<'a> EstimateBasis<'a> {
         ensures value { result ≡ of.minutes_in self.now }
         ensures small { result < 2 ^ 32 }
     {
-        match self.legs.leg(self.leg_index) {
+        match self.legs.legs().leg(self.leg_index) {
             Some(leg) => u64::from(leg.minutes),
             None => 0,
         }

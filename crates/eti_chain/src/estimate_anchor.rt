@@ -5,6 +5,7 @@ ghost use Rattle.eti_chain.specs.Estimates as of;
 use crate::anchor::{Anchor, anchor_in, delay_in, go_on};
 use crate::basis::EstimateBasis;
 use crate::estimates::Estimates;
+use crate::held_legs::HeldLegs;
 use journey::{Event, Legs, Track};
 use std::marker::Model;
 use taf_codes::Memory;
@@ -79,7 +80,8 @@ impl EstimateAnchor {
         ensures { result ≡ state_with_commitment (of.basis_from leg_index legs.now self.now.newest)
             self.now.commit }
     {
-        Estimates::by(EstimateBasis::by(leg_index, legs, self.newest), self.commit)
+        let basis = EstimateBasis::by(leg_index, HeldLegs::Lent(legs), self.newest);
+        Estimates::by(basis, self.commit)
     }
 
     /// Adds an event to the track that this is kept for, and goes on with it. The event may come next, and no estimate

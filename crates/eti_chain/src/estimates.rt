@@ -1,10 +1,11 @@
 ghost use Rattle.std.specs.Prelude.{◌≡◌, List, [], ◌∷◌, ◌++◌, None, not, true};
+ghost use Rattle.std.specs.Option.{option_and_then};
 ghost use Rattle.journey.specs.declared.event.Event.{Event};
 ghost use Rattle.journey.specs.Checks.{refusal};
 ghost use Rattle.eti_chain.specs.Estimates as of;
 ghost use Rattle.eti_chain.specs.EstimateStates.{keeps_legs};
 
-use crate::anchor::{Anchor, anchor_after};
+use crate::anchor::anchor_after;
 use crate::basis::EstimateBasis;
 use crate::estimates_in_turn::EstimatesInTurn;
 use crate::held_legs::HeldLegs;
@@ -16,47 +17,33 @@ use taf_moment::Moment;
 /// None of its calls takes memory.
 #[derive(Drop)]
 pub struct Estimates<'a> {
-    leg_index: usize,
-    legs: HeldLegs<'a>,
-    anchor: Option<Anchor>,
+    basis: EstimateBasis<'a>,
     // The moment to which the plan committed.
     commit: Moment,
 }
 
 impl<'a> Model for Estimates<'a> {
     ghost use Rattle.std.specs.Prelude.{Some};
-    ghost use Rattle.eti_chain.specs.Estimates.{basis_from};
     ghost use Rattle.eti_chain.specs.EstimateStates.{EstimatesState, IsWithin, state_with_commitment};
-    ghost use Rattle.eti_chain.specs.HeldLegs.{legs_in};
 
     ghost Value = { EstimatesState };
 
-    ghost view = { λ e. state_with_commitment
-        (basis_from e.leg_index (legs_in e.legs) e.anchor) (Some e.commit) };
+    ghost view = { λ e. state_with_commitment e.basis (Some e.commit) };
 
-    ghost invariant = { λ e. IsWithin (basis_from e.leg_index (legs_in e.legs) e.anchor) };
+    ghost invariant = { λ e. IsWithin e.basis };
 }
 
 impl<'a> Estimates<'a> {
     ghost use Rattle.std.specs.Prelude.{Some};
-    ghost use Rattle.eti_chain.specs.EstimateStates.{IsWithin, estimates_state, in_turn_from, state_with_commitment};
+    ghost use Rattle.eti_chain.specs.EstimateStates.{estimates_state, in_turn_from, state_with_commitment};
 
     /// The estimates that are counted from this.
+    #[tactic(auto, using(crate::proofs::CalendarLemmas::is_within))]
     pub(crate) fn by(basis: EstimateBasis<'a>, commit: Moment) -> Estimates<'a>
-        requires { IsWithin basis }
+        requires { of.fits_in basis ≡ true }
         ensures { result ≡ state_with_commitment basis.entry (Some commit) }
     {
-        let EstimateBasis {
-            leg_index,
-            legs,
-            anchor,
-        } = basis;
-        Estimates {
-            leg_index,
-            legs: HeldLegs::Lent(legs),
-            anchor,
-            commit,
-        }
+        Estimates { basis, commit }
     }
 
     /// Whether no estimate of the track passes the last minute of the calendar.
@@ -83,9 +70,8 @@ impl<'a> Estimates<'a> {
         ensures { self.new ≡ estimates_state (track.now.events ++ event.now ∷ []) }
     {
         let state = track.state_after(event);
-        let anchor = anchor_after(self.anchor, event);
-        let basis = EstimateBasis::by(state.leg_index, &state.legs, anchor);
-        *self = Estimates::by(basis, self.commit).owned();
+        let anchor = anchor_after(self.basis.anchor, event);
+        self.basis = EstimateBasis::by(state.leg_index, HeldLegs::Own(state.legs), anchor);
     }
 
     /// Whether with the event, which may come next, an estimate of the track would pass the last minute of the
@@ -95,13 +81,13 @@ impl<'a> Estimates<'a> {
         requires admitted { refusal track.now.events event.now.by event.now.body ≡ None }
         ensures { result ≡ not (of.fits (track.now.events ++ event.now ∷ [])) }
     {
-        let anchor = anchor_after(self.anchor, event);
+        let anchor = anchor_after(self.basis.anchor, event);
         if keeps_legs(&event.body) {
             let state = track.journey_state();
-            return !EstimateBasis::by(state.leg_index, &state.legs, anchor).fits();
+            return !EstimateBasis::by(state.leg_index, HeldLegs::Lent(&state.legs), anchor).fits();
         }
         let state = track.state_after(event);
-        !EstimateBasis::by(state.leg_index, &state.legs, anchor).fits()
+        !EstimateBasis::by(state.leg_index, HeldLegs::Lent(&state.legs), anchor).fits()
     }
 
     /// When the wagon is expected at the end of this leg: none without an event to count from,
@@ -110,14 +96,14 @@ impl<'a> Estimates<'a> {
         ensures { (events : List Event) → self.now ≡ estimates_state events → result
             ≡ of.estimate events leg }
     {
-        self.basis().moment(leg)
+        self.basis.moment(leg)
     }
 
     /// The estimates of all legs, from the first one on.
     pub fn in_turn(&self) -> EstimatesInTurn<'_>
         ensures { result ≡ in_turn_from self.now.estimate_basis 0 }
     {
-        EstimatesInTurn::of(self.basis())
+        EstimatesInTurn::of(&self.basis)
     }
 
     /// When the wagon is expected at the end of its last leg.
@@ -125,7 +111,7 @@ impl<'a> Estimates<'a> {
         ensures { (events : List Event) → self.now ≡ estimates_state events → result
             ≡ of.eta events }
     {
-        self.basis().last_moment()
+        self.basis.last_moment()
     }
 
     /// Whether the wagon is expected after the moment to which the plan committed.
@@ -141,31 +127,7 @@ impl<'a> Estimates<'a> {
         ensures { (events : List Event) → self.now ≡ estimates_state events → result
             ≡ of.late_by events }
     {
-        lateness(self.commit, self.basis().last_moment()?)
-    }
-
-    // What the estimates are counted from.
-    fn basis(&self) -> EstimateBasis<'_>
-        ensures value { result ≡ self.now.estimate_basis }
-        ensures within { IsWithin result }
-    {
-        EstimateBasis {
-            leg_index: self.leg_index,
-            legs: self.legs.legs(),
-            anchor: self.anchor,
-        }
-    }
-
-    // The same estimates, with legs of their own.
-    fn owned<'b>(&self) -> Estimates<'b>
-        ensures { result ≡ self.now }
-    {
-        Estimates {
-            leg_index: self.leg_index,
-            legs: HeldLegs::Own(self.legs.legs().copy()),
-            anchor: self.anchor,
-            commit: self.commit,
-        }
+        lateness(self.commit, self.basis.last_moment())
     }
 }
 
@@ -182,9 +144,10 @@ fn keeps_legs(says: &EventBody) -> bool
     )
 }
 
-fn lateness(commit: Moment, at: Moment) -> Option<u32>
-    ensures { result ≡ of.lateness commit at }
+fn lateness(commit: Moment, at: Option<Moment>) -> Option<u32>
+    ensures { result ≡ option_and_then (of.lateness commit) at }
 {
+    let at = at?;
     if commit < at {
         Some(at.minutes() - commit.minutes())
     } else {

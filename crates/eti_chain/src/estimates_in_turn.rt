@@ -36,14 +36,14 @@ impl<'a> Model for EstimatesInTurn<'a> {
 
 impl<'a> EstimatesInTurn<'a> {
     /// The estimates that are counted from this, from the first leg on.
-    pub(crate) fn of(basis: EstimateBasis<'a>) -> EstimatesInTurn<'a>
-        requires { IsWithin basis }
-        ensures { result ≡ in_turn_from basis.entry 0 }
+    pub(crate) fn of(basis: &'a EstimateBasis<'a>) -> EstimatesInTurn<'a>
+        requires { IsWithin basis.now }
+        ensures { result ≡ in_turn_from basis.now 0 }
     {
         let at = basis.moment(basis.leg_index);
         EstimatesInTurn {
             leg_index: basis.leg_index,
-            legs: basis.legs.as_slice(),
+            legs: basis.legs.legs().as_slice(),
             anchor: basis.anchor,
             leg: 0,
             at,
