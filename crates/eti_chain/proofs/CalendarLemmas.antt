@@ -1,5 +1,9 @@
 -- Estimates within the calendar.
-use Rattle.eti_chain.proofs.Common.{◌≡◌, ℕ, ◌+◌, ◌-◌, ◌≤◌, ◌<◌, Bool, true, false, cond, ltb, leb, zero, suc, List, [], ◌∷◌, length, get_or, take, drop, Option, Some, None, refl, ap, ◌∙◌, sym, arith, zero-add, ◌&&◌, nat_le, sum_by, slice_range, filter_map, option_map, list_all, range_with_len, cons_option, and_parts, and_from, leb-true, ltb-true, le-leb, lt-ltb, cond-true, cond_both, sum_by-cons, AllPass-from_list_all, list_all-from_AllPass, get_or-range_with_len, length-range_with_len, last_minute, Leg, EstimateAt, Anchor, EstimateBasis, basis_from, minutes_in, delays_of, end_in, eta_in, fits_in, IsWithin}
+use Rattle.std.proofs.Common.{take_all}
+use Rattle.std.proofs.lemmas.Bool.{cases_lt}
+use Rattle.std.proofs.lemmas.Bool.Decides.{nat_tests}
+use Rattle.std.proofs.lemmas.List.Sums.{sum_by-take-le}
+use Rattle.eti_chain.proofs.Common.{inl, inr, length-drop, IfSome, ◌≡◌, ℕ, ◌+◌, ◌-◌, ◌≤◌, ◌<◌, Bool, true, false, cond, ltb, leb, List, [], ◌∷◌, length, get_or, take, drop, Option, Some, None, refl, ap, ◌∙◌, sym, arith, zero-add, ◌&&◌, nat_le, sum_by, slice_range, filter_map, option_map, list_all, range_with_len, cons_option, and_from, leb-true, le-leb, lt-ltb, cond-true, cond_both, AllPass-from_list_all, list_all-from_AllPass, get_or-range_with_len, length-range_with_len, last_minute, Leg, EstimateAt, Anchor, EstimateBasis, basis_from, minutes_in, delays_of, end_in, eta_in, fits_in, IsWithin}
 
 -- ---- the end of a leg
 
@@ -13,11 +17,6 @@ end_is c ls a j low high = cond-true (leb c j && ltb j (length ls)) (Some (end_b
 -- without an anchor no leg has an end
 pub no_end : (c : ℕ) (ls : List Leg) (j : ℕ) → end_in (basis_from c ls None) j ≡ None
 no_end c ls j = cond_both (leb c j && ltb j (length ls)) None None (λ (o : Option ℕ). o ≡ None) (λ t. refl) (λ t. refl)
-
--- an end is that of one of the legs
-of_a_leg : (test : Bool) (o : Option ℕ) (at : ℕ) → cond test o None ≡ Some at → test ≡ true
-of_a_leg true o at h = refl
-of_a_leg false o at h = cc
 
 -- ---- the calendar
 
@@ -46,41 +45,42 @@ fit_by_ends r h =
     let js = range_with_len 0 (length r.legs) in
     fit_in (end_in r) js ∙ list_all-from_AllPass (λ j. in_calendar (end_in r j)) js (λ k d l. h (get_or js k d))
 
-ends_fit : (r : EstimateBasis) (j : ℕ) → j < length r.legs → fits_in r ≡ true → in_calendar (end_in r j) ≡ true
-ends_fit r j high h =
+ends_fit : (r : EstimateBasis) (j : ℕ) → fits_in r ≡ true → in_calendar (end_in r j) ≡ true
+ends_fit r j h =
     let js = range_with_len 0 (length r.legs) in
-    let here : get_or js j 0 ≡ j = get_or-range_with_len 0 (length r.legs) j 0 high ∙ zero-add j in
-    let within : j < length js = omega (arith, length-range_with_len 0 (length r.legs)) in
-    ap (λ i. in_calendar (end_in r i)) (sym here) ∙ AllPass-from_list_all (λ j. in_calendar (end_in r j)) js (sym (fit_in (end_in r) js) ∙ h) j 0 within
+    elim (cases_lt j (length r.legs)) [
+      | inl high ↦
+          let here : get_or js j 0 ≡ j = get_or-range_with_len 0 (length r.legs) j 0 high ∙ zero-add j in
+          let within : j < length js = omega (arith, length-range_with_len 0 (length r.legs)) in
+          ap (λ i. in_calendar (end_in r i)) (sym here) ∙ AllPass-from_list_all (λ j. in_calendar (end_in r j)) js (sym (fit_in (end_in r) js) ∙ h) j 0 within
+      | inr past ↦ grind (arith, nat_tests)
+    ]
 
 -- no estimate of what fits passes the last minute
 pub end-fits : (r : EstimateBasis) (j at : ℕ) → fits_in r ≡ true → end_in r j ≡ Some at → at ≤ last_minute
-end-fits r j at h e =
-    let test = of_a_leg (leb r.leg_index j && ltb j (length r.legs)) _ at e in
-    let high = ltb-true j (length r.legs) ((and_parts (leb r.leg_index j) (ltb j (length r.legs)) test).1) in
-    leb-true at last_minute (ap in_calendar (sym e) ∙ ends_fit r j high h)
+end-fits r j at h e = leb-true at last_minute (ap in_calendar (sym e) ∙ ends_fit r j h)
+
+-- the same of an end that there may be
+pub end_fits : (r : EstimateBasis) (j : ℕ) → IsWithin r → (end_in r j ≡ end_in r j) × IfSome (end_in r j) (λ at. at ≤ last_minute)
+end_fits r j w = (refl, within (end_in r j) (ends_fit r j w.fit))
+  where
+    within : (o : Option ℕ) → in_calendar o ≡ true → IfSome o (λ at. at ≤ last_minute)
+    within None h = tt
+    within (Some at) h = leb-true at last_minute h
 
 pub fits-no_anchor : (c : ℕ) (ls : List Leg) → fits_in (basis_from c ls None) ≡ true
 fits-no_anchor c ls = fit_by_ends (basis_from c ls None) (λ j. ap in_calendar (no_end c ls j))
 
-sum_take : (ls : List Leg) (m n : ℕ) → m ≤ n → sum_by (λ l. l.minutes) (take m ls) ≤ sum_by (λ l. l.minutes) (take n ls)
-sum_take ls zero n h = omega arith
-sum_take [] (suc m) n h = omega arith
-sum_take (l ∷ ls) (suc m) zero h = absurd (omega arith)
-sum_take (l ∷ ls) (suc m) (suc n) h =
-    let k = sum_take ls m n (omega arith) in
-    let p = sum_by-cons (λ (x : Leg). x.minutes) l (take m ls) in
-    let q = sum_by-cons (λ (x : Leg). x.minutes) l (take n ls) in
-    omega arith
-
 -- where the last leg ends within the calendar, all do
-in_order : (c : ℕ) (ls : List Leg) (a : Anchor) → c < length ls → end_by c ls a (length ls - 1) ≤ last_minute → (j : ℕ) → in_calendar (end_in (basis_from c ls (Some a)) j) ≡ true
-in_order c ls a h last j =
+in_order : (c : ℕ) (ls : List Leg) (a : Option Anchor) → c < length ls → in_calendar (eta_in (basis_from c ls a)) ≡ true → (j : ℕ) → in_calendar (end_in (basis_from c ls a) j) ≡ true
+in_order c ls None h last j = ap in_calendar (no_end c ls j)
+in_order c ls (Some a) h last j =
+    let later = drop (c + 1) ls in
+    let all = take_all (length ls - 1 + 1 - (c + 1)) later (omega (arith, length-drop (c + 1) ls)) in
+    let end = leb-true _ _ (ap in_calendar (sym (end_is c ls a (length ls - 1) (omega arith) (omega arith))) ∙ last) in
+    let part = sum_by-take-le (λ (l : Leg). l.minutes) later (j + 1 - (c + 1)) in
     cond_both (leb c j && ltb j (length ls)) (Some (end_by c ls a j)) None (λ o. in_calendar o ≡ true)
-    (λ t.
-    let high = ltb-true j (length ls) ((and_parts (leb c j) (ltb j (length ls)) t).1) in
-    let k = sum_take (drop (c + 1) ls) (j + 1 - (c + 1)) (length ls - 1 + 1 - (c + 1)) (omega arith) in
-    le-leb (end_by c ls a j) last_minute (omega arith))
+    (λ t. le-leb (end_by c ls a j) last_minute (omega (arith, ap (sum_by (λ (l : Leg). l.minutes)) all)))
     (λ t. refl)
 
 pub same_test : (a b : Bool) → (a ≡ true → b ≡ true) → (b ≡ true → a ≡ true) → a ≡ b
@@ -88,18 +88,9 @@ same_test true b f g = sym (f refl)
 same_test false true f g = g refl
 same_test false false f g = refl
 
-fits_by_last : (c : ℕ) (ls : List Leg) (a : Option Anchor) → c < length ls → fits_in (basis_from c ls a) ≡ in_calendar (eta_in (basis_from c ls a))
-fits_by_last c ls None h = fits-no_anchor c ls ∙ sym (ap in_calendar (no_end c ls (length ls - 1)))
-fits_by_last c ls (Some a) h =
-    let r = basis_from c ls (Some a) in
-    let last : in_calendar (eta_in r) ≡ nat_le (end_by c ls a (length ls - 1)) last_minute = ap in_calendar (end_is c ls a (length ls - 1) (omega arith) (omega arith)) in
-    same_test (fits_in r) (in_calendar (eta_in r))
-    (ends_fit r (length ls - 1) (omega arith))
-    (λ t. fit_by_ends r (in_order c ls a h (leb-true (end_by c ls a (length ls - 1)) last_minute (sym last ∙ t))))
-
 -- the last estimate decides
 pub fits_by_eta : (r : EstimateBasis) → r.leg_index < length r.legs → fits_in r ≡ in_calendar (eta_in r)
-fits_by_eta r h = fits_by_last r.leg_index r.legs r.anchor h
+fits_by_eta r h = same_test (fits_in r) (in_calendar (eta_in r)) (ends_fit r (length r.legs - 1)) (λ t. fit_by_ends r (in_order r.leg_index r.legs r.anchor h t))
 
 -- delays of estimates that fit are small
 small-delays : (c : ℕ) (ls : List Leg) (a : Option Anchor) → c < length ls → fits_in (basis_from c ls a) ≡ true → delays_of a ≤ last_minute
@@ -121,4 +112,5 @@ pub fits-last : (c : ℕ) (ls : List Leg) (m : ℕ) → c + 1 ≡ length ls → 
 fits-last c ls m e h =
     let none_left : length ls - 1 + 1 - (c + 1) ≡ 0 = omega arith in
     let nothing = ap (λ n. sum_by (λ (l : Leg). l.minutes) (take n (drop (c + 1) ls))) none_left in
-    fit_by_ends (basis_from c ls (Some (at_end m))) (in_order c ls (at_end m) (omega arith) (omega arith))
+    let end = end_is c ls (at_end m) (length ls - 1) (omega arith) (omega arith) in
+    fits_by_eta (basis_from c ls (Some (at_end m))) (omega arith) ∙ ap in_calendar end ∙ le-leb (end_by c ls (at_end m) (length ls - 1)) last_minute (omega arith)

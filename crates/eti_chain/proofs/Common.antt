@@ -2,7 +2,7 @@
 pub use Rattle.std.specs.List.{list_all, range_with_len, cons_option}
 pub use Rattle.std.specs.Option.{option_or, option_and_then}
 pub use Rattle.std.specs.Prelude.{◌&&◌, nat_le, IfSome, sum_by, slice_range, filter_map, option_map, is_some}
-pub use Rattle.std.proofs.Common.{◌≡◌, ℕ, ◌+◌, ◌-◌, ◌≤◌, ◌<◌, Bool, true, false, cond, ltb, leb, zero, suc, List, [], ◌∷◌, ◌++◌, length, get_or, take, drop, Option, Some, None, refl, ap, ◌∙◌, sym, arith, zero-add, add-zero, add_assoc, subst, length-drop, ◌*◌, ◌^◌, not}
+pub use Rattle.std.proofs.Common.{◌≡◌, ℕ, ◌+◌, ◌-◌, ◌≤◌, ◌<◌, Bool, true, false, cond, ltb, leb, zero, suc, List, [], ◌∷◌, ◌++◌, length, get_or, take, drop, Option, Some, None, refl, inl, inr, ap, ◌∙◌, sym, arith, zero-add, add-zero, add_assoc, subst, length-drop, ◌*◌, ◌^◌, not}
 pub use Rattle.std.proofs.lemmas.Bool.{and_parts, and_from, leb-true, ltb-true, le-leb, lt-ltb, cond-true, cond_both, false≢true, not-false, eqb-true}
 pub use Rattle.std.proofs.lemmas.List.{take_more, get_or-drop}
 pub use Rattle.std.proofs.lemmas.List.FromFn.{get_or-range_with_len, length-range_with_len}
@@ -29,6 +29,6 @@ pub use Rattle.journey.specs.declared.journey_state.JourneyState.{JourneyState}
 pub use Rattle.journey.proofs.LegPositionLemmas.{legs-push, leg_index-push, stage-push, timed_length}
 pub use Rattle.journey.proofs.NewestLemmas.{newest-push, since-push}
 pub use Rattle.journey.proofs.SoundStateLemmas.{plan-kept, passed}
-pub use Rattle.eti_chain.specs.EstimateStates.{with_delay_of, IsWithin, keeps_legs, anchor_after, EstimatesState, state_with_commitment, estimates_state, EstimateAnchor, anchor_with_commitment, estimate_anchor, end_before, EstimatesInTurn}
+pub use Rattle.eti_chain.specs.EstimateStates.{with_delay_of, IsWithin, anchor_after, EstimatesState, state_with_commitment, estimates_state, EstimateAnchor, anchor_with_commitment, estimate_anchor, end_before, EstimatesInTurn}
 pub use Rattle.eti_chain.specs.Estimates.{anchor_in, anchor, EstimateBasis, basis_from, estimate_basis, minutes_in, base_in, delays_of, end_in, eta_in, fits_in, fits, delay_in, delays, delayed_by, commitment, is_calendar_checked, lateness}
 pub use Rattle.eti_chain.specs.declared.anchor.Anchor.{Anchor}

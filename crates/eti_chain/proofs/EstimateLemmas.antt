@@ -1,5 +1,5 @@
 -- What one more event does to what estimates are counted from.
-use Rattle.eti_chain.proofs.Common.{◌≡◌, ℕ, ◌+◌, Bool, true, false, cond, List, [], ◌∷◌, ◌++◌, Option, Some, None, refl, ap, ◌∙◌, sym, add-zero, add_assoc, sum_by, is_some, option_map, option_or, sum_by_push, Leg, Event, EventBody, EstimateAsked, newest, since, leg_index, is_reception, legs_after, legs, newest-push, since-push, legs-push, leg_index-push, index_after, Anchor, anchor_in, delay_in, delays, delayed_by, anchor, basis_from, estimate_basis, keeps_legs, anchor_after}
+use Rattle.eti_chain.proofs.Common.{take, take_more, get_or, length, ◌<◌, ◌≡◌, ℕ, ◌+◌, Bool, true, false, cond, List, [], ◌∷◌, ◌++◌, Option, Some, None, refl, ap, ◌∙◌, sym, add-zero, add_assoc, sum_by, is_some, option_map, option_or, sum_by_push, Leg, Event, EventBody, EstimateAsked, newest, since, leg_index, is_reception, legs_after, legs, newest-push, since-push, legs-push, leg_index-push, index_after, Anchor, anchor_in, delay_in, delays, delayed_by, anchor, basis_from, estimate_basis, anchor_after, Moved, Offered, Withdrawn}
 
 -- an event that receives nothing leaves the leg index
 pub leg_index-kept : (events : List Event) (e : Event) → is_reception e.body ≡ false → leg_index (events ++ e ∷ []) ≡ leg_index events
@@ -33,7 +33,19 @@ anchor_push events e =
     ap (λ n. option_map (delayed_by n) (option_or (anchor_in e.at e.body) (newest (λ d. anchor_in d.at d.body) events))) (delays-push events e) ∙
     later_anchor (anchor_in e.at e.body) (newest (λ d. anchor_in d.at d.body) events) (delays events) (delay_in e.body)
 
--- an event that says nothing of legs, and receives nothing, changes the anchor alone
+-- and with each event that a walk comes to
+pub anchor_more : (events : List Event) (i : ℕ) (e : Event) → i < length events → e ≡ get_or events i e → anchor (take (i + 1) events) ≡ anchor_after (anchor (take i events)) e
+anchor_more events i e h is = ap anchor (take_more events i e h ∙ ap (λ (d : Event). take i events ++ d ∷ []) (sym is)) ∙ anchor_push (take i events) e
+
+-- an event that says nothing of legs, and receives nothing
+abbrev pub keeps_legs : EventBody → Bool
+keeps_legs (Moved what) = true
+keeps_legs EstimateAsked = true
+keeps_legs (Offered place to) = true
+keeps_legs (Withdrawn place) = true
+keeps_legs _ = false
+
+-- it changes the anchor alone
 pub basis-kept : (events : List Event) (e : Event) → keeps_legs e.body ≡ true → estimate_basis (events ++ e ∷ []) ≡ basis_from (leg_index events) (legs events) (anchor_after (anchor events) e)
 basis-kept events e h =
     (λ i. basis_from (leg_index-push events e i) (legs-push events e i) (anchor_push events e i)) ∙ by e.body h (leg_index events) (legs events) (anchor_after (anchor events) e)

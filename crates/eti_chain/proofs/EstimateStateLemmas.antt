@@ -1,5 +1,5 @@
 -- What is kept for the estimates goes along with the events.
-use Rattle.eti_chain.proofs.Common.{◌≡◌, ℕ, ◌≤◌, cond, List, [], ◌∷◌, ◌++◌, Option, Some, None, ap, ◌∙◌, sym, option_map, le-leb, last_minute, moment_at, Event, refusal, plan-kept, Anchor, basis_from, estimate_basis, anchor, commitment, JourneyState, IsTrackState, anchor_after}
+use Rattle.eti_chain.proofs.Common.{◌≡◌, List, [], ◌∷◌, ◌++◌, Option, None, ap, ◌∙◌, sym, option_map, Event, refusal, plan-kept, Anchor, basis_from, estimate_basis, anchor, commitment, JourneyState, IsTrackState, anchor_after}
 use Rattle.eti_chain.proofs.EstimateLemmas.{anchor_push}
 
 -- the plan, and so the commitment, stays
@@ -12,7 +12,3 @@ pub basis-push : (events : List Event) (e : Event) (s : JourneyState) (a next : 
 basis-push events e s a next state is was =
     let anchors = is ∙ ap (λ (x : Option Anchor). anchor_after x e) was ∙ sym (anchor_push events e) in
     λ i. basis_from (state.state_is i).leg_index (state.state_is i).legs (anchors i)
-
--- a minute of the calendar is a moment
-pub moment_is : (minutes : ℕ) → minutes ≤ last_minute → moment_at minutes ≡ Some minutes
-moment_is minutes h = ap (λ b. cond b (Some minutes) None) (le-leb minutes last_minute h)

@@ -1,5 +1,6 @@
 -- The end of a leg goes on from the end of the leg before.
-use Rattle.eti_chain.proofs.Common.{◌≡◌, ℕ, ◌+◌, ◌-◌, ◌≤◌, ◌<◌, leb, ltb, List, length, get_or, take, drop, Option, Some, None, refl, ap, ◌∙◌, sym, arith, ◌&&◌, sum_by, sum_by_push, take_more, get_or-drop, length-drop, option_map, IfSome, and_from, le-leb, lt-ltb, cond-true, last_minute, Leg, EstimateBasis, base_in, delays_of, end_in, end_before, IsWithin}
+use Rattle.std.proofs.lemmas.List.Sums.{sum_by_more}
+use Rattle.eti_chain.proofs.Common.{◌≡◌, ℕ, ◌+◌, ◌-◌, ◌≤◌, ◌<◌, leb, ltb, List, length, get_or, take, drop, Option, Some, None, refl, ap, ◌∙◌, sym, arith, ◌&&◌, sum_by, get_or-drop, length-drop, option_map, IfSome, and_from, le-leb, lt-ltb, cond-true, last_minute, Leg, EstimateBasis, base_in, delays_of, end_in, end_before, IsWithin}
 use Rattle.eti_chain.proofs.CalendarLemmas.{end-fits}
 
 abbrev minutes_of : List Leg → ℕ
@@ -20,7 +21,7 @@ end_later r j l low high =
     let n = j - (c + 1) in
     let later = drop (c + 1) r.legs in
     let sum : minutes_of (take (n + 1) later) ≡ minutes_of (take n later) + (get_or later n l).minutes =
-    ap (λ ls. minutes_of ls) (take_more later n l (omega (arith, length-drop (c + 1) r.legs))) ∙ sum_by_push (λ x. x.minutes) (take n later) (get_or later n l) in
+    sum_by_more (λ x. x.minutes) later n l (omega (arith, length-drop (c + 1) r.legs)) in
     let count : j + 1 - (c + 1) ≡ n + 1 = omega arith in
     let place : c + 1 + n ≡ j = omega arith in
     let leg : get_or later n l ≡ get_or r.legs j l = get_or-drop (c + 1) r.legs n l ∙ ap (λ i. get_or r.legs i l) place in

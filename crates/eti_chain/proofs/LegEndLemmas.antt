@@ -1,7 +1,7 @@
 -- A journey ends on its last leg, and its estimates stay within the calendar.
-use Rattle.eti_chain.proofs.Common.{◌≡◌, ℕ, ◌+◌, ◌≤◌, Bool, true, false, List, [], ◌∷◌, ◌++◌, length, Option, Some, None, refl, ap, ◌∙◌, sym, arith, option_or, not-false, eqb-true, false≢true, Railway, last_minute, Leg, MovementKind, Release, Departure, Exception, Estimate, Arrival, Delivery, Stage, Event, EventBody, Planned, Moved, EstimateAsked, LegTimed, Answered, Rerouted, stage, stage_after, leg_index, legs, journey_state, refusal, movement_checks, passed, stage-push, legs-push, leg_index-push, timed_length, legs_after, index_after, option_map, fits, fits_in, is_calendar_checked, anchor, anchor_after, delayed_by, basis_from, keeps_legs}
+use Rattle.eti_chain.proofs.Common.{◌≡◌, ℕ, ◌+◌, ◌≤◌, Bool, true, false, List, [], ◌∷◌, ◌++◌, length, Option, Some, None, refl, ap, ◌∙◌, sym, arith, option_or, not-false, eqb-true, false≢true, Railway, last_minute, Leg, MovementKind, Release, Departure, Exception, Estimate, Arrival, Delivery, Stage, Event, EventBody, Planned, Moved, EstimateAsked, LegTimed, Answered, Rerouted, stage, stage_after, leg_index, legs, journey_state, refusal, movement_checks, passed, stage-push, legs-push, leg_index-push, timed_length, legs_after, index_after, option_map, fits, fits_in, is_calendar_checked, anchor, anchor_after, delayed_by, basis_from}
 use Rattle.taf_messages.specs.declared.record.Stage.TheVariants as stage_is
-use Rattle.eti_chain.proofs.EstimateLemmas.{basis-kept, not_delayed}
+use Rattle.eti_chain.proofs.EstimateLemmas.{keeps_legs, basis-kept, not_delayed}
 use Rattle.eti_chain.proofs.CalendarLemmas.{at_end, fits-last}
 
 -- the wagon has arrived

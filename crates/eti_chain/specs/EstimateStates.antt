@@ -1,20 +1,11 @@
 -- What is kept for the estimates of a wagon, from one event to the next.
-use Rattle.std.specs.Prelude.{ℕ, Bool, ◌≡◌, ◌+◌, ◌≤◌, ◌<◌, ◌^◌, true, false, List, length, sum_by, slice_range, Option, option_map}
+use Rattle.std.specs.Prelude.{ℕ, ◌≡◌, ◌+◌, ◌≤◌, ◌<◌, ◌^◌, true, List, length, sum_by, slice_range, Option, option_map}
 use Rattle.std.specs.Option.{option_or}
 use Rattle.taf_moment.specs.Calendar.{last_minute}
 use Rattle.journey.specs.declared.event.Event.{Event}
 use Rattle.journey.specs.declared.event.EventBody.{EventBody}
-use Rattle.journey.specs.declared.event.EventBody.TheVariants.{Moved, EstimateAsked, Offered, Withdrawn}
 use Rattle.eti_chain.specs.declared.anchor.Anchor.{Anchor}
 use Rattle.eti_chain.specs.Estimates.{EstimateBasis, estimate_basis, anchor, anchor_in, delay_in, delayed_by, delays_of, base_in, fits_in, commitment}
-
--- an event that says nothing of legs, and receives nothing
-abbrev pub keeps_legs : EventBody → Bool
-keeps_legs (Moved what) = true
-keeps_legs EstimateAsked = true
-keeps_legs (Offered place to) = true
-keeps_legs (Withdrawn place) = true
-keeps_legs _ = false
 
 -- the anchor, if there is one, with the delay of one event more
 abbrev pub with_delay_of : Option Anchor → EventBody → Option Anchor

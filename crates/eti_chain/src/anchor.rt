@@ -48,21 +48,12 @@ pub(crate) fn anchor_in(event: &Event) -> Option<Anchor>
     ensures bound { of.delays_of result ≡ 0 }
 {
     match &event.body {
-        EventBody::Moved(what) => anchor_in_movement(event.at, *what),
-        EventBody::Answered { received, .. } if *received => anchor_at(event.at, true),
-        _ => None,
-    }
-}
-
-fn anchor_in_movement(at: Option<Moment>, what: MovementKind) -> Option<Anchor>
-    ensures value { result ≡ of.anchor_in_movement at what }
-    ensures bound { of.delays_of result ≡ 0 }
-{
-    match what {
-        MovementKind::Release | MovementKind::Departure => anchor_at(at, true),
-        MovementKind::Estimate | MovementKind::Arrival | MovementKind::Delivery => {
-            anchor_at(at, false)
+        EventBody::Moved(MovementKind::Release | MovementKind::Departure) => {
+            anchor_at(event.at, true)
         }
+        EventBody::Moved(MovementKind::Estimate | MovementKind::Arrival | MovementKind::Delivery) =>
+            anchor_at(event.at, false),
+        EventBody::Answered { received, .. } if *received => anchor_at(event.at, true),
         _ => None,
     }
 }

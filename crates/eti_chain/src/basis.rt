@@ -67,6 +67,7 @@ impl<'a> EstimateBasis<'a> {
     }
 
     /// The end of a leg, in minutes since 1970.
+    #[tactic(auto, using(std::proofs::lemmas::Option::gets))]
     pub(crate) fn end_of(&self, leg: usize) -> Option<u128>
         ensures { result ≡ of.end_in self.now leg }
     {
@@ -74,16 +75,14 @@ impl<'a> EstimateBasis<'a> {
         if leg < self.leg_index || leg >= legs.len() {
             return None;
         }
-        let minutes = minutes_of(&legs[self.leg_index + 1..leg + 1]);
-        Some(u128::from(self.base()? + minutes) + self.delays())
-    }
-
-    /// The end of the last leg, in minutes since 1970.
-    pub(crate) fn last_end(&self) -> Option<u128>
-        ensures value { result ≡ of.eta_in self.now }
-        ensures on_a_leg { self.now.leg_index < length self.now.legs }
-    {
-        self.end_of(self.legs.legs().as_slice().len() - 1)
+        let anchor = self.anchor?;
+        let current = if anchor.runs_leg {
+            u64::from(legs[self.leg_index].minutes)
+        } else {
+            0
+        };
+        let later = minutes_of(&legs[self.leg_index + 1..leg + 1]);
+        Some(u128::from(u64::from(anchor.at.minutes()) + current + later) + anchor.delays)
     }
 
     /// Whether no estimate passes the last minute of the calendar.
@@ -91,13 +90,14 @@ impl<'a> EstimateBasis<'a> {
     pub(crate) fn fits(&self) -> bool
         ensures { result ≡ of.fits_in self.now }
     {
-        match self.last_end() {
+        match self.end_of(self.legs.legs().as_slice().len() - 1) {
             Some(at) => at <= LAST_MINUTE,
             None => true,
         }
     }
 
     /// When the wagon is expected at the end of a leg.
+    #[tactic(auto, using(crate::proofs::CalendarLemmas::end_fits))]
     pub(crate) fn moment(&self, leg: usize) -> Option<Moment>
         requires { states.IsWithin self.now }
         ensures { result ≡ of.end_in self.now leg }
@@ -113,41 +113,11 @@ impl<'a> EstimateBasis<'a> {
     {
         self.moment(self.legs.legs().as_slice().len() - 1)
     }
-
-    // The end of the current leg by the anchor, without delays.
-    fn base(&self) -> Option<u64>
-        ensures value { result ≡ of.base_in self.now }
-        ensures small { IfSome result (λ at. at < 2 ^ 33) }
-    {
-        let anchor = self.anchor?;
-        let minutes = if anchor.runs_leg { self.minutes() } else { 0 };
-        Some(u64::from(anchor.at.minutes()) + minutes)
-    }
-
-    // The minutes of the current leg.
-    fn minutes(&self) -> u64
-        ensures value { result ≡ of.minutes_in self.now }
-        ensures small { result < 2 ^ 32 }
-    {
-        match self.legs.legs().leg(self.leg_index) {
-            Some(leg) => u64::from(leg.minutes),
-            None => 0,
-        }
-    }
-
-    fn delays(&self) -> u128
-        ensures { result ≡ of.delays_of self.now.anchor }
-    {
-        match self.anchor {
-            Some(anchor) => anchor.delays,
-            None => 0,
-        }
-    }
 }
 
 // The newest anchor of a journey, with the delays since. At most 2^64 events delay the wagon by at
 // most 100,000 minutes each.
-#[tactic(auto, using(crate::proofs::EstimateLemmas::anchor_push))]
+#[tactic(auto, using(crate::proofs::EstimateLemmas::anchor_more))]
 fn newest_anchor(events: &[Event]) -> Option<Anchor>
     ensures value { result ≡ of.anchor events.now }
     ensures small { of.delays_of result < 2 ^ 127 }

@@ -3,7 +3,6 @@ ghost use Rattle.std.specs.Option.{option_and_then};
 ghost use Rattle.journey.specs.declared.event.Event.{Event};
 ghost use Rattle.journey.specs.Checks.{refusal};
 ghost use Rattle.eti_chain.specs.Estimates as of;
-ghost use Rattle.eti_chain.specs.EstimateStates.{keeps_legs};
 
 use crate::anchor::anchor_after;
 use crate::basis::EstimateBasis;
@@ -82,12 +81,19 @@ impl<'a> Estimates<'a> {
         ensures { result ≡ not (of.fits (track.now.events ++ event.now ∷ [])) }
     {
         let anchor = anchor_after(self.basis.anchor, event);
-        if keeps_legs(&event.body) {
-            let state = track.journey_state();
-            return !EstimateBasis::by(state.leg_index, HeldLegs::Lent(&state.legs), anchor).fits();
+        match &event.body {
+            EventBody::Moved(_)
+            | EventBody::EstimateAsked
+            | EventBody::Offered { .. }
+            | EventBody::Withdrawn { .. } => {
+                let state = track.journey_state();
+                !EstimateBasis::by(state.leg_index, HeldLegs::Lent(&state.legs), anchor).fits()
+            }
+            _ => {
+                let state = track.state_after(event);
+                !EstimateBasis::by(state.leg_index, HeldLegs::Lent(&state.legs), anchor).fits()
+            }
         }
-        let state = track.state_after(event);
-        !EstimateBasis::by(state.leg_index, HeldLegs::Lent(&state.legs), anchor).fits()
     }
 
     /// When the wagon is expected at the end of this leg: none without an event to count from,
@@ -129,19 +135,6 @@ impl<'a> Estimates<'a> {
     {
         lateness(self.commit, self.basis.last_moment())
     }
-}
-
-// Whether an event says nothing of legs, and receives nothing.
-fn keeps_legs(says: &EventBody) -> bool
-    ensures { result ≡ keeps_legs says.now }
-{
-    matches!(
-        says,
-        EventBody::Moved(_)
-            | EventBody::EstimateAsked
-            | EventBody::Offered { .. }
-            | EventBody::Withdrawn { .. }
-    )
 }
 
 fn lateness(commit: Moment, at: Option<Moment>) -> Option<u32>
