@@ -1,5 +1,5 @@
 -- What one more event does to stage, leg index and legs.
-use Rattle.journey.proofs.Common.{◌≡◌, ℕ, ◌+◌, zero, suc, cond, List, [], ◌∷◌, ◌++◌, length, refl, ap, ◌∙◌, fold, option_or, fold-append, Leg, Event, stage, stage_after, leg_index, is_reception, plan, plan_in, LegPosition, leg_position, leg_position_after, index_after, legs, legs_after, with_leg_minutes}
+use Rattle.journey.proofs.Common.{◌<◌, take, arith, length-append, length-take-le, ◌≡◌, ℕ, ◌+◌, zero, suc, cond, List, [], ◌∷◌, ◌++◌, length, refl, ap, ◌∙◌, fold, option_or, fold-append, Leg, Event, stage, stage_after, leg_index, is_reception, plan, plan_in, LegPosition, leg_position, leg_position_after, index_after, legs, legs_after, with_leg_minutes}
 use Rattle.journey.proofs.NewestLemmas.{newest-push}
 
 pub stage-push : (events : List Event) (e : Event) → stage (events ++ e ∷ []) ≡ option_or (stage_after e.body) (stage events)
@@ -29,3 +29,7 @@ pub timed_length : (ls : List Leg) (i minutes : ℕ) → length (with_leg_minute
 timed_length [] i minutes = refl
 timed_length (l ∷ ls) zero minutes = refl
 timed_length (l ∷ ls) (suc i) minutes = ap suc (timed_length ls i minutes)
+
+-- the number of legs with a route behind leg c
+pub rerouted_length : (ls route : List Leg) (c : ℕ) → c < length ls → length (take (c + 1) ls ++ route) ≡ c + 1 + length route
+rerouted_length ls route c on = length-append (take (c + 1) ls) route ∙ ap (λ n. n + length route) (length-take-le (c + 1) ls (omega arith))

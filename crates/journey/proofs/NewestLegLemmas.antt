@@ -1,7 +1,7 @@
 -- The legs of a journey are those that the newest events set.
-use Rattle.journey.proofs.Common.{◌≡◌, ℕ, ◌+◌, ◌-◌, ◌<◌, ◌≤◌, zero, suc, Bool, true, false, cond, List, [], ◌∷◌, ◌++◌, length, take, Option, Some, None, refl, ap, ◌∙◌, sym, inl, inr, arith, ◌==◌, append-nil, append_assoc, fold, slice_get, option_map, unwrap_or, nat_lt, if◌then◌else◌, option_or, lt-ltb, le-ltb, cases_lt, nat_tests, length-append, length-take-le, first_of, Leg, Event, EventBody, Planned, LegTimed, Rerouted, newest, leg_index, is_reception, legs, legs_after, index_after, with_leg_minutes, journey_state, checks, IsSound, EventOnLeg, with_minutes, events_on_legs_from, events_on_legs, route_leg, leg_set, minutes_set, count_set, count_by_newest, leg_by_newest, IsPlanOfLegs, AllAdmitted, IsJourney, OnLegsByCount, LegsAreTheNewest, AsManyLegs, RerouteUndoesTimes}
+use Rattle.journey.proofs.Common.{◌≡◌, ℕ, ◌+◌, ◌-◌, ◌<◌, ◌≤◌, zero, suc, Bool, true, false, cond, List, [], ◌∷◌, ◌++◌, length, take, Option, Some, None, refl, ap, ◌∙◌, sym, inl, inr, arith, ◌==◌, append-nil, append_assoc, fold, slice_get, option_map, unwrap_or, nat_lt, if◌then◌else◌, option_or, lt-ltb, le-ltb, cases_lt, nat_tests, first_of, Leg, Event, EventBody, Planned, LegTimed, Rerouted, newest, leg_index, is_reception, legs, legs_after, index_after, with_leg_minutes, journey_state, checks, IsSound, EventOnLeg, with_minutes, events_on_legs_from, events_on_legs, route_leg, leg_set, minutes_set, count_set, count_by_newest, leg_by_newest, IsPlanOfLegs, AllAdmitted, IsJourney, OnLegsByCount, LegsAreTheNewest, AsManyLegs, RerouteUndoesTimes}
 use Rattle.journey.proofs.NewestLemmas.{newest-push}
-use Rattle.journey.proofs.LegPositionLemmas.{legs-push, timed_length}
+use Rattle.journey.proofs.LegPositionLemmas.{legs-push, timed_length, rerouted_length}
 use Rattle.journey.proofs.SoundStateLemmas.{journey_state-push, sound-after}
 
 events_on_legs_from-push : (c : ℕ) (events : List Event) (e : Event) →
@@ -43,28 +43,20 @@ leg_set_now [] k n i minutes put e = rw (le-ltb i n (omega arith)) refl
 leg_set_now (l ∷ ls) zero n i minutes put e = rw (lt-ltb i n (omega arith)) refl
 leg_set_now (l ∷ ls) (suc k) n i minutes put e = leg_set_now ls k n i minutes put (omega arith)
 
--- a leg behind the first n
-routed_behind : (n : ℕ) (ls route : List Leg) (i k : ℕ) → n ≤ length ls → i ≡ n + k → slice_get (take n ls ++ route) i ≡ slice_get route k
-routed_behind zero ls route i k h e = let same : i ≡ k = omega arith in ap (slice_get route) same
-routed_behind (suc n) [] route i k h e = absurd (omega arith)
-routed_behind (suc n) (l ∷ ls) route zero k h e = absurd (omega arith)
-routed_behind (suc n) (l ∷ ls) route (suc i) k h e = routed_behind n ls route i k (omega arith) (omega arith)
-
--- one of the first n
-routed_before : (n : ℕ) (ls route : List Leg) (i : ℕ) → n ≤ length ls → i < n → slice_get (take n ls ++ route) i ≡ slice_get ls i
-routed_before zero ls route i h e = absurd (omega arith)
-routed_before (suc n) [] route i h e = absurd (omega arith)
-routed_before (suc n) (l ∷ ls) route zero h e = refl
-routed_before (suc n) (l ∷ ls) route (suc i) h e = routed_before n ls route i (omega arith) (omega arith)
+-- leg i of a route behind the first n
+routed : (n : ℕ) (ls route : List Leg) (i : ℕ) → n ≤ length ls → slice_get (take n ls ++ route) i ≡ (if nat_lt i n then slice_get ls i else slice_get route (i - n))
+routed zero ls route i h = let all : i - 0 ≡ i = omega arith in rw (all, le-ltb i 0 (omega arith)) refl
+routed (suc n) [] route i h = absurd (omega arith)
+routed (suc n) (l ∷ ls) route zero h = rw (lt-ltb 0 (suc n) (omega arith)) refl
+routed (suc n) (l ∷ ls) route (suc i) h = let fewer : suc i - suc n ≡ i - n = omega arith in rw fewer (grind (arith, nat_tests, routed n ls route i (omega arith)))
 
 routed_leg : (ls route : List Leg) (c i n : ℕ) (minutes : Option ℕ) (put : Option Leg) → c < length ls → length ls ≡ n →
     slice_get ls i ≡ leg_from n minutes put i →
     slice_get (take (c + 1) ls ++ route) i ≡
     leg_from (c + 1 + length route) (option_or (option_map (λ l. l.minutes) (route_leg c route i)) minutes) (option_or (route_leg c route i) put) i
-routed_leg ls route c i n minutes put on size h = elim (cases_lt c i) [
-  | inr k ↦ rw (le-ltb c i k, lt-ltb i (c + 1 + length route) (omega arith)) (routed_before (c + 1) ls route i (omega arith) (omega arith) ∙ (rw (lt-ltb i n (omega arith)) at h))
-  | inl k ↦ rw (lt-ltb c i k) (routed_behind (c + 1) ls route i (i - (c + 1)) (omega arith) (omega arith) ∙
-      leg_set_now route (i - (c + 1)) (c + 1 + length route) i minutes put (omega arith))
+routed_leg ls route c i n minutes put on size h = routed (c + 1) ls route i (omega arith) ∙ elim (cases_lt c i) [
+  | inr k ↦ rw (le-ltb c i k, lt-ltb i (c + 1) (omega arith), lt-ltb i (c + 1 + length route) (omega arith)) (h ∙ (rw (lt-ltb i n (omega arith)) refl))
+  | inl k ↦ rw (lt-ltb c i k, le-ltb i (c + 1) (omega arith)) (leg_set_now route (i - (c + 1)) (c + 1 + length route) i minutes put (omega arith))
 ]
 
 -- the legs, of which one takes other minutes
@@ -97,8 +89,7 @@ next_leg ls c _ i count minutes put on size h = h
 next_count : (ls : List Leg) (c : ℕ) (body : EventBody) (count : Option ℕ) → c < length ls → length ls ≡ unwrap_or count 0 →
     length (legs_after c ls body) ≡ unwrap_or (option_or (count_set c body) count) 0
 next_count ls c (Planned plan) count on size = refl
-next_count ls c (Rerouted route) count on size =
-    length-append (take (c + 1) ls) route ∙ ap (λ n. n + length route) (length-take-le (c + 1) ls (omega arith))
+next_count ls c (Rerouted route) count on size = rerouted_length ls route c on
 next_count ls c (LegTimed t m) count on size = timed_length ls t m ∙ size
 next_count ls c _ count on size = size
 

@@ -1,8 +1,8 @@
 -- One more event: the state that it leads to, and what stays true of it.
-use Rattle.journey.proofs.Common.{◌≡◌, ℕ, ◌+◌, ◌<◌, ◌≤◌, Bool, true, false, cond, zero, suc, List, [], ◌∷◌, ◌++◌, length, take, Option, Some, None, refl, ap, ◌∙◌, sym, inl, inr, arith, add-zero, ◌||◌, fold, slice_get, option_map, is_some, option_or, option_eq, list_any, cases_Bool, not-false, ltb-false, length-append, length-take-le, list_any-append, Railway, first_of, is_text, Leg, Exception, Estimate, Stage, Event, EventBody, Planned, Moved, EstimateAsked, LegTimed, Offered, Answered, Rerouted, JourneyState, stage_after, is_reception, is_departure, is_delivery, new_responsible, is_plan, plan, plan_in, has_later_plan, HasRoom, HaveRoom, legs_after, index_after, lead_of, lead_in, yard_in, journey_state, journey_state_after, checks, route_checks, same_stage, IsSound, IsTrackState, first_plan}
+use Rattle.journey.proofs.Common.{◌≡◌, ℕ, ◌+◌, ◌<◌, ◌≤◌, Bool, true, false, cond, zero, suc, List, [], ◌∷◌, ◌++◌, length, Option, Some, None, refl, ap, ◌∙◌, sym, inl, inr, arith, add-zero, ◌||◌, fold, slice_get, option_map, is_some, option_or, option_eq, list_any, cases_Bool, not-false, ltb-false, list_any-append, Railway, first_of, is_text, Leg, Exception, Estimate, Stage, Event, EventBody, Planned, Moved, EstimateAsked, LegTimed, Offered, Answered, Rerouted, JourneyState, stage_after, is_reception, is_departure, is_delivery, new_responsible, is_plan, plan, plan_in, has_later_plan, HasRoom, HaveRoom, legs_after, index_after, lead_of, lead_in, yard_in, journey_state, journey_state_after, checks, route_checks, same_stage, IsSound, IsTrackState, first_plan}
 use Rattle.taf_messages.specs.declared.record.Stage.TheVariants as stage_is
 use Rattle.journey.proofs.NewestLemmas.{newest-push}
-use Rattle.journey.proofs.LegPositionLemmas.{stage-push, plan-push, leg_index-push, legs-push, timed_length}
+use Rattle.journey.proofs.LegPositionLemmas.{stage-push, plan-push, leg_index-push, legs-push, timed_length, rerouted_length}
 use Rattle.journey.proofs.OnItsWayLemmas.{some_right}
 
 or-false : (a b : Bool) → (a || (b || false)) ≡ (a || b)
@@ -79,35 +79,6 @@ kept s e k r l n =
 abbrev an : Railway → ℕ → Option ℕ → EventBody → Event
 an by number at body = record { by = by; no = number; at = at; body = body }
 
-answered : (s : JourneyState) (by : Railway) (number : ℕ) (at : Option ℕ) (place : List ℕ) (received : Bool) → IsSound s → s.stage ≡ Some stage_is.Offered → IsSound (journey_state_after s (an by number at (Answered place received)))
-answered s by number at place true k o = record {
-  staged = refl;
-  on_a_leg = k.next_leg o;
-  few_legs = k.few_legs;
-  next_leg = λ h. cc;
-}
-answered s by number at place false k o = kept s (an by number at (Answered place false)) k refl refl (λ h. cc)
-
-rerouted_length : (s : JourneyState) (route : List Leg) → IsSound s → length (take (s.leg_index + 1) s.legs ++ route) ≡ s.leg_index + 1 + length route
-rerouted_length s route k =
-    let a = k.on_a_leg in
-    length-append (take (s.leg_index + 1) s.legs) route ∙ ap (λ n. n + length route) (length-take-le (s.leg_index + 1) s.legs (omega arith))
-
--- no wagon that is offered is rerouted
-not_offered : (s : JourneyState) (by : Railway) (route : List Leg) → first_of (route_checks s by route) ≡ None → s.stage ≡ Some stage_is.Offered → ⊥
-not_offered s by route r h = some_is_none _ (rw h at r)
-
-rerouted : (s : JourneyState) (by : Railway) (number : ℕ) (at : Option ℕ) (route : List Leg) → IsSound s → first_of (route_checks s by route) ≡ None → IsSound (journey_state_after s (an by number at (Rerouted route)))
-rerouted s by number at route k r =
-    let l = rerouted_length s route k in
-    let room : s.leg_index + 1 + length route ≤ 8 = has_room s by (Rerouted route) r in
-    record {
-      staged = k.staged;
-      on_a_leg = omega arith;
-      few_legs = omega arith;
-      next_leg = λ h. absurd (not_offered s by route r h);
-    }
-
 sound_said : (s : JourneyState) (by : Railway) (number : ℕ) (at : Option ℕ) (body : EventBody) → IsSound s → first_of (checks s by body) ≡ None → IsSound (journey_state_after s (an by number at body))
 sound_said s by number at (Planned plan) k r = cc
 sound_said s by number at (Moved (Exception delay)) k r = kept s (an by number at (Moved (Exception delay))) k refl refl k.next_leg
@@ -117,10 +88,13 @@ sound_said s by number at (LegTimed leg minutes) k r = kept s (an by number at (
 sound_said s by number at (Offered place to) k r =
     let p = passed (checks s by (Offered place to)) r in
     kept s (an by number at (Offered place to)) k refl refl (λ h. leg_is_there s.legs (s.leg_index + 1) to (not-false _ p.1.1.1.0))
-sound_said s by number at (Answered place received) k r =
-    let p = passed (checks s by (Answered place received)) r in
-    answered s by number at place received k (stage_offered s.stage (not-false _ p.0))
-sound_said s by number at (Rerouted route) k r = rerouted s by number at route k r
+sound_said s by number at (Answered place true) k r =
+    let p = passed (checks s by (Answered place true)) r in
+    record { staged = refl; on_a_leg = k.next_leg (stage_offered s.stage (not-false _ p.0)); few_legs = k.few_legs; next_leg = λ h. cc }
+sound_said s by number at (Rerouted route) k r =
+    let length_is = rerouted_length s.legs route s.leg_index k.on_a_leg in
+    let room : s.leg_index + 1 + length route ≤ 8 = has_room s by (Rerouted route) r in
+    record { staged = k.staged; on_a_leg = omega arith; few_legs = omega arith; next_leg = λ h. absurd (some_is_none _ (rw h at r)) }
 sound_said s by number at body k r = kept s (an by number at body) k refl refl (λ h. cc)
 
 -- an event that may come next leaves the state sound
