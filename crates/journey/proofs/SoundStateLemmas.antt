@@ -6,9 +6,8 @@ use Rattle.journey.proofs.LegPositionLemmas.{stage-push, plan-push, leg_index-pu
 use Rattle.journey.proofs.OnItsWayLemmas.{some_right}
 
 or-false : (a b : Bool) → (a || (b || false)) ≡ (a || b)
-or-false true b = refl
-or-false false true = refl
-or-false false false = refl
+or-false a true = refl
+or-false a false = refl
 
 any-push : {A : Type 0} (p : A → Bool) (xs : List A) (x : A) → list_any p (xs ++ x ∷ []) ≡ (list_any p xs || p x)
 any-push p xs x = list_any-append p xs (x ∷ []) ∙ or-false (list_any p xs) (p x)

@@ -39,8 +39,12 @@ impl Legs {
         requires few { length legs.now ≤ 8 }
         ensures { result ≡ legs.now }
     {
+        let mut row = Row {
+            items: [legs[0]; MAX_LEGS],
+        };
+        put_behind(&mut row.items, 0, legs);
         Legs {
-            row: row_of(legs),
+            row,
             count: legs.len(),
         }
     }
@@ -90,17 +94,6 @@ impl Legs {
         put_behind(&mut self.row.items, behind, route);
         self.count = behind + route.len();
     }
-}
-
-// A row that begins with these legs.
-fn row_of(legs: &[Leg]) -> Row
-    requires some { 0 < length legs.now }
-    requires few { length legs.now ≤ 8 }
-    ensures { take (length legs.now) result.items ≡ legs.now }
-{
-    let mut items = [legs[0]; MAX_LEGS];
-    put_behind(&mut items, 0, legs);
-    Row { items }
 }
 
 // Puts legs behind the first so many.
