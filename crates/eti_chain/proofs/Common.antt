@@ -29,6 +29,6 @@ pub use Rattle.journey.specs.declared.journey_state.JourneyState.{JourneyState}
 pub use Rattle.journey.proofs.LegPositionLemmas.{legs-push, leg_index-push, stage-push, timed_length}
 pub use Rattle.journey.proofs.NewestLemmas.{newest-push, since-push}
 pub use Rattle.journey.proofs.SoundStateLemmas.{plan-kept, passed}
-pub use Rattle.eti_chain.specs.EstimateStates.{with_delay_of, IsWithin, anchor_after, EstimatesState, state_with_commitment, estimates_state, EstimateAnchor, anchor_with_commitment, estimate_anchor, end_before, EstimatesInTurn}
+pub use Rattle.eti_chain.specs.EstimateStates.{IsWithin, anchor_after, EstimatesState, state_with_commitment, estimates_state, EstimateAnchor, anchor_with_commitment, estimate_anchor, end_before, EstimatesInTurn}
 pub use Rattle.eti_chain.specs.Estimates.{anchor_in, anchor, EstimateBasis, basis_from, estimate_basis, minutes_in, base_in, delays_of, end_in, eta_in, fits_in, fits, delay_in, delays, delayed_by, commitment, is_calendar_checked, lateness}
 pub use Rattle.eti_chain.specs.declared.anchor.Anchor.{Anchor}

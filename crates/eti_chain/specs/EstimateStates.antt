@@ -3,17 +3,12 @@ use Rattle.std.specs.Prelude.{ℕ, ◌≡◌, ◌+◌, ◌≤◌, ◌<◌, ◌^�
 use Rattle.std.specs.Option.{option_or}
 use Rattle.taf_moment.specs.Calendar.{last_minute}
 use Rattle.journey.specs.declared.event.Event.{Event}
-use Rattle.journey.specs.declared.event.EventBody.{EventBody}
 use Rattle.eti_chain.specs.declared.anchor.Anchor.{Anchor}
 use Rattle.eti_chain.specs.Estimates.{EstimateBasis, estimate_basis, anchor, anchor_in, delay_in, delayed_by, delays_of, base_in, fits_in, commitment}
 
--- the anchor, if there is one, with the delay of one event more
-abbrev pub with_delay_of : Option Anchor → EventBody → Option Anchor
-with_delay_of before body = option_map (delayed_by (delay_in body)) before
-
--- the newest anchor after one event more
+-- the newest anchor after one event more: the event, or else the one before with the delay of the event
 abbrev pub anchor_after : Option Anchor → Event → Option Anchor
-anchor_after before e = option_or (anchor_in e.at e.body) (with_delay_of before e.body)
+anchor_after before e = option_or (anchor_in e.at e.body) (option_map (delayed_by (delay_in e.body)) before)
 
 -- the estimates: what they are counted from, and the moment to which the plan committed
 pub record EstimatesState : Type 0 where
