@@ -12,8 +12,7 @@ pub use Rattle.std.proofs.lemmas.List.Sums.{fold-append}
 pub use Rattle.taf_codes.specs.Words.{first_of, is_text}
 pub use Rattle.taf_codes.specs.declared.code.Railway.{Railway}
 pub use Rattle.trip_plan.specs.declared.parts.Leg.{Leg}
-pub use Rattle.taf_messages.specs.declared.movement.MovementKind.{MovementKind}
-pub use Rattle.taf_messages.specs.declared.movement.MovementKind.TheVariants.{Release, Departure, YardArrival, YardDeparture, Exception, Estimate, Arrival, Delivery}
+pub use Rattle.taf_messages.specs.declared.movement.MovementKind.TheVariants.{Departure, Exception, Estimate, Delivery}
 pub use Rattle.taf_messages.specs.declared.record.Stage.{Stage}
 pub use Rattle.taf_messages.specs.declared.reply.Why.TheVariants.{WrongStage}
 pub use Rattle.journey.specs.Checks.{checks, refusal, route_checks, same_stage}
@@ -21,7 +20,7 @@ pub use Rattle.journey.specs.Journey.{Journey}
 pub use Rattle.journey.specs.JourneyStates.{earlier_state, journey_state, journey_state_after}
 pub use Rattle.journey.specs.Legs.{LegPosition, leg_position, leg_position_after, index_after, legs, legs_after, with_leg_minutes, HasRoom, HaveRoom, lead_of, lead_in, yard_in}
 pub use Rattle.journey.specs.NewestLegs.{EventOnLeg, with_minutes, events_on_legs_from, events_on_legs, route_leg, leg_set, minutes_set, count_set, count_by_newest, leg_by_newest, IsPlanOfLegs, AllAdmitted, IsJourney, OnLegsByCount, LegsAreTheNewest, AsManyLegs, RerouteUndoesTimes}
-pub use Rattle.journey.specs.Stages.{stage, stage_after, leg_index, is_reception, plan, plan_in, moved_to, is_delivery, is_delivered, responsible, is_on_its_way, is_departure, has_departed, new_responsible, is_plan, has_later_plan}
+pub use Rattle.journey.specs.Stages.{stage, stage_after, leg_index, is_reception, plan, plan_in, is_delivery, is_delivered, responsible, is_on_its_way, is_departure, has_departed, new_responsible, is_plan, has_later_plan}
 pub use Rattle.journey.specs.TrackStates.{IsSound, IsTrackState, first_plan, without_newest}
 pub use Rattle.journey.specs.Words.{newest, since}
 pub use Rattle.journey.specs.declared.event.Event.{Event}
