@@ -1,9 +1,5 @@
 -- Estimates within the calendar.
-use Rattle.std.proofs.Common.{take_all}
-use Rattle.std.proofs.lemmas.Bool.{cases_lt}
-use Rattle.std.proofs.lemmas.Bool.Decides.{nat_tests}
-use Rattle.std.proofs.lemmas.List.Sums.{sum_by-take-le}
-use Rattle.eti_chain.proofs.Common.{inl, inr, length-drop, IfSome, ◌≡◌, ℕ, ◌+◌, ◌-◌, ◌≤◌, ◌<◌, Bool, true, false, cond, ltb, leb, List, [], ◌∷◌, length, get_or, take, drop, Option, Some, None, refl, ap, ◌∙◌, sym, arith, zero-add, ◌&&◌, nat_le, sum_by, slice_range, filter_map, option_map, list_all, range_with_len, cons_option, and_from, leb-true, le-leb, lt-ltb, cond-true, cond_both, AllPass-from_list_all, list_all-from_AllPass, get_or-range_with_len, length-range_with_len, last_minute, Leg, EstimateAt, Anchor, EstimateBasis, basis_from, minutes_in, delays_of, end_in, eta_in, fits_in, IsWithin}
+use Rattle.eti_chain.proofs.Common.{IfSome, inl, inr, cases_lt, nat_tests, take_all, length-drop, sum_by-take-le, ◌≡◌, ℕ, ◌+◌, ◌-◌, ◌≤◌, ◌<◌, Bool, true, false, cond, ltb, leb, List, [], ◌∷◌, length, get_or, take, drop, Option, Some, None, refl, ap, ◌∙◌, sym, arith, zero-add, ◌&&◌, nat_le, sum_by, slice_range, filter_map, option_map, list_all, range_with_len, cons_option, and_from, leb-true, le-leb, lt-ltb, cond-true, cond_both, AllPass-from_list_all, list_all-from_AllPass, get_or-range_with_len, length-range_with_len, last_minute, Leg, EstimateAt, Anchor, EstimateBasis, basis_from, minutes_in, delays_of, end_in, eta_in, fits_in, IsWithin}
 
 -- ---- the end of a leg
 

@@ -1,6 +1,5 @@
 -- The end of a leg goes on from the end of the leg before.
-use Rattle.std.proofs.lemmas.List.Sums.{sum_by_more}
-use Rattle.eti_chain.proofs.Common.{◌≡◌, ℕ, ◌+◌, ◌-◌, ◌≤◌, ◌<◌, leb, ltb, List, length, get_or, take, drop, Option, Some, None, refl, ap, ◌∙◌, sym, arith, ◌&&◌, sum_by, get_or-drop, length-drop, option_map, IfSome, and_from, le-leb, lt-ltb, cond-true, last_minute, Leg, EstimateBasis, base_in, delays_of, end_in, end_before, IsWithin}
+use Rattle.eti_chain.proofs.Common.{sum_by_more, ◌≡◌, ℕ, ◌+◌, ◌-◌, ◌≤◌, ◌<◌, leb, ltb, List, length, get_or, take, drop, Option, Some, None, refl, ap, ◌∙◌, sym, arith, ◌&&◌, sum_by, get_or-drop, length-drop, option_map, IfSome, and_from, le-leb, lt-ltb, cond-true, last_minute, Leg, EstimateBasis, base_in, delays_of, end_in, end_before, IsWithin}
 use Rattle.eti_chain.proofs.CalendarLemmas.{end-fits}
 
 abbrev minutes_of : List Leg → ℕ
