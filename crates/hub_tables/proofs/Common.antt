@@ -53,9 +53,9 @@ pub use Rattle.hub_model.specs.Laws.{OpenIsOffered}
 pub use Rattle.hub_model.specs.Units.{units_in, is_unit_busy}
 pub use Rattle.hub_model.specs.Updates.{after_acceptance, plan_given, unit_plan_given, offer_given, opening_given, planned_in, fleet_after, each_wagon}
 pub use Rattle.hub_model.specs.declared.fault.Fault.{Fault}
-pub use Rattle.hub_tables.specs.Acceptance.{HasAccepted, with_event_of, IsStateBefore, without_newest_of}
-pub use Rattle.hub_tables.specs.Changes.{continued_in, gone_on, changed, known_before, IsChange, AreChanges, HasGoneOn, IsTaken, with_wagons}
-pub use Rattle.hub_tables.specs.GoingOn.{wagon_refusal, KeepsCalendar, GoesOn, Passes, IsKept, after_each, HaveGoneOn, IsGoneOnOrRefused}
+pub use Rattle.hub_tables.specs.Acceptance.{HasAccepted, IsStateBefore}
+pub use Rattle.hub_tables.specs.Changes.{continued_in, gone_on, changed, known_before, IsChange, AreChanges, HasGoneOn, IsTaken, with_journey}
+pub use Rattle.hub_tables.specs.GoingOn.{wagon_refusal, KeepsCalendar, GoesOn, Passes, after_each, HaveGoneOn, IsGoneOnOrRefused}
 pub use Rattle.hub_tables.specs.TableStates.{TableEntries, table_state, table_part, continues_journeys, events_in, IsJourneyEntry, AreJourneyEntries, IsAcceptable}
 pub use Rattle.hub_tables.specs.declared.changes.Change.{Change}
 pub use Rattle.hub_tables.specs.declared.wagon.WagonState.{WagonState}

@@ -1,5 +1,5 @@
 -- Journeys that go on in the table of wagons.
-use Rattle.hub_tables.proofs.Common.{◌≡◌, ℕ, ◌==◌, Bool, true, false, cond, List, [], ◌∷◌, ◌++◌, length, Option, Some, IfSome, refl, sym, ap, subst, ◌∙◌, arith, true≢false, if◌then◌else◌, nat_eq, option_map_or, lookup, keys_of, update_all, IndexMap, get, insert_entry, insert_all, eqb-true, numbers, Event, Journey, is_unknown, is_some, first_plan, without_newest, WagonState, IsStateBefore, events_in, IsJourneyEntry, AreJourneyEntries, slice_get, map, zero, suc, lookup_from_place, is_equivalence, same_Some, values, with_value_at, IsUnique, updates-with_value_at}
+use Rattle.hub_tables.proofs.Common.{◌≡◌, ℕ, ◌==◌, Bool, true, false, cond, List, [], ◌∷◌, ◌++◌, length, Option, Some, IfSome, refl, sym, ap, subst, ◌∙◌, arith, true≢false, if◌then◌else◌, nat_eq, option_map_or, lookup, keys_of, update_all, IndexMap, get, insert_entry, insert_all, eqb-true, numbers, Event, Journey, is_unknown, is_some, first_plan, without_newest, WagonState, IsStateBefore, events_in, IsJourneyEntry, AreJourneyEntries, slice_get, map, zero, suc, lookup_from_place, is_equivalence, same_Some, values, with_value_at, IsUnique, updates-with_value_at, keys-with_value_at, ConsignmentId, UnitCode, Trip, OfferTable, table_state, with_journey}
 
 pub nothing_left : {X : Type 0} (xs : List X) → length xs ≡ 0 → xs ≡ []
 nothing_left [] h = refl
@@ -55,8 +55,14 @@ module _ {S : Type 0} (wagons : IndexMap ℕ Journey S) (w position : ℕ) (j : 
       put_by q true same = ap (λ (t : Journey). t.events) put ∙ ap change (sym there ∙ ap (events_in before) (eqb-true w q same))
       put_by q false same = refl
 
-      pub put_there : (q : ℕ) → events_in after q ≡ (if w == q then change (events_in before q) else events_in before q)
+      put_there : (q : ℕ) → events_in after q ≡ (if w == q then change (events_in before q) else events_in before q)
       put_there q = ap of_journey (written q) ∙ put_by q (nat_eq w q) refl
+
+      -- all else that is known is as it was
+      pub known_there : (plans : List (ConsignmentId × Trip)) (units : List (UnitCode × Trip)) (offers : OfferTable) →
+          table_state (record { wagons = after; plans = plans; units = units; offers = offers }) ≡ with_journey (table_state (record { wagons = before; plans = plans; units = units; offers = offers })) w change
+      known_there plans units offers =
+          λ i. record (table_state (record { wagons = before; plans = plans; units = units; offers = offers })) { journey = λ q. put_there q i; fleet = keys-with_value_at wagons position k i }
 
       module _ (journeys : AreJourneyEntries before) (begun : is_unknown (change j.events) ≡ false) where
         here : IsJourneyEntry w j
@@ -80,8 +86,11 @@ module _ {S : Type 0} (wagons : IndexMap ℕ Journey S) (w position : ℕ) (j : 
     begun_there journeys = (subst (λ (o : Option Journey). IfSome o (IsJourneyEntry w)) found (journeys w)).begun
 
     -- the same journey is written again, as where memory is refused
-    pub kept_there : (k : Journey) → k ≡ j → (q : ℕ) → events_in (with_value_at wagons position k).entries q ≡ events_in before q
-    kept_there k same q = put_there k (λ events. events) same q ∙ either_way (w == q) (events_in before q)
+    pub kept_there : (k : Journey) → k ≡ j → (plans : List (ConsignmentId × Trip)) (units : List (UnitCode × Trip)) (offers : OfferTable) →
+        table_state (record { wagons = (with_value_at wagons position k).entries; plans = plans; units = units; offers = offers }) ≡ table_state (record { wagons = before; plans = plans; units = units; offers = offers })
+    kept_there k same plans units offers =
+        known_there k (λ events. events) same plans units offers ∙
+        (λ i. record (table_state (record { wagons = before; plans = plans; units = units; offers = offers })) { journey = λ q. either_way (w == q) (events_in before q) i })
 
 -- a journey with an event more has begun
 pub still_begun : (events : List Event) (e : Event) → is_unknown (events ++ e ∷ []) ≡ false

@@ -1,24 +1,11 @@
 -- Journeys that go on by a message, one after another.
-use Rattle.hub_tables.proofs.Common.{or_none_left, ◌≡◌, ℕ, ◌+◌, ◌<◌, ◌≤◌, ◌==◌, ◌||◌, Bool, true, false, if◌then◌else◌, List, [], ◌∷◌, ◌++◌, Option, Some, None, refl, sym, ap, subst, ◌∙◌, true≢false, inl, inr, bytes_eq, lookup, keys_of, slice_get, or_cases, or_right, eqb-true, numbers, All, All-head, All-tail, All-cons, All-nil, All-push, has, all_differ, Message, Body, Event, without_newest, without_newest-push, offer_of, is_standing, HubState, new_state, named_wagons, event_for, journey_after, with_event, whole_fault, first_fault, fault, Fault, TableEntries, table_state, events_in, continues_journeys, IsStateBefore, with_event_of, Change, continued_in, changed, known_before, IsChange, AreChanges, HasGoneOn, IsTaken, wagon_refusal, Passes, IsKept, after_each, HaveGoneOn, GoesOn, Why, fits, length, take, drop, get_or, take_all, take_more, take-append-drop, at_drop_all, at_drop_more, option_or, option_map}
+use Rattle.hub_tables.proofs.Common.{or_none_left, ◌≡◌, ℕ, ◌+◌, ◌<◌, ◌≤◌, ◌==◌, ◌||◌, Bool, true, false, if◌then◌else◌, List, [], ◌∷◌, ◌++◌, Option, Some, None, refl, sym, ap, subst, ◌∙◌, true≢false, inl, inr, slice_get, or_cases, eqb-true, numbers, All-head, All-cons, All-nil, All-push, has, all_differ, Message, Body, Event, without_newest, without_newest-push, HubState, named_wagons, event_for, journey_after, with_event, whole_fault, first_fault, fault, Fault, TableEntries, table_state, events_in, continues_journeys, IsStateBefore, Change, continued_in, changed, known_before, IsChange, AreChanges, HasGoneOn, IsTaken, wagon_refusal, Passes, after_each, with_journey, HaveGoneOn, GoesOn, Why, fits, length, take, drop, get_or, take_all, take_more, take-append-drop, at_drop_all, at_drop_more, option_or, option_map}
 use Rattle.taf_messages.specs.declared.message.Body.TheVariants as body
 use Rattle.hub_tables.proofs.CheckLemmas.{at_wagon, each_fault}
 use Rattle.hub_tables.proofs.ContinuationLemmas.{both_asked}
-use Rattle.hub_tables.proofs.ChangeLemmas.{changed_more}
+use Rattle.hub_tables.proofs.ChangeLemmas.{changed_more, each_same}
 use Rattle.hub_tables.proofs.DifferLemmas.{or_false, has_last, named_apart, differ_first, next_differs}
 use Rattle.hub_tables.proofs.NextEventLemmas.{comes_last, has_at}
-
--- tables that have the same entries but for journeys know the same but for journeys
-same_but_journeys : (t u : TableEntries) (f g : ℕ → List Event) → ((w : ℕ) → f w ≡ g w) → keys_of t.wagons ≡ keys_of u.wagons → t.plans ≡ u.plans → t.units ≡ u.units → t.offers ≡ u.offers →
-    record (table_state t) { journey = f } ≡ record (table_state u) { journey = g }
-same_but_journeys t u f g journeys keys plans units offers =
-    λ i. record new_state {
-      journey = λ w. journeys w i;
-      plan_of = λ c. lookup (bytes_eq c) (plans i);
-      unit_plan = λ k. lookup (bytes_eq k) (units i);
-      offer = offer_of (offers i);
-      is_open = is_standing (offers i);
-      fleet = keys i;
-    }
 
 -- the message comes last in the journey of a wagon that passes its checks
 passed_last : (s : HubState) (m : Message) (w : ℕ) → Passes s m w → journey_after s m w ≡ s.journey w ++ event_for s.offer m w ∷ []
@@ -34,14 +21,17 @@ module _ (old new : TableEntries) (m : Message) (c : Change) (e : Event) (is : e
       subst (λ (v : ℕ). s.journey v ++ e ∷ [] ≡ journey_after s m v) (eqb-true c.wagon w same) (ap (λ x. s.journey c.wagon ++ x ∷ []) is ∙ sym (passed_last s m c.wagon passes))
   on_by w false same = refl
 
-  pub one_on : IsKept s m c → keys_of new.wagons ≡ keys_of old.wagons → new.plans ≡ old.plans → new.units ≡ old.units → new.offers ≡ old.offers →
-      ((w : ℕ) → events_in new.wagons w ≡ with_event_of c.wagon e s.journey w) → HaveGoneOn s new m (c.wagon ∷ []) (c ∷ [])
-  one_on kept keys plans units offers events = record {
-    known = same_but_journeys new old (events_in new.wagons) (after_each s m (c.wagon ∷ [])).journey (λ w. events w ∙ on_by w (c.wagon == w) refl) keys plans units offers;
-    wagons = refl;
-    passed = λ w h. subst (Passes s m) (eqb-true c.wagon w (sym (or_false (c.wagon == w)) ∙ h)) passes;
-    before = All-cons (IsKept s m) c [] kept (All-nil (IsKept s m));
-  }
+  pub one_on : slice_get s.fleet c.position ≡ Some c.wagon → IsStateBefore (s.journey c.wagon ++ e ∷ []) c.before → table_state new ≡ with_journey s c.wagon (λ events. events ++ e ∷ []) → HaveGoneOn s new m (c.wagon ∷ []) (c ∷ [])
+  one_on position before put =
+      let last = ap (λ (k : HubState). k.journey c.wagon) put ∙ ap (λ (b : Bool). if b then s.journey c.wagon ++ e ∷ [] else s.journey c.wagon) (numbers.itself c.wagon) in
+      let position_is = ap (λ (k : HubState). slice_get k.fleet c.position) put ∙ position in
+      let change : IsChange new c = record { position_is = position_is; before_is = subst (λ (es : List Event). IsStateBefore es c.before) (sym last) before } in
+      record {
+        known = put ∙ (λ i. record s { journey = λ w. on_by w (c.wagon == w) refl i });
+        wagons = refl;
+        passed = λ w h. subst (Passes s m) (eqb-true c.wagon w (sym (or_false (c.wagon == w)) ∙ h)) passes;
+        each = All-cons (IsChange new) c [] change (All-nil (IsChange new));
+      }
 
 module _ (s : HubState) (m : Message) where
   -- journeys of others matter to no check of a wagon
@@ -74,19 +64,15 @@ module _ (s : HubState) (m : Message) where
     joined v false true apart = refl
     joined v false false apart = refl
 
-    is_w : (v : ℕ) → v ∷ [] ≡ w ∷ [] → v ≡ w
-    is_w v h = cc
-
     passed_too : (v : ℕ) → (w == v) ≡ true → Passes s m v
     passed_too v same =
         let there = next.passed v (ap (λ (b : Bool). b || false) same) in
         record { is_named = there.is_named; admits = sym (same_refusal ws v (ap (has ws) (sym (eqb-true w v same)) ∙ out)) ∙ there.admits }
 
-    kept_too : IsKept s m c
-    kept_too =
-        let kept = All-head (IsKept k m) c [] next.before in
-        let elsewhere : has ws c.wagon ≡ false = ap (has ws) (is_w c.wagon next.wagons) ∙ out in
-        record { position_is = kept.position_is; before_is = subst (λ (es : List Event). IsStateBefore es c.before) (same_after ws c.wagon elsewhere) kept.before_is }
+    stays : (v : ℕ) → has (changed cs) v ≡ true → events_in u.wagons v ≡ events_in t.wagons v
+    stays v h =
+        let other = named_apart ws w v out (sym (ap (λ (us : List ℕ). has us v) on.wagons) ∙ h) in
+        ap (λ (k : HubState). k.journey v) one.known ∙ ap (λ (b : Bool). if b || false then journey_after (table_state t) m v else events_in t.wagons v) other
 
     pub one_more : HaveGoneOn s u m (ws ++ w ∷ []) (cs ++ c ∷ [])
     one_more = record {
@@ -98,7 +84,7 @@ module _ (s : HubState) (m : Message) where
         | inl e ↦ on.passed v e
         | inr e ↦ passed_too v e
       ];
-      before = All-push (IsKept s m) cs c on.before kept_too;
+      each = All-push (IsChange u) cs c (each_same t u (ap (λ (k : HubState). k.fleet) one.known) cs stays on.each) (All-head (IsChange u) c [] one.each);
     }
 
   -- journeys that have gone on can be taken back
@@ -115,21 +101,8 @@ module _ (s : HubState) (m : Message) where
         (λ i. let k = on.known i in record k { journey = λ w. if has (on.wagons i) w then without_newest (k.journey w) else k.journey w }) ∙
         (λ i. record s { journey = λ w. back_by w (has ws w) refl i })
 
-    each_change : (ds : List Change) → ((w : ℕ) → has (changed ds) w ≡ true → has ws w ≡ true) → All (IsKept s m) ds → All (IsChange t) ds
-    each_change [] among all = All-nil (IsChange t)
-    each_change (c ∷ ds) among all =
-        let kept = All-head (IsKept s m) c ds all in
-        let here = among c.wagon (ap (λ (b : Bool). b || has (changed ds) c.wagon) (numbers.itself c.wagon)) in
-        let after : events_in t.wagons c.wagon ≡ journey_after s m c.wagon = ap (λ (k : HubState). k.journey c.wagon) on.known ∙ ap (λ (b : Bool). if b then journey_after s m c.wagon else s.journey c.wagon) here in
-        All-cons (IsChange t) c ds
-        (record {
-          position_is = ap (λ (k : HubState). slice_get k.fleet c.position) on.known ∙ kept.position_is;
-          before_is = subst (λ (es : List Event). IsStateBefore es c.before) (sym after) kept.before_is;
-        })
-        (each_change ds (λ w h. among w (or_right (c.wagon == w) (has (changed ds) w) h)) (All-tail (IsKept s m) c ds all))
-
     pub are_changes : all_differ ws ≡ true → AreChanges t cs
-    are_changes differ = record { differ = ap all_differ on.wagons ∙ differ; each = each_change cs (λ w h. ap (λ (us : List ℕ). has us w) (sym on.wagons) ∙ h) on.before }
+    are_changes differ = record { differ = ap all_differ on.wagons ∙ differ; each = on.each }
 
   twice : (b : Bool) (x y : List Event) → (if b then (if b then x else y) else y) ≡ (if b then x else y)
   twice true x y = refl
@@ -145,7 +118,6 @@ module _ (s : HubState) (m : Message) where
             on.known ∙
             (λ i. record s { journey = λ w. (twice (has named w) (with_event (s.journey w) (event_for s.offer m w)) (s.journey w) ∙ ap (λ (b : Bool). if b then journey_after s m w else s.journey w) (sym goes)) i });
         wagons = on.wagons ∙ sym same;
-        admitted = λ w h. or_none_left _ _ (on.passed w (ap (λ (us : List ℕ). has us w) (sym same) ∙ h)).admits;
         changes = are_changes t named cs on differ;
         before = was_before t named cs on;
       }
@@ -160,7 +132,6 @@ plan_taken t m cs None goes empty is =
       subst (HasGoneOn s t m) (sym empty) (record {
         known = sym (ap (λ (b : Bool). record s { journey = λ w. if b then journey_after s m w else s.journey w }) goes);
         wagons = sym none;
-        admitted = λ w h. absurd (true≢false (sym h ∙ ap (λ (us : List ℕ). has us w) none));
         changes = record { differ = refl; each = All-nil (IsChange t) };
         before = refl;
       }),
@@ -175,7 +146,7 @@ module _ (s : HubState) (m : Message) (goes : GoesOn s m) (wagons : List ℕ) (n
     -- where nothing more is changed, all are taken back
     module _ (u : TableEntries) (same : table_state u ≡ table_state t) where
       still_on : HaveGoneOn s u m (take i wagons) cs
-      still_on = record { known = same ∙ on.known; wagons = on.wagons; passed = on.passed; before = on.before }
+      still_on = record { known = same ∙ on.known; wagons = on.wagons; passed = on.passed; each = each_same t u (ap (λ (k : HubState). k.fleet) same) cs (λ w h. ap (λ (k : HubState). k.journey w) same) on.each }
 
       pub changes_so_far : AreChanges u cs
       changes_so_far = are_changes s m u (take i wagons) cs still_on so_far_differ

@@ -1,5 +1,5 @@
 -- How the tables take a message.
-use Rattle.std.specs.Prelude.{◌≡◌, ℕ, ◌==◌, true, if◌then◌else◌, List, [], ◌∷◌, ◌++◌, unwrap_or, bytes_eq}
+use Rattle.std.specs.Prelude.{◌≡◌, ℕ, true, List, [], ◌∷◌, unwrap_or, bytes_eq}
 use Rattle.std.specs.Option.{option_or}
 use Rattle.std.specs.Map.{lookup, keys_of}
 use Rattle.taf_codes.specs.declared.code.Railway.{Railway}
@@ -23,14 +23,6 @@ use Rattle.hub_tables.specs.declared.wagon.WagonState.{WagonState}
 pub record IsBeginning (e : Event) : Type 0 where
   pub plan : is_plan e.body ≡ true
   pub fits_after : fits (e ∷ []) ≡ true
-
--- the events of each wagon once the event of one is put at the end of its journey
-abbrev pub with_event_of : ℕ → Event → (ℕ → List Event) → ℕ → List Event
-with_event_of wagon e events w = if wagon == w then events w ++ e ∷ [] else events w
-
--- the events of each wagon once the newest event of one is taken back
-abbrev pub without_newest_of : ℕ → (ℕ → List Event) → ℕ → List Event
-without_newest_of wagon events w = if wagon == w then without_newest (events w) else events w
 
 -- this was kept beside the events of a wagon before the newest of them
 pub record IsStateBefore (events : List Event) (s : WagonState) : Type 0 where

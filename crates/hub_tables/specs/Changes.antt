@@ -1,12 +1,12 @@
 -- What a message changed of journeys, and what was known before.
-use Rattle.std.specs.Prelude.{◌≡◌, ℕ, true, if◌then◌else◌, List, [], All, map, slice_get, Option, Some, None}
+use Rattle.std.specs.Prelude.{◌≡◌, ℕ, ◌==◌, true, if◌then◌else◌, List, [], All, map, slice_get, Option, Some, None}
 use Rattle.std.specs.Map.{keys_of}
 use Rattle.trip_plan.specs.Rules.{has, all_differ}
 use Rattle.taf_messages.specs.declared.message.Message.{Message}
-use Rattle.journey.specs.Journey.{Journey}
+use Rattle.journey.specs.declared.event.Event.{Event}
 use Rattle.journey.specs.TrackStates.{without_newest}
 use Rattle.hub_model.specs.HubState.{HubState, named_wagons, journey_after}
-use Rattle.hub_model.specs.Faults.{fault, known_fault}
+use Rattle.hub_model.specs.Faults.{fault}
 use Rattle.hub_model.specs.declared.fault.Fault.{Fault}
 use Rattle.hub_tables.specs.TableStates.{TableEntries, events_in, table_state, continues_journeys}
 use Rattle.hub_tables.specs.Acceptance.{IsStateBefore}
@@ -24,9 +24,9 @@ gone_on s m = record s { journey = λ w. if continues_journeys m.body then journ
 abbrev pub changed : List Change → List ℕ
 changed cs = map (λ c. c.wagon) cs
 
--- tables that have these wagons and nothing else
-abbrev pub with_wagons : List (ℕ × Journey) → TableEntries
-with_wagons wagons = record { wagons = wagons; plans = []; units = []; offers = record { offers = []; spare = 0 } }
+-- what is known once the journey of one wagon is changed so, and nothing else
+abbrev pub with_journey : HubState → ℕ → (List Event → List Event) → HubState
+with_journey s wagon change = record s { journey = λ w. if wagon == w then change (s.journey w) else s.journey w }
 
 -- what was known before the newest event of each of these wagons
 abbrev pub known_before : TableEntries → List Change → HubState
@@ -42,11 +42,10 @@ pub record AreChanges (t : TableEntries) (cs : List Change) : Type 0 where
   pub differ : all_differ (changed cs) ≡ true
   pub each : All (IsChange t) cs
 
--- the journeys of the message's wagons, each of which admitted it, have gone on by it
+-- the journeys of the message's wagons have gone on by it
 pub record HasGoneOn (s : HubState) (t : TableEntries) (m : Message) (cs : List Change) : Type 0 where
   pub known : table_state t ≡ gone_on s m
   pub wagons : changed cs ≡ continued_in s m
-  pub admitted : (w : ℕ) → has (continued_in s m) w ≡ true → known_fault s m w ≡ None
   pub changes : AreChanges t cs
   pub before : known_before t cs ≡ s
 

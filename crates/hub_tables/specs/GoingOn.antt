@@ -1,5 +1,5 @@
 -- How the journeys of a message's wagons go on by it, one after another.
-use Rattle.std.specs.Prelude.{◌≡◌, ℕ, true, if◌then◌else◌, List, [], ◌∷◌, ◌++◌, All, slice_get, Option, Some, None}
+use Rattle.std.specs.Prelude.{◌≡◌, ℕ, true, if◌then◌else◌, List, [], ◌∷◌, ◌++◌, All, Option, Some, None}
 use Rattle.std.specs.Option.{option_or}
 use Rattle.trip_plan.specs.Rules.{has, all_differ}
 use Rattle.taf_messages.specs.declared.message.Message.{Message}
@@ -9,8 +9,7 @@ use Rattle.hub_model.specs.HubState.{HubState, named_wagons, journey_after}
 use Rattle.hub_model.specs.Faults.{whole_fault, known_fault, calendar_fault}
 use Rattle.hub_model.specs.Laws.{OpenIsOffered}
 use Rattle.hub_tables.specs.TableStates.{TableEntries, table_state, continues_journeys}
-use Rattle.hub_tables.specs.Acceptance.{IsStateBefore}
-use Rattle.hub_tables.specs.Changes.{changed}
+use Rattle.hub_tables.specs.Changes.{changed, IsChange}
 use Rattle.hub_tables.specs.declared.changes.Change.{Change}
 
 -- the checks of one wagon whose journey goes on by the message: by its own events, and then by the calendar
@@ -34,21 +33,16 @@ pub record Passes (s : HubState) (m : Message) (w : ℕ) : Type 0 where
   pub is_named : has (named_wagons s.offer m) w ≡ true
   pub admits : wagon_refusal s m w ≡ None
 
--- the wagon stands at its position of the fleet, and this was kept beside its events before the message
-pub record IsKept (s : HubState) (m : Message) (c : Change) : Type 0 where
-  pub position_is : slice_get s.fleet c.position ≡ Some c.wagon
-  pub before_is : IsStateBefore (journey_after s m c.wagon) c.before
-
 -- what is known once the journeys of these wagons have gone on by the message
 abbrev pub after_each : HubState → Message → List ℕ → HubState
 after_each s m ws = record s { journey = λ w. if has ws w then journey_after s m w else s.journey w }
 
--- the journeys of these wagons, which passed their checks, have gone on by the message, and the changes tell what was kept before
+-- the journeys of these wagons, which passed their checks, have gone on by the message with these changes
 pub record HaveGoneOn (s : HubState) (t : TableEntries) (m : Message) (ws : List ℕ) (cs : List Change) : Type 0 where
   pub known : table_state t ≡ after_each s m ws
   pub wagons : changed cs ≡ ws
   pub passed : (w : ℕ) → has ws w ≡ true → Passes s m w
-  pub before : All (IsKept s m) cs
+  pub each : All (IsChange t) cs
 
 -- the wagon's journey has gone on by the message, with the change that the list has got
 pub record HasGoneOnWithOneMore (s : HubState) (t : TableEntries) (m : Message) (w : ℕ) (old new : List Change) : Type 0 where

@@ -1,6 +1,8 @@
 //! How the tables take a plan and an offer: first all that may be refused memory, then steps that cannot fail.
-ghost use Rattle.std.specs.Prelude.{◌≡◌, ℕ, IfOk, None, OnErr, OnOk, map, unwrap_or};
+ghost use Rattle.std.specs.Prelude.{◌≡◌, ◌≤◌, ℕ, IfOk, None, OnErr, OnOk, length, map, unwrap_or};
+ghost use Rattle.std.specs.Map.{update_all};
 ghost use Rattle.std.specs.Option.{option_or};
+ghost use Rattle.indexmap.specs.IndexMap.{get, insert_all, spare};
 ghost use Rattle.taf_codes.specs.declared.code.Railway.{Railway};
 ghost use Rattle.taf_messages.specs.declared.message.Body.TheVariants as says;
 ghost use Rattle.interchange.specs.OfferTable.{offer_of, is_standing};
@@ -8,10 +10,11 @@ ghost use Rattle.hub_model.specs.Updates.{offer_given, opening_given};
 ghost use Rattle.hub_tables.specs.TableStates.{IsAcceptable, table_state};
 ghost use Rattle.hub_tables.specs.Acceptance.{HasAccepted};
 
-use crate::enter::enter;
 use crate::tables::Tables;
+use indexmap::IndexMap;
 use interchange::{Offer, Offers};
 use std::alloc::Global;
+use std::hash::Hash;
 use taf_codes::{Memory, UnitCode};
 use taf_messages::{Message, TrainOffer};
 use trip_plan::{Plan, UnitLoad};
@@ -59,6 +62,18 @@ pub(crate) fn accept_offer(
 {
     let made = made_by(message, offer)?;
     offers.open_offer(made)
+}
+
+// Enters each value under its key, in turn. There has to be room for all.
+fn enter<K: Eq + Hash + Drop, V: Drop>(table: &mut IndexMap<K, V>, entries: Vec<(K, V)>)
+    requires { length entries.items ≤ spare table.old }
+    ensures entries { table.new.entries ≡ insert_all K.eq table.old.entries entries.items }
+    ensures values { (key : K) → get K.eq table.new key
+        ≡ update_all K.eq (get K.eq table.old) entries.items key }
+{
+    for (key, value) in entries {
+        let _before = table.insert(key, value).unwrap();
+    }
 }
 
 // Each unit with a copy of the plan.

@@ -1,12 +1,11 @@
 //! Journeys that went on by a message, and how they are taken back.
-ghost use Rattle.std.specs.Prelude.{◌≡◌, ℕ};
-ghost use Rattle.std.specs.Map.{keys_of};
-ghost use Rattle.hub_tables.specs.TableStates.{AreJourneyEntries, events_in};
-ghost use Rattle.hub_tables.specs.Changes.{AreChanges, known_before, with_wagons};
+ghost use Rattle.std.specs.Prelude.{◌≡◌};
+ghost use Rattle.journey.specs.TrackStates.{without_newest};
+ghost use Rattle.hub_tables.specs.TableStates.{table_state};
+ghost use Rattle.hub_tables.specs.Changes.{AreChanges, IsChange, known_before, with_journey};
 
-use crate::enter::take_back;
-use crate::wagon::{Wagon, WagonState};
-use indexmap::IndexMap;
+use crate::tables::Tables;
+use crate::wagon::WagonState;
 use wagon_number::WagonNumber;
 
 /// A wagon whose journey went on by one event.
@@ -19,16 +18,26 @@ pub struct Change {
     pub before: WagonState,
 }
 
-/// Takes these changes of journeys back, the last one first, and leaves none in the list. It takes no memory.
-pub(crate) fn take_back_each(wagons: &mut IndexMap<WagonNumber, Wagon>, changes: &mut Vec<Change>)
-    requires journeys { AreJourneyEntries wagons.old.entries }
-    requires changes { AreChanges (with_wagons wagons.old.entries) changes.old.items }
-    ensures events { (w : ℕ) → events_in wagons.new.entries w
-        ≡ (known_before (with_wagons wagons.old.entries) changes.old.items).journey w }
-    ensures keys { keys_of wagons.new.entries ≡ keys_of wagons.old.entries }
-    ensures journeys { AreJourneyEntries wagons.new.entries }
-{
-    while let Some(change) = changes.pop() {
-        take_back(wagons, change.wagon, change.position, change.before);
+impl Tables {
+    /// Takes these changes of journeys back, the last one first. It takes no memory.
+    pub fn take_back(&mut self, changes: &mut Vec<Change>)
+        requires changes { AreChanges self.old changes.old.items }
+        ensures { table_state self.new ≡ known_before self.old changes.old.items }
+    {
+        while let Some(change) = changes.pop() {
+            self.take_back_one(change);
+        }
+    }
+
+    // Takes the newest event of a wagon back.
+    fn take_back_one(&mut self, change: Change)
+        requires { IsChange self.old change }
+        ensures { table_state self.new
+            ≡ with_journey (table_state self.old) change.wagon without_newest }
+    {
+        match self.wagons.get_index_mut(change.position) {
+            Some(found) => found.take_back(change.before),
+            None => unreachable!(),
+        }
     }
 }

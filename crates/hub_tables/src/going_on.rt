@@ -1,18 +1,19 @@
 //! How the journeys of a message's wagons go on: each wagon is checked, and at once its journey goes on.
-ghost use Rattle.std.specs.Prelude.{◌≡◌, ◌+◌, ◌<◌, ◌≤◌, [], IfOk, None, OnErr, true, vec_capacity, vec_len};
+ghost use Rattle.std.specs.Prelude.{◌≡◌, ◌+◌, ◌<◌, ◌≤◌, [], ◌∷◌, ◌++◌, IfOk, None, OnErr, OnOk, Some, slice_get, true, vec_capacity, vec_len};
 ghost use Rattle.trip_plan.specs.Rules.{has};
+ghost use Rattle.journey.specs.Checks.{refusal};
 ghost use Rattle.eti_chain.specs.Estimates.{fits};
 ghost use Rattle.hub_model.specs.HubState.{journey_after, named_wagons};
 ghost use Rattle.hub_model.specs.Faults.{whole_fault};
 ghost use Rattle.hub_tables.specs.TableStates.{table_state};
-ghost use Rattle.hub_tables.specs.Changes.{IsTaken};
+ghost use Rattle.hub_tables.specs.Changes.{IsTaken, with_journey};
 ghost use Rattle.hub_tables.specs.GoingOn.{GoesOn, IsGoneOnOrRefused, wagon_refusal};
 
 use crate::changes::Change;
-use crate::enter::add;
 use crate::tables::Tables;
 use crate::wagon_checks::event_fault;
 use hub_model::Fault;
+use journey::Event;
 use taf_codes::Memory;
 use taf_messages::{Message, Why};
 use wagon_number::WagonNumber;
@@ -87,10 +88,32 @@ impl Tables {
             position,
             before,
         });
-        if let Err(refused) = add(&mut self.wagons, wagon, position, event) {
+        if let Err(refused) = self.add(wagon, position, event) {
             let _change = changes.pop();
             return Err(refused);
         }
         Ok(None)
+    }
+
+    // Adds an event at the end of the journey of the wagon at a position. Where memory is refused, what is known is as it was.
+    #[inline(always)]
+    fn add(&mut self, wagon: WagonNumber, position: usize, event: Event) -> Result<(), Memory>
+        requires position { slice_get (table_state self.old).fleet position ≡ Some wagon }
+        requires admitted { refusal ((table_state self.old).journey wagon) event.by event.body
+            ≡ None }
+        requires fits { fits ((table_state self.old).journey wagon ++ event ∷ []) ≡ true }
+        ensures ok { OnOk result (table_state self.new
+            ≡ with_journey (table_state self.old) wagon (λ events. events ++ event ∷ [])) }
+        ensures err { OnErr result (table_state self.new ≡ table_state self.old) }
+    {
+        match self.wagons.get_index_mut(position) {
+            Some(found) => {
+                let Ok(()) = found.add(event) else {
+                    return Err(Memory);
+                };
+                Ok(())
+            }
+            None => unreachable!(),
+        }
     }
 }

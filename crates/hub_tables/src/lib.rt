@@ -39,7 +39,6 @@
 
 mod accept;
 mod changes;
-mod enter;
 mod going_on;
 mod tables;
 mod taking;

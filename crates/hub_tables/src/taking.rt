@@ -7,11 +7,11 @@ ghost use Rattle.hub_model.specs.Faults.{whole_fault};
 ghost use Rattle.hub_model.specs.Laws.{OpenIsOffered};
 ghost use Rattle.hub_model.specs.Updates.{after_acceptance};
 ghost use Rattle.hub_tables.specs.TableStates.{IsAcceptable, continues_journeys, table_part, table_state};
-ghost use Rattle.hub_tables.specs.Changes.{AreChanges, HasGoneOn, IsTaken, known_before};
+ghost use Rattle.hub_tables.specs.Changes.{HasGoneOn, IsTaken, known_before};
 ghost use Rattle.hub_tables.specs.GoingOn.{KeepsCalendar};
 
 use crate::accept::accept_offer;
-use crate::changes::{Change, take_back_each};
+use crate::changes::Change;
 use crate::tables::Tables;
 use crate::unit_checks::busy_fault;
 use crate::whole::whole_fault;
@@ -45,14 +45,6 @@ impl Tables {
         self.named_differ(message);
         let wagons = self.named_wagons(alloc, message)?;
         self.go_on_each(message, wagons.as_slice(), changes)
-    }
-
-    /// Takes these changes of journeys back. It takes no memory.
-    pub fn take_back(&mut self, changes: &mut Vec<Change>)
-        requires changes { AreChanges self.old changes.old.items }
-        ensures { table_state self.new ≡ known_before self.old changes.old.items }
-    {
-        take_back_each(&mut self.wagons, changes);
     }
 
     /// Completes what a message changes, once the journeys of its wagons have gone on by it with these changes: the journeys, the

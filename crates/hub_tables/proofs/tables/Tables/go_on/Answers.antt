@@ -1,4 +1,4 @@
-use Rattle.hub_tables.proofs.Common.{or_none_left, ◌++◌, ◌∷◌, [], List, refl, ◌∙◌, sym, ap, Journey, Event, fits, Change, events_in, TableEntries, table_state, subst, IsStateBefore, with_event_of, keys_of}
+use Rattle.hub_tables.proofs.Common.{or_none_left, ◌++◌, ◌∷◌, [], List, refl, ◌∙◌, sym, ap, Journey, Event, fits, Change, table_state, subst, IsStateBefore}
 use Rattle.hub_tables.proofs.ContinuationLemmas.{either_by}
 use Rattle.hub_tables.proofs.NextEventLemmas.{comes_last}
 use Rattle.hub_tables.proofs.GoingOnLemmas.{one_on}
@@ -20,22 +20,19 @@ add-requires-clause-fits c =
     let w = c.args.wagon in
     let events = sym (ap (λ (j : Journey). j.events) c.in-Some.ensures.found) in
     let none = either_by s m w _ _ c.requires.named c.in-Some.ensures.known events (sym c.in_ok-event.ensures) ∙ sym c.event_fault.ensures ∙ c.in_default-event_fault.is in
-    ap (λ (t : TableEntries). fits (events_in t.wagons w ++ c.in_ok-event.event ∷ [])) c.self.view_is ∙ ap (λ (e : Event). fits (s.journey w ++ e ∷ [])) c.in_ok-event.ensures ∙
-    ap fits (sym (comes_last s m w c.requires.named (or_none_left _ _ none))) ∙ c.requires.calendar none
+    ap (λ (e : Event). fits (s.journey w ++ e ∷ [])) c.in_ok-event.ensures ∙ ap fits (sym (comes_last s m w c.requires.named (or_none_left _ _ none))) ∙ c.requires.calendar none
 
 pub returns-clause-ok : goal.returns-clause-ok
 returns-clause-ok c =
     let old = c.args.self.now in
     let m = c.args.message.now in
     let w = c.args.wagon in
-    let is = c.self.view_is in
     let events = sym (ap (λ (j : Journey). j.events) c.in-Some.ensures.found) in
     let none = either_by (table_state old) m w _ _ c.requires.named c.in-Some.ensures.known events (sym c.in_ok-event.ensures) ∙ sym c.event_fault.ensures ∙ c.in_default-event_fault.is in
-    let last = ap (λ (es : List Event). es ++ c.in_ok-event.event ∷ []) (sym events) ∙ ap (λ (e : Event). (table_state old).journey w ++ e ∷ []) c.in_ok-event.ensures ∙ sym (comes_last (table_state old) m w c.requires.named (or_none_left _ _ none)) in
     let change : Change = record { wagon = w; position = c.in-Some.position; before = c.in_ok-before.before } in
     record {
       change = change;
-      gone_on = one_on old _ m change c.in_ok-event.event c.in_ok-event.ensures (record { is_named = c.requires.named; admits = none })
-          (record { position_is = c.in-Some.ensures.position; before_is = subst (λ (es : List Event). IsStateBefore es c.in_ok-before.before) last c.in_ok-before.ensures }) (c.in_default-add.ensures.keys ∙ ap (λ (t : TableEntries). keys_of t.wagons) is) (ap (λ (t : TableEntries). t.plans) is) (ap (λ (t : TableEntries). t.units) is) (ap (λ (t : TableEntries). t.offers) is) (λ v. c.in_default-add.ensures.ok v ∙ ap (λ (t : TableEntries). with_event_of w c.in_ok-event.event (events_in t.wagons) v) is);
+      gone_on = one_on old _ m change c.in_ok-event.event c.in_ok-event.ensures (record { is_named = c.requires.named; admits = none }) c.in-Some.ensures.position
+          (subst (λ (es : List Event). IsStateBefore (es ++ c.in_ok-event.event ∷ []) c.in_ok-before.before) (sym events) c.in_ok-before.ensures) c.in_default-add.ensures.ok;
       listed = c.push_reserved.ensures.items;
     }

@@ -1,5 +1,5 @@
 use Rattle.hub_tables.proofs.Common.{◌≡◌, ◌≤◌, length, update_all, into_iter_items, into_iter_len, get, insert_all, spare}
-use Rattle.hub_tables.proofs.enter.enter.Given as goal
+use Rattle.hub_tables.proofs.accept.enter.Given as goal
 
 abbrev pub invariant-loop-key : goal.invariant-loop-key
 invariant-loop-key g l = record {

@@ -1,6 +1,6 @@
 use Rattle.hub_tables.proofs.Common.{◌≡◌, [], List, length, sym, ap, ◌∙◌, arith, update_all, into_iter_items, get, insert_all}
 use Rattle.hub_tables.proofs.EntryLemmas.{nothing_left, entered_more, values_more}
-use Rattle.hub_tables.proofs.enter.enter.Goals as goal
+use Rattle.hub_tables.proofs.accept.enter.Goals as goal
 
 pub unwrap-before-requires : goal.unwrap-before-requires
 unwrap-before-requires g c =
