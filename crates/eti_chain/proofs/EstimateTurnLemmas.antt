@@ -1,5 +1,5 @@
 -- The end of a leg goes on from the end of the leg before.
-use Rattle.eti_chain.proofs.Common.{sum_by_more, ◌≡◌, ℕ, ◌+◌, ◌-◌, ◌≤◌, ◌<◌, leb, ltb, List, length, get_or, take, drop, Option, Some, None, refl, ap, ◌∙◌, sym, arith, ◌&&◌, sum_by, get_or-drop, length-drop, option_map, IfSome, and_from, le-leb, lt-ltb, cond-true, last_minute, Leg, EstimateBasis, base_in, delays_of, end_in, end_before, IsWithin}
+use Rattle.eti_chain.proofs.Common.{sum_by_more, ◌≡◌, ℕ, ◌+◌, ◌-◌, ◌≤◌, ◌<◌, leb, ltb, List, length, get_or, take, drop, Option, Some, None, refl, ap, ◌∙◌, sym, arith, ◌&&◌, sum_by, get_or-drop, length-drop, option_map, IfSome, and_from, le-leb, lt-ltb, cond-true, last_minute, Leg, EstimateBasis, base_in, delays_of, end_in, eta_in, end_before, IsWithin}
 use Rattle.eti_chain.proofs.CalendarLemmas.{end-fits}
 
 abbrev minutes_of : List Leg → ℕ
@@ -28,6 +28,15 @@ end_later r j l low high =
     ap (λ i. minutes_of (take i later)) count ∙ sum ∙ ap (λ (x : Leg). minutes_of (take n later) + x.minutes) leg in
     cond-true (leb c j && ltb j (length r.legs)) (end_before r (j + 1)) None (and_from (leb c j) (ltb j (length r.legs)) (le-leb c j (omega arith)) (lt-ltb j (length r.legs) high)) ∙
     goes_on (base_in r) (delays_of r.anchor) (minutes_of (take n later)) (minutes_of (take (j + 1 - (c + 1)) later)) (get_or r.legs j l).minutes more
+
+-- once each leg had its turn, that is the end of the last one
+pub end_of_all : (r : EstimateBasis) → r.leg_index < length r.legs → end_before r (length r.legs) ≡ eta_in r
+end_of_all r on =
+    let n = length r.legs in
+    let last : n - 1 + 1 ≡ n = omega arith in
+    sym (
+    cond-true (leb r.leg_index (n - 1) && ltb (n - 1) n) (end_before r (n - 1 + 1)) None (and_from (leb r.leg_index (n - 1)) (ltb (n - 1) n) (le-leb r.leg_index (n - 1) (omega arith)) (lt-ltb (n - 1) n (omega arith))) ∙
+    ap (end_before r) last)
 
 -- and stay within the calendar
 pub later_fits : (r : EstimateBasis) (j : ℕ) (l : Leg) (at : Option ℕ) → IsWithin r → r.leg_index < j → j < length r.legs → at ≡ end_before r j →

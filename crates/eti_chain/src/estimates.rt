@@ -128,6 +128,14 @@ impl<'a> Estimates<'a> {
         self.late_by().is_some()
     }
 
+    /// Whether the wagon is expected after the moment to which the plan committed, by its estimated time of arrival.
+    pub fn is_late_by(&self, eta: Option<Moment>) -> bool
+        ensures { (events : List Event) → self.now ≡ estimates_state events → eta ≡ of.eta events
+            → result ≡ of.is_late events }
+    {
+        lateness(self.commit, eta).is_some()
+    }
+
     /// By how many minutes the wagon is expected after what the plan committed to, if it is.
     pub fn late_by(&self) -> Option<u32>
         ensures { (events : List Event) → self.now ≡ estimates_state events → result

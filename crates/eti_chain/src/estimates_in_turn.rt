@@ -67,6 +67,14 @@ impl<'a> EstimatesInTurn<'a> {
         self.at
     }
 
+    /// When the wagon is expected at the end of the last leg, once each leg had its turn.
+    pub fn eta(&self) -> Option<Moment>
+        requires { self.now.leg ≡ length self.now.estimate_basis.legs }
+        ensures { result ≡ of.eta_in self.now.estimate_basis }
+    {
+        self.at
+    }
+
     // The end of the leg whose turn it is.
     fn end(&self) -> Option<Moment>
         requires not_behind { self.now.estimate_basis.leg_index ≤ self.now.leg }
