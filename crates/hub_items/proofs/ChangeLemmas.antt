@@ -1,7 +1,7 @@
 -- What the journeys of a message's wagons were before it, and are with it.
-use Rattle.hub_items.proofs.Common.{◌≡◌, ℕ, zero, suc, ◌<◌, Bool, true, false, if◌then◌else◌, List, [], ◌∷◌, length, get_or, All, All-head, All-tail, Some, refl, ap, ◌∙◌, sym, subst, arith, ◌||◌, or_right, slice_get, same_Some, false≢true, has, Message, Body, HubState, named_wagons, journey_after, TableEntries, events_in, table_state, continues_journeys, Change, IsChange, changed, continued_in, gone_on}
+use Rattle.hub_items.proofs.Common.{◌≡◌, ℕ, Bool, true, false, if◌then◌else◌, List, [], ◌∷◌, ◌++◌, get_or, get_or-map, length-map, Contains, Some, refl, ap, ◌∙◌, sym, flat_map, filter_map, option_to_list, slice_get, same_Some, false≢true, has, has_at, Message, Body, TrainAnswer, Railway, notice_receivers, Event, HubState, named_wagons, journey_after, TableEntries, table_state, continues_journeys, Change, changed, continued_in, gone_on, lead_of}
 use Rattle.taf_messages.specs.declared.message.Body.TheVariants as body
-use Rattle.hub_items.proofs.UnchangedEstimateLemmas.{same_number}
+use Rattle.hub_items.proofs.NewsLemmas.{found_of_each}
 
 -- a position has one wagon
 pub one_at : (fleet : List ℕ) (i v w : ℕ) → slice_get fleet i ≡ Some v → slice_get fleet i ≡ Some w → v ≡ w
@@ -19,27 +19,24 @@ pub continues_unless_plan : (says : Body) → ((p : _) → says ≡ body.Plan p 
 continues_unless_plan (body.Plan p) h = absurd (h p refl)
 continues_unless_plan _ h = refl
 
--- the journeys are those with the message, or as they were
-pub with_message : (s : HubState) (t : TableEntries) (m : Message) → table_state t ≡ gone_on s m → continues_journeys m.body ≡ true → (w : ℕ) → events_in t.wagons w ≡ journey_after s m w
-with_message s t m known on w = ap (λ (k : HubState). k.journey w) known ∙ ap (λ (b : Bool). if b then journey_after s m w else s.journey w) on
+-- the journeys are those with the message
+pub journeys_with : (s : HubState) (t : TableEntries) (m : Message) → table_state t ≡ gone_on s m → continues_journeys m.body ≡ true → (table_state t).journey ≡ journey_after s m
+journeys_with s t m known on = ap (λ (k : HubState). k.journey) known ∙ (λ i w. if on i then journey_after s m w else s.journey w)
 
-pub without_message : (s : HubState) (t : TableEntries) (m : Message) → table_state t ≡ gone_on s m → continues_journeys m.body ≡ false → (w : ℕ) → events_in t.wagons w ≡ s.journey w
-without_message s t m known off w = ap (λ (k : HubState). k.journey w) known ∙ ap (λ (b : Bool). if b then journey_after s m w else s.journey w) off
+-- and so are the leads of the wagons of an answer
+pub answer_receivers : (s : HubState) (t : TableEntries) (m : Message) (a : TrainAnswer) → table_state t ≡ gone_on s m → m.body ≡ body.Answer a →
+    notice_receivers s (journey_after s m) m.by m.body ≡ a.offerer ∷ flat_map (λ w. option_to_list (lead_of ((table_state t).journey w))) (a.received ++ a.refused)
+answer_receivers s t m a known is =
+    ap (notice_receivers s (journey_after s m) m.by) is ∙
+    ap (λ (journey : ℕ → List Event). a.offerer ∷ filter_map (λ w. lead_of (journey w)) (a.received ++ a.refused)) (sym (journeys_with s t m known (ap continues_journeys is))) ∙
+    ap (λ (rs : List Railway). a.offerer ∷ rs) (found_of_each (λ w. lead_of ((table_state t).journey w)) (a.received ++ a.refused))
 
--- the wagons that are changed are those that the message names
-pub changed_named : (s : HubState) (m : Message) (cs : List Change) → changed cs ≡ continued_in s m → continues_journeys m.body ≡ true → changed cs ≡ named_wagons s.offer m
-changed_named s m cs are on = are ∙ ap (λ (b : Bool). if b then named_wagons s.offer m else []) on
-
--- a change at a place of the list is among it
-pub among_at : (t : TableEntries) (cs : List Change) (i : ℕ) (c : Change) → i < length cs → c ≡ get_or cs i c → All (IsChange t) cs → IsChange t c × (has (changed cs) c.wagon ≡ true)
-among_at t [] i c lt is h = absurd (omega (arith, lt))
-among_at t (x ∷ cs) zero c lt is h =
-    (subst (IsChange t) (sym is) (All-head (IsChange t) x cs h), ap (λ (y : Change). has (changed (y ∷ cs)) c.wagon) (sym is) ∙ ap (λ (b : Bool). b || has (changed cs) c.wagon) (same_number c.wagon))
-among_at t (x ∷ cs) (suc i) c lt is h =
-    let rest = among_at t cs i c (omega (arith, lt)) is (All-tail (IsChange t) x cs h) in
-    (rest.0, or_right _ (has (changed cs) c.wagon) rest.1)
+-- the wagon of a change is changed
+pub changed_has : (cs : List Change) (c : Change) → Contains cs c → has (changed cs) c.wagon ≡ true
+changed_has cs c at =
+    has_at (changed cs) at.0 c.wagon (rw length-map at.1) (ap (λ (x : Change). x.wagon) (sym at.2) ∙ sym (get_or-map (λ (x : Change). x.wagon) cs at.0 c c.wagon at.1))
 
 -- the change of the only wagon
-pub first_among : (t : TableEntries) (cs : List Change) (c : Change) (w : ℕ) → changed cs ≡ w ∷ [] → All (IsChange t) cs → IsChange t (get_or cs 0 c) × (has (changed cs) (get_or cs 0 c).wagon ≡ true) × ((get_or cs 0 c).wagon ≡ w)
-first_among t [] c w are h = cc
-first_among t (x ∷ cs) c w are h = (All-head (IsChange t) x cs h, ap (λ (b : Bool). b || has (changed cs) x.wagon) (same_number x.wagon), cc)
+pub first_changed : (cs : List Change) (c : Change) (w : ℕ) → changed cs ≡ w ∷ [] → (get_or cs 0 c).wagon ≡ w
+first_changed [] c w are = cc
+first_changed (x ∷ cs) c w are = cc

@@ -1,15 +1,19 @@
 -- The notices of a message in a list.
-use Rattle.std.specs.Prelude.{◌≡◌, List, ◌++◌, map}
+use Rattle.std.specs.Prelude.{Bool, if◌then◌else◌, List, [], ◌∷◌, ◌++◌, bytes_eq, fold}
+use Rattle.std.specs.List.{list_any}
 use Rattle.taf_codes.specs.declared.code.Railway.{Railway}
 use Rattle.taf_messages.specs.declared.message.Message.{Message}
 use Rattle.taf_messages.specs.declared.item.ItemBody.TheVariants as item
 use Rattle.hub_model.specs.declared.addressed_item.AddressedItem.{AddressedItem}
-use Rattle.hub_model.specs.Items.{each_once}
 
--- the notice of a message for each of these railways, once where it comes first
-abbrev pub notices_to : Message → List Railway → List AddressedItem
-notices_to m railways = map (λ r. record { to = r; body = item.Notice m }) (each_once railways)
+-- an item goes to the railway
+abbrev pub has_item_for : List AddressedItem → Railway → Bool
+has_item_for items r = list_any (λ i. bytes_eq i.to r) items
 
--- where the list was the notices for some railways, it is those for these behind them too
-abbrev pub IsNotifiedToo : Message → List Railway → List AddressedItem → List AddressedItem → Type 0
-IsNotifiedToo m more old new = (railways : List Railway) → old ≡ notices_to m railways → new ≡ notices_to m (railways ++ more)
+-- the items, and behind them the notice of the message for the railway, unless one goes to it
+abbrev pub with_notice : Message → List AddressedItem → Railway → List AddressedItem
+with_notice m items r = if has_item_for items r then items else items ++ record { to = r; body = item.Notice m } ∷ []
+
+-- the same for each of these railways in turn
+abbrev pub with_notices : Message → List Railway → List AddressedItem → List AddressedItem
+with_notices m railways items = fold (with_notice m) items railways

@@ -1,5 +1,5 @@
 //! The alerts of wagons that are late.
-ghost use Rattle.std.specs.Prelude.{◌≡◌, ◌++◌, Some, IfOk, OnOk, map, option_to_list};
+ghost use Rattle.std.specs.Prelude.{◌≡◌, ◌++◌, OnOk, map, option_to_list};
 ghost use Rattle.hub_model.specs.Items as of;
 ghost use Rattle.journey.specs.Legs.{lead_of};
 
@@ -16,24 +16,10 @@ pub(crate) fn put_alerts(
     ensures { OnOk result (items.new.items ≡ items.old.items
         ++ of.alert_items change.now.before change.now.after change.now.wagon) }
 {
-    match alert(change) {
-        Some(says) => put_alert(items, change, &says),
-        None => Ok(()),
+    if let Some(says) = alert(change) {
+        put_to(items, &says, change.lead())?;
+        put_to(items, &says, also_alerted(change))?;
     }
-}
-
-// Adds the items of the alert that says this.
-fn put_alert(
-    items: &mut Vec<AddressedItem>,
-    change: &WagonChange<'_>,
-    says: &ItemBody,
-) -> Result<(), Memory>
-    requires { of.alert change.now.before change.now.after change.now.wagon ≡ Some says.now }
-    ensures { OnOk result (items.new.items ≡ items.old.items
-        ++ of.alert_items change.now.before change.now.after change.now.wagon) }
-{
-    put_to(items, says, change.lead())?;
-    put_to(items, says, also_alerted(change))?;
     Ok(())
 }
 
@@ -47,17 +33,10 @@ fn put_to(
         ++ map (λ r. record { to = r; body = says.now }) (option_to_list railway)) }
 {
     if let Some(to) = railway {
-        let body = copy_body(says)?;
+        let body = says.clone()?;
         items.push(AddressedItem { to, body })?;
     }
     Ok(())
-}
-
-// The same item.
-fn copy_body(says: &ItemBody) -> Result<ItemBody, Memory>
-    ensures { IfOk result (λ copy. copy ≡ says.now) }
-{
-    Ok(says.clone()?)
 }
 
 // An alert begins or ends, or neither.
@@ -79,11 +58,9 @@ fn also_alerted(change: &WagonChange<'_>) -> Option<Railway>
     ensures { option_to_list (lead_of change.now.after) ++ option_to_list result
         ≡ of.alert_receivers change.now.after }
 {
-    let lead = change.lead();
-    let responsible = change.responsible();
-    if responsible == lead {
-        None
-    } else {
-        responsible
+    match (change.lead(), change.responsible()) {
+        (Some(lead), Some(responsible)) => (responsible != lead).then_some(responsible),
+        (None, responsible) => responsible,
+        (_, None) => None,
     }
 }

@@ -1,10 +1,9 @@
 //! The notice of a message, for each railway that it concerns once.
-ghost use Rattle.std.specs.Prelude.{◌≡◌, ◌∷◌, [], OnOk, bytes_eq, filter_map, option_to_list};
-ghost use Rattle.std.specs.List.{list_any};
+ghost use Rattle.std.specs.Prelude.{◌≡◌, ◌∷◌, [], OnOk, flat_map, option_to_list};
 ghost use Rattle.journey.specs.Legs.{lead_of};
 ghost use Rattle.hub_model.specs.Items.{runners};
 ghost use Rattle.hub_tables.specs.TableStates.{table_state};
-ghost use Rattle.hub_items.specs.Notices.{IsNotifiedToo};
+ghost use Rattle.hub_items.specs.Notices.{has_item_for, with_notices};
 
 use hub_model::AddressedItem;
 use hub_tables::Tables;
@@ -13,14 +12,14 @@ use taf_messages::{ItemBody, Message, Shared};
 use trip_plan::Leg;
 use wagon_number::WagonNumber;
 
-/// Adds the notice of the message for the railway to a list of its notices, unless it is there.
+/// Adds the notice of the message for the railway, unless an item of the list goes to it.
 pub(crate) fn put_notice(
     items: &mut Vec<AddressedItem>,
     notice: &Shared<Message>,
     railway: Railway,
 ) -> Result<(), Memory>
-    ensures { OnOk result (IsNotifiedToo notice.now (railway ∷ []) items.old.items
-        items.new.items) }
+    ensures { OnOk result (items.new.items
+        ≡ with_notices notice.now (railway ∷ []) items.old.items) }
 {
     if has_item_for(items, railway) {
         return Ok(());
@@ -32,7 +31,7 @@ pub(crate) fn put_notice(
 
 // An item of the list goes to the railway.
 fn has_item_for(items: &[AddressedItem], railway: Railway) -> bool
-    ensures { result ≡ list_any (λ i. bytes_eq i.to railway) items.now }
+    ensures { result ≡ has_item_for items.now railway }
 {
     items.iter().any(|item| item.to == railway)
 }
@@ -43,8 +42,8 @@ pub(crate) fn put_notice_if_any(
     notice: &Shared<Message>,
     railway: Option<Railway>,
 ) -> Result<(), Memory>
-    ensures { OnOk result (IsNotifiedToo notice.now (option_to_list railway) items.old.items
-        items.new.items) }
+    ensures { OnOk result (items.new.items
+        ≡ with_notices notice.now (option_to_list railway) items.old.items) }
 {
     match railway {
         Some(railway) => put_notice(items, notice, railway),
@@ -58,8 +57,8 @@ pub(crate) fn put_for_runners(
     notice: &Shared<Message>,
     legs: &[Leg],
 ) -> Result<(), Memory>
-    ensures { OnOk result (IsNotifiedToo notice.now (runners legs.now) items.old.items
-        items.new.items) }
+    ensures { OnOk result (items.new.items
+        ≡ with_notices notice.now (runners legs.now) items.old.items) }
 {
     for leg in legs {
         put_notice(items, notice, leg.ru)?;
@@ -74,9 +73,9 @@ pub(crate) fn put_for_leads(
     tables: &Tables,
     wagons: &[WagonNumber],
 ) -> Result<(), Memory>
-    ensures { OnOk result (IsNotifiedToo notice.now
-        (filter_map (λ w. lead_of ((table_state tables.now).journey w)) wagons.now)
-        items.old.items items.new.items) }
+    ensures { OnOk result (items.new.items ≡ with_notices notice.now
+        (flat_map (λ w. option_to_list (lead_of ((table_state tables.now).journey w))) wagons.now)
+        items.old.items) }
 {
     for wagon in wagons {
         put_notice_if_any(items, notice, lead_of(tables, *wagon))?;

@@ -12,6 +12,7 @@ use taf_moment::Moment;
 
 /// Adds the items of the estimates that are news. Gives whether the estimates may be others than before: otherwise no alert begins
 /// or ends.
+#[tactic(auto, using(crate::proofs::NewsLemmas::news_of_each, crate::proofs::NewsLemmas::no_alert_items))]
 pub(crate) fn put_estimates(
     items: &mut Vec<AddressedItem>,
     change: &WagonChange<'_>,

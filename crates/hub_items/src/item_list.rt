@@ -56,7 +56,7 @@ fn put_all(
         ≡ all_items (state_before from.entry) from.entry.message.now) }
 {
     put_notices(alloc, items, from, notice)?;
-    put_of_wagons(items, from)
+    Ok(put_of_wagons(items, from)?)
 }
 
 // Takes the items for the sender out.

@@ -1,9 +1,10 @@
 //! The notices of a message, and the sub notice (4.2.8).
-ghost use Rattle.std.specs.Prelude.{◌≡◌, ◌++◌, [], IfOk, OnOk, option_to_list};
+ghost use Rattle.std.specs.Prelude.{◌≡◌, ◌++◌, IfOk, OnOk, option_to_list};
 ghost use Rattle.taf_messages.specs.declared.message.Body.TheVariants as body;
+ghost use Rattle.hub_model.specs.HubState.{journey_after};
 ghost use Rattle.hub_model.specs.Items as of;
 ghost use Rattle.hub_items.specs.MessageItems.{MayBeAccepted, state_before};
-ghost use Rattle.hub_items.specs.Notices.{IsNotifiedToo};
+ghost use Rattle.hub_items.specs.Notices.{with_notices};
 
 use crate::acceptable::Acceptable;
 use crate::each::{put_for_leads, put_for_runners, put_notice, put_notice_if_any};
@@ -15,60 +16,63 @@ use taf_codes::{Memory, Railway};
 use taf_messages::{Body, ItemBody, Message, Shared, SubNotice, TrainAnswer};
 use trip_plan::Leg;
 
-/// Puts the notices of a message, and the sub notice, into an empty list.
+/// Adds the notices of a message, and the sub notice.
 pub(crate) fn put_notices(
     alloc: Global,
     items: &mut Vec<AddressedItem>,
     from: Acceptable<'_>,
     notice: &Shared<Message>,
 ) -> Result<(), Memory>
-    requires acceptable { MayBeAccepted from }
-    requires notice { notice.now ≡ from.message.now }
-    requires empty { items.old.items ≡ [] }
-    ensures { OnOk result (items.new.items
-        ≡ of.notices (state_before from.entry) from.entry.message.now) }
+    requires { MayBeAccepted from }
+    ensures { let s = state_before from.entry in
+        let m = from.entry.message.now in
+        OnOk result (items.new.items ≡ with_notices notice.now
+        (of.notice_receivers s (journey_after s m) m.by m.body) items.old.items
+        ++ of.sub_items m.by m.body) }
 {
     match from.message.body() {
         Body::LegTime { .. } => Ok(()),
         Body::Movement(movement) => {
             let change = WagonChange::alone(from, movement.wagon);
-            put_notice_if_any(items, notice, movement_receivers(&change, movement.what))
+            let receiver = movement_receivers(&change, movement.what);
+            Ok(put_notice_if_any(items, notice, receiver)?)
         }
         Body::EtiAsk { wagon } => {
             let change = WagonChange::alone(from, *wagon);
-            put_notice_if_any(items, notice, change.responsible())
+            Ok(put_notice_if_any(items, notice, change.responsible())?)
         }
-        Body::Offer(offer) => put_notice(items, notice, offer.get().to),
+        Body::Offer(offer) => Ok(put_notice(items, notice, offer.get().to)?),
         Body::Withdraw { offer, .. } => {
             let asked = withdrawal_receivers(from.tables, from.message.by(), *offer);
-            put_notice_if_any(items, notice, asked)
+            Ok(put_notice_if_any(items, notice, asked)?)
         }
-        Body::Plan(plan) => put_for_runners(items, notice, plan.legs()),
+        Body::Plan(plan) => Ok(put_for_runners(items, notice, plan.legs())?),
         Body::Answer(answer) => put_of_answer(alloc, items, from, notice, answer.get()),
         Body::Reroute { wagon, route } => {
             let change = WagonChange::alone(from, *wagon);
-            put_of_route(items, notice, &change, route.legs())
+            Ok(put_of_route(items, notice, &change, route.legs())?)
         }
     }
 }
 
 // Adds the notice of new legs: for the current leg's railway, and those of the legs taken away and set.
+#[tactic(auto, using(crate::proofs::NoticeLemmas::runner_listed))]
 fn put_of_route(
     items: &mut Vec<AddressedItem>,
     notice: &Shared<Message>,
     change: &WagonChange<'_>,
     route: &[Leg],
 ) -> Result<(), Memory>
-    ensures { OnOk result (IsNotifiedToo notice.now
-        (of.route_receivers change.now.before route.now) items.old.items items.new.items) }
+    ensures { OnOk result (items.new.items ≡ with_notices notice.now
+        (of.route_receivers change.now.before route.now) items.old.items) }
 {
     let current = change.leg_index_before();
     put_notice_if_any(items, notice, change.runner_before(current))?;
     put_for_runners(items, notice, &change.legs_before()[current + 1..])?;
-    put_for_runners(items, notice, route)
+    Ok(put_for_runners(items, notice, route)?)
 }
 
-// Puts the notices of an answer into an empty list, for who made the offer and for the leads of the wagons, and the sub notice.
+// Adds the notices of an answer, for who made the offer and for the leads of the wagons, and the sub notice.
 fn put_of_answer(
     alloc: Global,
     items: &mut Vec<AddressedItem>,
@@ -77,16 +81,17 @@ fn put_of_answer(
     answer: &TrainAnswer,
 ) -> Result<(), Memory>
     requires acceptable { MayBeAccepted from }
-    requires notice { notice.now ≡ from.message.now }
     requires answer { from.message.now.body ≡ body.Answer answer.now }
-    requires empty { items.old.items ≡ [] }
-    ensures { OnOk result (items.new.items
-        ≡ of.notices (state_before from.entry) from.entry.message.now) }
+    ensures { let s = state_before from.entry in
+        let m = from.entry.message.now in
+        OnOk result (items.new.items ≡ with_notices notice.now
+        (of.notice_receivers s (journey_after s m) m.by m.body) items.old.items
+        ++ of.sub_items m.by m.body) }
 {
     put_notice(items, notice, answer.offerer)?;
     put_for_leads(items, notice, from.tables, answer.received.as_slice())?;
     put_for_leads(items, notice, from.tables, answer.refused.as_slice())?;
-    put_sub_notice(alloc, items, from.message.by(), from.message.body())
+    Ok(put_sub_notice(alloc, items, from.message.by(), from.message.body())?)
 }
 
 // Adds the sub notice, if there is one.

@@ -1,8 +1,8 @@
 //! Who gets the notice of a movement, and that of a withdrawal.
-ghost use Rattle.std.specs.Prelude.{◌≡◌, ℕ, option_to_list};
+ghost use Rattle.std.specs.Prelude.{◌≡◌, option_to_list};
+ghost use Rattle.hub_model.specs.Common.{asked_by};
 ghost use Rattle.hub_model.specs.Items as of;
 ghost use Rattle.hub_tables.specs.TableStates.{table_state};
-ghost use Rattle.taf_messages.specs.declared.message.Body.TheVariants as body;
 
 use crate::wagon_change::WagonChange;
 use hub_tables::Tables;
@@ -31,9 +31,7 @@ pub(crate) fn withdrawal_receivers(
     by: Railway,
     offer: MessageNumber,
 ) -> Option<Railway>
-    ensures { (at : ℕ) → option_to_list result
-        ≡ of.notice_receivers (table_state tables.now) (table_state tables.now).journey by
-        (body.Withdraw at offer) }
+    ensures { result ≡ asked_by ((table_state tables.now).offer by offer) }
 {
     tables.offer(by, offer).map(|found| found.to)
 }

@@ -1,11 +1,11 @@
 //! The transition of a wagon that a message makes.
-ghost use Rattle.std.specs.Prelude.{◌≡◌, ◌<◌, ◌≤◌, ◌∷◌, [], length, true};
+ghost use Rattle.std.specs.Prelude.{◌≡◌, ◌<◌, ◌≤◌, ◌∷◌, [], Contains, length, true};
 ghost use Rattle.journey.specs.Stages as stages;
 ghost use Rattle.journey.specs.Legs as legs_of;
 ghost use Rattle.eti_chain.specs.EstimateStates.{estimates_state};
 ghost use Rattle.hub_tables.specs.Changes.{continued_in};
 ghost use Rattle.hub_items.specs.MessageItems.{MayBeAccepted, state_before};
-ghost use Rattle.hub_items.specs.Transitions.{IsAmong, IsTransitionBy};
+ghost use Rattle.hub_items.specs.Transitions.{IsTransitionBy};
 
 use crate::acceptable::Acceptable;
 use eti_chain::Estimates;
@@ -39,7 +39,7 @@ impl<'a> WagonChange<'a> {
     /// One of the changes of a message that may be accepted.
     pub(crate) fn of(from: Acceptable<'a>, change: &'a Change) -> WagonChange<'a>
         requires acceptable { MayBeAccepted from }
-        requires among { IsAmong from change.now }
+        requires among { Contains from.changes.now change.now }
         ensures { IsTransitionBy (state_before from.entry) from.entry.message.now change.now.wagon
             result }
     {

@@ -4,7 +4,7 @@ ghost use Rattle.trip_plan.specs.Rules.{has};
 ghost use Rattle.taf_messages.specs.declared.message.Body.TheVariants as body;
 ghost use Rattle.eti_chain.specs.Estimates.{is_late};
 ghost use Rattle.hub_model.specs.HubState.{named_wagons};
-ghost use Rattle.hub_tables.specs.TableStates.{table_state};
+ghost use Rattle.hub_tables.specs.TableStates.{continues_journeys, table_state};
 ghost use Rattle.hub_items.specs.MessageItems.{MayBeAccepted, alerts_at, estimates_at, state_before};
 
 use crate::acceptable::Acceptable;
@@ -19,6 +19,7 @@ use trip_plan::Plan;
 use wagon_number::WagonNumber;
 
 /// Adds the estimates that are news, and then the alerts, of the wagons that the message names.
+#[tactic(auto, using(crate::proofs::PlanLemmas::planned_none, crate::proofs::ChangeLemmas::continues_unless_plan))]
 pub(crate) fn put_of_wagons(
     items: &mut Vec<AddressedItem>,
     from: Acceptable<'_>,
@@ -31,11 +32,11 @@ pub(crate) fn put_of_wagons(
         ++ flat_map (alerts_at s m) (named_wagons s.offer m))) }
 {
     if let Body::Plan(plan) = from.message.body() {
-        return put_alert_ends(items, from, plan);
+        return Ok(put_alert_ends(items, from, plan)?);
     }
     let is_changed = put_each_estimates(items, from)?;
     if is_changed {
-        return put_each_alerts(items, from);
+        return Ok(put_each_alerts(items, from)?);
     }
     Ok(())
 }
@@ -43,15 +44,16 @@ pub(crate) fn put_of_wagons(
 // The estimates of the wagons whose journeys went on. Gives whether those of a wagon may be others than before: otherwise no alert
 // begins or ends.
 fn put_each_estimates(items: &mut Vec<AddressedItem>, from: Acceptable<'_>) -> Result<bool, Memory>
-    requires { MayBeAccepted from }
+    requires acceptable { MayBeAccepted from }
+    requires goes_on { continues_journeys from.message.now.body ≡ true }
     ensures put { let s = state_before from.entry in
         let m = from.entry.message.now in
         OnOk result (items.new.items ≡ items.old.items
-        ++ flat_map (λ c. estimates_at s m c.wagon) from.entry.changes.now) }
+        ++ flat_map (estimates_at s m) (named_wagons s.offer m)) }
     ensures kept { let s = state_before from.entry in
         let m = from.entry.message.now in
         IfOk result (λ changed. changed ≡ false
-        → flat_map (λ c. alerts_at s m c.wagon) from.entry.changes.now ≡ []) }
+        → flat_map (alerts_at s m) (named_wagons s.offer m) ≡ []) }
 {
     let mut is_changed = false;
     for change in from.changes {
@@ -62,11 +64,12 @@ fn put_each_estimates(items: &mut Vec<AddressedItem>, from: Acceptable<'_>) -> R
 
 // Their alerts.
 fn put_each_alerts(items: &mut Vec<AddressedItem>, from: Acceptable<'_>) -> Result<(), Memory>
-    requires { MayBeAccepted from }
+    requires acceptable { MayBeAccepted from }
+    requires goes_on { continues_journeys from.message.now.body ≡ true }
     ensures { let s = state_before from.entry in
         let m = from.entry.message.now in
         OnOk result (items.new.items ≡ items.old.items
-        ++ flat_map (λ c. alerts_at s m c.wagon) from.entry.changes.now) }
+        ++ flat_map (alerts_at s m) (named_wagons s.offer m)) }
 {
     for change in from.changes {
         put_alerts(items, &WagonChange::of(from, change))?;
@@ -86,7 +89,7 @@ fn put_alert_ends(
     ensures { let s = state_before from.entry in
         let m = from.entry.message.now in
         OnOk result (items.new.items ≡ items.old.items
-        ++ flat_map (alerts_at s m) plan.now.wagons) }
+        ++ flat_map (alerts_at s m) (named_wagons s.offer m)) }
 {
     for wagon in plan.wagons() {
         put_alert_end(items, from, plan, *wagon)?;

@@ -1,5 +1,5 @@
-use Rattle.hub_items.proofs.Common.{ap, ◌∙◌, sym, Bool, if◌then◌else◌, Journey, without_newest, state_before, events_in}
-use Rattle.hub_items.proofs.ChangeLemmas.{one_at, continues_here, with_message}
+use Rattle.hub_items.proofs.Common.{ap, ◌∙◌, sym, Bool, ℕ, List, Event, if◌then◌else◌, All-contains, IsChange, Journey, without_newest, state_before, events_in}
+use Rattle.hub_items.proofs.ChangeLemmas.{one_at, continues_here, journeys_with, changed_has}
 use Rattle.hub_items.proofs.wagon_change.WagonChange.of.Goals as goal
 
 pub returns : goal.returns
@@ -7,13 +7,15 @@ returns c =
     let s = state_before c.args.from in
     let m = c.args.from.message.now in
     let t = c.args.from.tables.now in
+    let cs = c.args.from.changes.now in
     let w = c.args.change.now.wagon in
     let gone = c.requires.acceptable.1 in
-    let among = c.requires.among in
-    let same = one_at s.fleet c.args.change.now.position _ w c.in-Some.ensures.found among.change.position_is in
+    let change = All-contains (IsChange t) cs c.args.change.now gone.changes.each c.requires.among in
+    let is_changed = changed_has cs c.args.change.now c.requires.among in
+    let same = one_at s.fleet c.args.change.now.position _ w c.in-Some.ensures.found change.position_is in
     let events = ap (λ (j : Journey). j.events) c.in-Some.ensures.journey ∙ ap (events_in t.wagons) same in
     record {
       wagon_is = ap (λ (j : Journey). j.wagon) c.in-Some.ensures.journey ∙ same;
-      before_is = ap without_newest events ∙ sym (ap (λ (b : Bool). if b then without_newest (events_in t.wagons w) else events_in t.wagons w) among.changed_is);
-      after_is = events ∙ with_message s t m gone.known (continues_here s m c.args.from.changes.now w gone.wagons among.changed_is) w;
+      before_is = ap without_newest events ∙ sym (ap (λ (b : Bool). if b then without_newest (events_in t.wagons w) else events_in t.wagons w) is_changed);
+      after_is = events ∙ ap (λ (journey : ℕ → List Event). journey w) (journeys_with s t m gone.known (continues_here s m cs w gone.wagons is_changed));
     }

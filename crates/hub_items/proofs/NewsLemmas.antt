@@ -1,0 +1,71 @@
+-- What is told of a wagon's estimates, leg by leg.
+use Rattle.hub_items.proofs.Common.{◌≡◌, ℕ, ◌+◌, Bool, true, cond, List, [], ◌∷◌, ◌++◌, length, Option, Some, None, refl, ap, ◌∙◌, sym, arith, filter, filter_map, filter-append, flat_map, flat_map-append, ◌||◌, slice_get, option_map, option_to_list, option_and_then, is_some, map, map-id, map-range_with_len_more, range_with_len, cons_option, or_right, numbers, texts, same_text, has, Railway, AddressedItem, legs, runner_of, EstimatesState, estimates_state, end_in, eta_in, estimate, late_by, lateness, is_news, estimate_item, estimate_items, alert_receivers, alert_items, Transition, estimate_of, news_of}
+use Rattle.taf_messages.specs.declared.item.ItemBody.TheVariants as item
+
+listed : {A : Type 0} (o : Option A) (rest : List A) → cons_option o rest ≡ option_to_list o ++ rest
+listed None rest = refl
+listed (Some x) rest = refl
+
+-- what is there of each
+pub found_of_each : {A B : Type 0} (f : A → Option B) (xs : List A) → filter_map f xs ≡ flat_map (λ x. option_to_list (f x)) xs
+found_of_each f [] = refl
+found_of_each f (x ∷ xs) = listed (f x) (filter_map f xs) ∙ ap (λ ys. option_to_list (f x) ++ ys) (found_of_each f xs)
+
+-- what is made of each that passes
+passed_of_each : {A B C : Type 0} (g : B → List C) (p : B → Bool) (f : A → Option B) (xs : List A) →
+    flat_map g (filter p (filter_map f xs)) ≡ flat_map (λ x. flat_map g (filter p (option_to_list (f x)))) xs
+passed_of_each g p f [] = refl
+passed_of_each g p f (x ∷ xs) =
+    ap (λ ys. flat_map g (filter p ys)) (listed (f x) (filter_map f xs)) ∙
+    ap (flat_map g) (filter-append p (option_to_list (f x)) (filter_map f xs)) ∙
+    flat_map-append g (filter p (option_to_list (f x))) (filter p (filter_map f xs)) ∙
+    ap (λ ys. flat_map g (filter p (option_to_list (f x))) ++ ys) (passed_of_each g p f xs)
+
+-- where each gives nothing, all give nothing
+pub none_of_each : {B : Type 0} (f : ℕ → List B) (ws : List ℕ) → ((w : ℕ) → has ws w ≡ true → f w ≡ []) → flat_map f ws ≡ []
+none_of_each f [] h = refl
+none_of_each f (w ∷ ws) h =
+    ap (λ xs. xs ++ flat_map f ws) (h w (ap (λ (b : Bool). b || has ws w) (numbers.itself w))) ∙ none_of_each f ws (λ v k. h v (or_right _ (has ws v) k))
+
+-- the legs up to one more
+pub one_leg_more : (n : ℕ) → range_with_len 0 (n + 1) ≡ range_with_len 0 n ++ n ∷ []
+one_leg_more n = simp map-id at (map-range_with_len_more (λ x. x) 0 n n (omega arith))
+
+same_name : (o : Option Railway) → same_text o o ≡ true
+same_name None = refl
+same_name (Some r) = texts.itself r
+
+module _ (t : Transition) where
+  pub news_of_each : estimate_items t.before t.after t.wagon ≡ flat_map (news_of t) (range_with_len 0 (length (legs t.after)))
+  news_of_each = passed_of_each (estimate_item t.after t.wagon) (is_news t.before t.after) (estimate_of t) (range_with_len 0 (length (legs t.after)))
+
+  module _ (same : estimates_state t.after ≡ estimates_state t.before) where
+    estimate_left : (j : ℕ) → estimate t.after j ≡ estimate t.before j
+    estimate_left j = ap (λ (s : EstimatesState). end_in s.estimate_basis j) same
+
+    runner_left : (i : ℕ) → runner_of t.after i ≡ runner_of t.before i
+    runner_left i = ap (λ (s : EstimatesState). option_map (λ l. l.ru) (slice_get s.estimate_basis.legs i)) same
+
+    late_by_left : late_by t.after ≡ late_by t.before
+    late_by_left = ap (λ (s : EstimatesState). option_and_then (λ commit. option_and_then (lateness commit) (eta_in s.estimate_basis)) s.commit) same
+
+    no_news : (j : ℕ) → news_of t j ≡ []
+    no_news j = by (estimate t.after j) (sym (estimate_left j))
+      where
+        by : (o : Option ℕ) → estimate t.before j ≡ o →
+            flat_map (estimate_item t.after t.wagon) (filter (is_news t.before t.after) (option_to_list (option_map (λ at. record { leg = j; at = at }) o))) ≡ []
+        by None h = refl
+        by (Some at) h = rw h (rw (numbers.itself at) (rw (runner_left (j + 1)) (rw (same_name (runner_of t.before (j + 1))) refl)))
+
+    -- where estimates are counted from what they were counted from before, none is news
+    pub no_estimate_items : estimate_items t.before t.after t.wagon ≡ []
+    no_estimate_items = news_of_each ∙ none_of_each (news_of t) _ (λ j h. no_news j)
+
+    -- and no alert begins or ends
+    pub no_alert_items : alert_items t.before t.after t.wagon ≡ []
+    no_alert_items = rw late_by_left (by (late_by t.before))
+      where
+        by : (o : Option ℕ) → flat_map {A = AddressedItem} (λ says. map (λ r. record { to = r; body = says }) (alert_receivers t.after))
+            (option_to_list (cond (is_some o) (cond (is_some o) None (Some (item.AlertEnds t.wagon))) (option_map (λ minutes. item.AlertBegins t.wagon minutes) o))) ≡ []
+        by None = refl
+        by (Some minutes) = refl
