@@ -1,19 +1,12 @@
 -- What the journeys of a message's wagons were before it, and are with it.
-use Rattle.hub_items.proofs.Common.{◌≡◌, ℕ, Bool, true, false, if◌then◌else◌, List, [], ◌∷◌, ◌++◌, get_or, get_or-map, length-map, Contains, Some, refl, ap, ◌∙◌, sym, flat_map, filter_map, option_to_list, slice_get, same_Some, false≢true, has, has_at, Message, Body, TrainAnswer, Railway, notice_receivers, Event, HubState, named_wagons, journey_after, TableEntries, table_state, continues_journeys, Change, changed, continued_in, gone_on, lead_of}
+use Rattle.hub_items.proofs.Common.{◌≡◌, ℕ, Bool, true, false, if◌then◌else◌, List, [], ◌∷◌, ◌++◌, get_or-map, length-map, Contains, refl, ap, ◌∙◌, sym, flat_map, filter_map, option_to_list, false≢true, has, has_at, Message, Body, TrainAnswer, Railway, notice_receivers, Event, HubState, journey_after, TableEntries, table_state, continues_journeys, Change, changed, gone_on, lead_of}
 use Rattle.taf_messages.specs.declared.message.Body.TheVariants as body
 use Rattle.hub_items.proofs.NewsLemmas.{found_of_each}
 
--- a position has one wagon
-pub one_at : (fleet : List ℕ) (i v w : ℕ) → slice_get fleet i ≡ Some v → slice_get fleet i ≡ Some w → v ≡ w
-one_at fleet i v w h g = same_Some v w (sym h ∙ g)
-
-continues_by : (b : Bool) (ws : List ℕ) (w : ℕ) → has (if b then ws else []) w ≡ true → b ≡ true
-continues_by true ws w h = refl
-continues_by false ws w h = absurd (false≢true h)
-
 -- a message that changes a journey goes on with it
-pub continues_here : (s : HubState) (m : Message) (cs : List Change) (w : ℕ) → changed cs ≡ continued_in s m → has (changed cs) w ≡ true → continues_journeys m.body ≡ true
-continues_here s m cs w are h = continues_by (continues_journeys m.body) (named_wagons s.offer m) w (sym (ap (λ (ws : List ℕ). has ws w) are) ∙ h)
+pub continues_here : (b : Bool) (ws vs : List ℕ) (w : ℕ) → vs ≡ (if b then ws else []) → has vs w ≡ true → b ≡ true
+continues_here true ws vs w are h = refl
+continues_here false ws vs w are h = absurd (false≢true (sym (ap (λ (vs : List ℕ). has vs w) are) ∙ h))
 
 pub continues_unless_plan : (says : Body) → ((p : _) → says ≡ body.Plan p → ⊥) → continues_journeys says ≡ true
 continues_unless_plan (body.Plan p) h = absurd (h p refl)
@@ -35,8 +28,3 @@ answer_receivers s t m a known is =
 pub changed_has : (cs : List Change) (c : Change) → Contains cs c → has (changed cs) c.wagon ≡ true
 changed_has cs c at =
     has_at (changed cs) at.0 c.wagon (rw length-map at.1) (ap (λ (x : Change). x.wagon) (sym at.2) ∙ sym (get_or-map (λ (x : Change). x.wagon) cs at.0 c c.wagon at.1))
-
--- the change of the only wagon
-pub first_changed : (cs : List Change) (c : Change) (w : ℕ) → changed cs ≡ w ∷ [] → (get_or cs 0 c).wagon ≡ w
-first_changed [] c w are = cc
-first_changed (x ∷ cs) c w are = cc

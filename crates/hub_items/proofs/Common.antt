@@ -1,8 +1,8 @@
 -- What the proofs of this crate have in common: the names of other crates, of the standard library and of its own definitions.
 pub use Rattle.std.specs.List.{cons_option, range_with_len}
 pub use Rattle.std.specs.Option.{option_and_then}
-pub use Rattle.std.specs.Prelude.{◌||◌, filter_map, option_map, map, flat_map, option_to_list, not, bytes_eq, filter, slice_get, is_some, Contains}
-pub use Rattle.std.proofs.Common.{◌≡◌, ℕ, Bool, true, List, [], ◌∷◌, ◌++◌, Option, None, refl, ap, ◌∙◌, sym, false, cond, Some, append_assoc, append-nil, length, ◌+◌, take, get_or, arith, rules, subst, if◌then◌else◌}
+pub use Rattle.std.specs.Prelude.{◌||◌, filter_map, option_map, map, flat_map, option_to_list, not, bytes_eq, filter, slice_get, Contains}
+pub use Rattle.std.proofs.Common.{◌≡◌, ℕ, Bool, true, List, [], ◌∷◌, ◌++◌, Option, None, refl, ap, ◌∙◌, sym, false, Some, append_assoc, append-nil, length, ◌+◌, take, get_or, arith, rules, subst, if◌then◌else◌}
 pub use Rattle.std.proofs.lemmas.Bool.{or_right, false≢true}
 pub use Rattle.std.proofs.lemmas.Fn.{filter_same}
 pub use Rattle.std.proofs.lemmas.Grind.{flat_map-append, common_steps}
@@ -28,12 +28,12 @@ pub use Rattle.journey.specs.declared.event.Event.{Event}
 pub use Rattle.journey.specs.declared.event.EventBody.TheVariants.{Planned}
 pub use Rattle.eti_chain.specs.EstimateStates.{EstimatesState, estimates_state, in_turn_from}
 pub use Rattle.eti_chain.specs.Estimates.{estimate, estimate_basis, end_in, eta_in, late_by, lateness}
-pub use Rattle.eti_chain.proofs.CalendarLemmas.{no_end, same_test}
+pub use Rattle.eti_chain.proofs.CalendarLemmas.{no_end}
 pub use Rattle.hub_model.specs.HubState.{HubState, named_wagons, journey_after}
-pub use Rattle.hub_model.specs.Items.{each_once, alert, alert_receivers, alert_items, notice_receivers, estimate_items, is_news, estimate_item, runners}
+pub use Rattle.hub_model.specs.Items.{each_once, alert, alert_items, notice_receivers, estimate_items, is_news, estimate_item, runners}
 pub use Rattle.hub_model.specs.declared.addressed_item.AddressedItem.{AddressedItem}
 pub use Rattle.hub_model.proofs.NoFaultLemmas.{planned_anew}
-pub use Rattle.hub_tables.specs.Changes.{IsChange, changed, continued_in, gone_on}
+pub use Rattle.hub_tables.specs.Changes.{IsChange, changed, gone_on}
 pub use Rattle.hub_tables.specs.TableStates.{TableEntries, events_in, table_state, continues_journeys}
 pub use Rattle.hub_tables.specs.declared.changes.Change.{Change}
 pub use Rattle.hub_tables.proofs.NextEventLemmas.{has_at}

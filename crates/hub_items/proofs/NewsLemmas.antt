@@ -1,6 +1,5 @@
 -- What is told of a wagon's estimates, leg by leg.
-use Rattle.hub_items.proofs.Common.{◌≡◌, ℕ, ◌+◌, Bool, true, cond, List, [], ◌∷◌, ◌++◌, length, Option, Some, None, refl, ap, ◌∙◌, sym, arith, filter, filter_map, filter-append, flat_map, flat_map-append, ◌||◌, slice_get, option_map, option_to_list, option_and_then, is_some, map, map-id, map-range_with_len_more, range_with_len, cons_option, or_right, numbers, texts, same_text, has, Railway, AddressedItem, legs, runner_of, EstimatesState, estimates_state, end_in, eta_in, estimate, late_by, lateness, is_news, estimate_item, estimate_items, alert_receivers, alert_items, Transition, estimate_of, news_of}
-use Rattle.taf_messages.specs.declared.item.ItemBody.TheVariants as item
+use Rattle.hub_items.proofs.Common.{◌≡◌, ℕ, ◌+◌, Bool, true, List, [], ◌∷◌, ◌++◌, length, Option, Some, None, refl, ap, ◌∙◌, sym, arith, common_steps, filter, filter_map, filter-append, flat_map, flat_map-append, ◌||◌, slice_get, option_map, option_to_list, option_and_then, map-id, map-range_with_len_more, range_with_len, cons_option, or_right, numbers, texts, same_text, has, Railway, legs, runner_of, EstimatesState, estimates_state, end_in, eta_in, estimate, late_by, lateness, is_news, estimate_item, estimate_items, alert_items, Transition, estimate_of, news_of}
 
 listed : {A : Type 0} (o : Option A) (rest : List A) → cons_option o rest ≡ option_to_list o ++ rest
 listed None rest = refl
@@ -15,11 +14,7 @@ found_of_each f (x ∷ xs) = listed (f x) (filter_map f xs) ∙ ap (λ ys. optio
 passed_of_each : {A B C : Type 0} (g : B → List C) (p : B → Bool) (f : A → Option B) (xs : List A) →
     flat_map g (filter p (filter_map f xs)) ≡ flat_map (λ x. flat_map g (filter p (option_to_list (f x)))) xs
 passed_of_each g p f [] = refl
-passed_of_each g p f (x ∷ xs) =
-    ap (λ ys. flat_map g (filter p ys)) (listed (f x) (filter_map f xs)) ∙
-    ap (flat_map g) (filter-append p (option_to_list (f x)) (filter_map f xs)) ∙
-    flat_map-append g (filter p (option_to_list (f x))) (filter p (filter_map f xs)) ∙
-    ap (λ ys. flat_map g (filter p (option_to_list (f x))) ++ ys) (passed_of_each g p f xs)
+passed_of_each g p f (x ∷ xs) = rw (listed (f x) (filter_map f xs), filter-append, flat_map-append, passed_of_each g p f xs) refl
 
 -- where each gives nothing, all give nothing
 pub none_of_each : {B : Type 0} (f : ℕ → List B) (ws : List ℕ) → ((w : ℕ) → has ws w ≡ true → f w ≡ []) → flat_map f ws ≡ []
@@ -63,9 +58,4 @@ module _ (t : Transition) where
 
     -- and no alert begins or ends
     pub no_alert_items : alert_items t.before t.after t.wagon ≡ []
-    no_alert_items = rw late_by_left (by (late_by t.before))
-      where
-        by : (o : Option ℕ) → flat_map {A = AddressedItem} (λ says. map (λ r. record { to = r; body = says }) (alert_receivers t.after))
-            (option_to_list (cond (is_some o) (cond (is_some o) None (Some (item.AlertEnds t.wagon))) (option_map (λ minutes. item.AlertBegins t.wagon minutes) o))) ≡ []
-        by None = refl
-        by (Some minutes) = refl
+    no_alert_items = rw late_by_left (grind (arith, common_steps))

@@ -1,14 +1,11 @@
 -- The notices of a message, each railway once.
-use Rattle.hub_items.proofs.Common.{◌≡◌, Bool, true, false, cond, not, List, [], ◌∷◌, ◌++◌, refl, ap, ◌∙◌, sym, arith, append_assoc, append-nil, ◌||◌, map, filter, bytes_eq, bytes_eq-Decides, common_steps, same_test, Leg, Railway, Message, Option, Some, None, option_map, option_to_list, runners, AddressedItem, each_once, has_item_for, with_notice, with_notices}
+use Rattle.hub_items.proofs.Common.{◌≡◌, not, List, [], ◌∷◌, ◌++◌, refl, ap, ◌∙◌, sym, arith, append-nil, ◌||◌, map, filter, bytes_eq, bytes_eq-Decides, common_steps, Leg, Railway, Message, Option, Some, None, option_map, option_to_list, runners, AddressedItem, each_once, has_item_for, with_notice, with_notices}
 use Rattle.taf_messages.specs.declared.item.ItemBody.TheVariants as item
 
 -- the railway of a leg, if there is one
 pub runner_listed : (o : Option Leg) → option_to_list (option_map (λ (l : Leg). l.ru) o) ≡ runners (option_to_list o)
 runner_listed None = refl
 runner_listed (Some l) = refl
-
-turned : (q r : Railway) → bytes_eq r q ≡ bytes_eq q r
-turned q r = same_test _ _ (λ h. (bytes_eq-Decides q r).1 (sym ((bytes_eq-Decides r q).0 h))) (λ h. (bytes_eq-Decides r q).1 (sym ((bytes_eq-Decides q r).0 h)))
 
 module _ (m : Message) where
   -- the message for each of the railways
@@ -21,26 +18,15 @@ module _ (m : Message) where
 
   -- with the notice for a railway, items go to it and to those as before
   has_too : (items : List AddressedItem) (r q : Railway) → has_item_for (with_notice m items r) q ≡ (has_item_for items q || bytes_eq q r)
-  has_too items r q = by (has_item_for items r) refl
-    where
-      by : (b : Bool) → has_item_for items r ≡ b → has_item_for (cond b items (items ++ to_each (r ∷ []))) q ≡ (has_item_for items q || bytes_eq q r)
-      by true there = grind (arith, common_steps, there, bytes_eq-Decides q r)
-      by false none = grind (arith, common_steps, turned q r)
+  has_too items r q = grind (arith, common_steps, bytes_eq-Decides q r, bytes_eq-Decides r q)
 
   others_left : (items : List AddressedItem) (r : Railway) (rs : List Railway) → others (with_notice m items r) rs ≡ others items (filter (λ q. not (bytes_eq q r)) rs)
   others_left items r [] = refl
   others_left items r (q ∷ rs) = rw (has_too items r q, others_left items r rs) (grind (arith, common_steps))
 
-  one_more : (b : Bool) (items : List AddressedItem) (r : Railway) (rs : List Railway) →
-      cond b items (items ++ to_each (r ∷ [])) ++ to_each rs ≡ items ++ to_each (cond (not b) (r ∷ rs) rs)
-  one_more true items r rs = refl
-  one_more false items r rs = append_assoc items (to_each (r ∷ [])) (to_each rs)
-
   all_more : (rs : List Railway) (items : List AddressedItem) → with_notices m rs items ≡ items ++ to_each (others items (each_once rs))
   all_more [] items = sym (append-nil items)
-  all_more (r ∷ rs) items =
-      all_more rs (with_notice m items r) ∙ ap (λ qs. with_notice m items r ++ to_each qs) (others_left items r (each_once rs)) ∙
-      one_more (has_item_for items r) items r (others items (filter (λ q. not (bytes_eq q r)) (each_once rs)))
+  all_more (r ∷ rs) items = rw (all_more rs (with_notice m items r), others_left items r (each_once rs)) (grind (arith, common_steps))
 
   -- where there is none before, each railway has one
   pub notices_made : (rs : List Railway) → with_notices m rs [] ≡ to_each (each_once rs)

@@ -1,5 +1,5 @@
-use Rattle.hub_items.proofs.Common.{ap, ◌∙◌, sym, Bool, ℕ, List, Event, if◌then◌else◌, All-contains, IsChange, Journey, without_newest, state_before, events_in}
-use Rattle.hub_items.proofs.ChangeLemmas.{one_at, continues_here, journeys_with, changed_has}
+use Rattle.hub_items.proofs.Common.{same_Some, continues_journeys, named_wagons, changed, ap, ◌∙◌, sym, Bool, ℕ, List, Event, if◌then◌else◌, All-contains, IsChange, Journey, without_newest, state_before, events_in}
+use Rattle.hub_items.proofs.ChangeLemmas.{continues_here, journeys_with, changed_has}
 use Rattle.hub_items.proofs.wagon_change.WagonChange.of.Goals as goal
 
 pub returns : goal.returns
@@ -12,10 +12,10 @@ returns c =
     let gone = c.requires.acceptable.1 in
     let change = All-contains (IsChange t) cs c.args.change.now gone.changes.each c.requires.among in
     let is_changed = changed_has cs c.args.change.now c.requires.among in
-    let same = one_at s.fleet c.args.change.now.position _ w c.in-Some.ensures.found change.position_is in
+    let same = same_Some _ w (sym c.in-Some.ensures.found ∙ change.position_is) in
     let events = ap (λ (j : Journey). j.events) c.in-Some.ensures.journey ∙ ap (events_in t.wagons) same in
     record {
       wagon_is = ap (λ (j : Journey). j.wagon) c.in-Some.ensures.journey ∙ same;
       before_is = ap without_newest events ∙ sym (ap (λ (b : Bool). if b then without_newest (events_in t.wagons w) else events_in t.wagons w) is_changed);
-      after_is = events ∙ ap (λ (journey : ℕ → List Event). journey w) (journeys_with s t m gone.known (continues_here s m cs w gone.wagons is_changed));
+      after_is = events ∙ ap (λ (journey : ℕ → List Event). journey w) (journeys_with s t m gone.known (continues_here (continues_journeys m.body) (named_wagons s.offer m) (changed cs) w gone.wagons is_changed));
     }
