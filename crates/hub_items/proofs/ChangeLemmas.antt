@@ -1,5 +1,5 @@
 -- What the journeys of a message's wagons were before it, and are with it.
-use Rattle.hub_items.proofs.Common.{◌≡◌, ℕ, Bool, true, false, if◌then◌else◌, List, [], ◌∷◌, ◌++◌, get_or-map, length-map, Contains, refl, ap, ◌∙◌, sym, flat_map, filter_map, option_to_list, false≢true, has, has_at, Message, Body, TrainAnswer, Railway, notice_receivers, Event, HubState, journey_after, TableEntries, table_state, continues_journeys, Change, changed, gone_on, lead_of}
+use Rattle.hub_items.proofs.Common.{◌≡◌, ℕ, Bool, true, false, if◌then◌else◌, List, [], ◌∷◌, ◌++◌, refl, ap, ◌∙◌, sym, flat_map, filter_map, option_to_list, false≢true, has, Message, Body, TrainAnswer, Railway, notice_receivers, Event, HubState, journey_after, TableEntries, table_state, continues_journeys, gone_on, lead_of}
 use Rattle.taf_messages.specs.declared.message.Body.TheVariants as body
 use Rattle.hub_items.proofs.NewsLemmas.{found_of_each}
 
@@ -23,8 +23,3 @@ answer_receivers s t m a known is =
     ap (notice_receivers s (journey_after s m) m.by) is ∙
     ap (λ (journey : ℕ → List Event). a.offerer ∷ filter_map (λ w. lead_of (journey w)) (a.received ++ a.refused)) (sym (journeys_with s t m known (ap continues_journeys is))) ∙
     ap (λ (rs : List Railway). a.offerer ∷ rs) (found_of_each (λ w. lead_of ((table_state t).journey w)) (a.received ++ a.refused))
-
--- the wagon of a change is changed
-pub changed_has : (cs : List Change) (c : Change) → Contains cs c → has (changed cs) c.wagon ≡ true
-changed_has cs c at =
-    has_at (changed cs) at.0 c.wagon (rw length-map at.1) (ap (λ (x : Change). x.wagon) (sym at.2) ∙ sym (get_or-map (λ (x : Change). x.wagon) cs at.0 c c.wagon at.1))

@@ -1,17 +1,16 @@
 -- What the proofs of this crate have in common: the names of other crates, of the standard library and of its own definitions.
-pub use Rattle.std.specs.List.{cons_option, range_with_len}
+pub use Rattle.std.specs.List.{range_with_len}
 pub use Rattle.std.specs.Option.{option_and_then}
-pub use Rattle.std.specs.Prelude.{◌||◌, filter_map, option_map, map, flat_map, option_to_list, not, bytes_eq, filter, slice_get, Contains}
+pub use Rattle.std.specs.Prelude.{◌||◌, filter_map, option_map, map, flat_map, option_to_list, not, bytes_eq, filter, slice_get}
 pub use Rattle.std.proofs.Common.{◌≡◌, ℕ, Bool, true, List, [], ◌∷◌, ◌++◌, Option, None, refl, ap, ◌∙◌, sym, false, Some, append_assoc, append-nil, length, ◌+◌, take, get_or, arith, rules, subst, if◌then◌else◌}
 pub use Rattle.std.proofs.lemmas.Bool.{or_right, false≢true}
 pub use Rattle.std.proofs.lemmas.Fn.{filter_same}
-pub use Rattle.std.proofs.lemmas.Grind.{flat_map-append, common_steps}
-pub use Rattle.std.proofs.lemmas.List.{map-append, get_or-map, length-map, map-id}
-pub use Rattle.std.proofs.lemmas.List.Elements.{filter-append, All-contains}
+pub use Rattle.std.proofs.lemmas.Grind.{common_steps}
+pub use Rattle.std.proofs.lemmas.List.{map-append, map-id}
+pub use Rattle.std.proofs.lemmas.List.Elements.{All-contains}
 pub use Rattle.std.proofs.lemmas.Option.{same_Some}
 pub use Rattle.std.proofs.lemmas.Slice.Eq.{bytes_eq-Decides}
 pub use Rattle.std.proofs.lemmas.List.FromFn.{map-range_with_len_more}
-pub use Rattle.taf_codes.specs.Words.{same_text}
 pub use Rattle.taf_codes.specs.declared.code.Railway.{Railway}
 pub use Rattle.taf_codes.specs.Equality.{numbers, texts}
 pub use Rattle.trip_plan.specs.Rules.{has}
@@ -35,7 +34,6 @@ pub use Rattle.hub_model.specs.declared.addressed_item.AddressedItem.{AddressedI
 pub use Rattle.hub_model.proofs.NoFaultLemmas.{planned_anew}
 pub use Rattle.hub_tables.specs.Changes.{IsChange, changed, gone_on}
 pub use Rattle.hub_tables.specs.TableStates.{TableEntries, events_in, table_state, continues_journeys}
-pub use Rattle.hub_tables.specs.declared.changes.Change.{Change}
 pub use Rattle.hub_tables.proofs.NextEventLemmas.{has_at}
 pub use Rattle.hub_items.specs.MessageItems.{state_before, estimates_at, alerts_at}
 pub use Rattle.hub_items.specs.Notices.{has_item_for, with_notice, with_notices}

@@ -1,20 +1,16 @@
 -- What is told of a wagon's estimates, leg by leg.
-use Rattle.hub_items.proofs.Common.{◌≡◌, ℕ, ◌+◌, Bool, true, List, [], ◌∷◌, ◌++◌, length, Option, Some, None, refl, ap, ◌∙◌, sym, arith, common_steps, filter, filter_map, filter-append, flat_map, flat_map-append, ◌||◌, slice_get, option_map, option_to_list, option_and_then, map-id, map-range_with_len_more, range_with_len, cons_option, or_right, numbers, texts, same_text, has, Railway, legs, runner_of, EstimatesState, estimates_state, end_in, eta_in, estimate, late_by, lateness, is_news, estimate_item, estimate_items, alert_items, Transition, estimate_of, news_of}
-
-listed : {A : Type 0} (o : Option A) (rest : List A) → cons_option o rest ≡ option_to_list o ++ rest
-listed None rest = refl
-listed (Some x) rest = refl
+use Rattle.hub_items.proofs.Common.{◌≡◌, ℕ, ◌+◌, Bool, true, List, [], ◌∷◌, ◌++◌, length, Option, refl, ap, ◌∙◌, arith, common_steps, filter, filter_map, flat_map, ◌||◌, slice_get, option_map, option_to_list, option_and_then, map-id, map-range_with_len_more, range_with_len, or_right, numbers, texts, has, legs, runner_of, EstimatesState, estimates_state, end_in, eta_in, estimate, late_by, lateness, is_news, estimate_item, estimate_items, alert_items, Transition, estimate_of, news_of}
 
 -- what is there of each
 pub found_of_each : {A B : Type 0} (f : A → Option B) (xs : List A) → filter_map f xs ≡ flat_map (λ x. option_to_list (f x)) xs
 found_of_each f [] = refl
-found_of_each f (x ∷ xs) = listed (f x) (filter_map f xs) ∙ ap (λ ys. option_to_list (f x) ++ ys) (found_of_each f xs)
+found_of_each f (x ∷ xs) = grind (arith, common_steps, found_of_each f xs)
 
 -- what is made of each that passes
 passed_of_each : {A B C : Type 0} (g : B → List C) (p : B → Bool) (f : A → Option B) (xs : List A) →
     flat_map g (filter p (filter_map f xs)) ≡ flat_map (λ x. flat_map g (filter p (option_to_list (f x)))) xs
 passed_of_each g p f [] = refl
-passed_of_each g p f (x ∷ xs) = rw (listed (f x) (filter_map f xs), filter-append, flat_map-append, passed_of_each g p f xs) refl
+passed_of_each g p f (x ∷ xs) = grind (arith, common_steps, passed_of_each g p f xs)
 
 -- where each gives nothing, all give nothing
 pub none_of_each : {B : Type 0} (f : ℕ → List B) (ws : List ℕ) → ((w : ℕ) → has ws w ≡ true → f w ≡ []) → flat_map f ws ≡ []
@@ -25,10 +21,6 @@ none_of_each f (w ∷ ws) h =
 -- the legs up to one more
 pub one_leg_more : (n : ℕ) → range_with_len 0 (n + 1) ≡ range_with_len 0 n ++ n ∷ []
 one_leg_more n = simp map-id at (map-range_with_len_more (λ x. x) 0 n n (omega arith))
-
-same_name : (o : Option Railway) → same_text o o ≡ true
-same_name None = refl
-same_name (Some r) = texts.itself r
 
 module _ (t : Transition) where
   pub news_of_each : estimate_items t.before t.after t.wagon ≡ flat_map (news_of t) (range_with_len 0 (length (legs t.after)))
@@ -45,12 +37,7 @@ module _ (t : Transition) where
     late_by_left = ap (λ (s : EstimatesState). option_and_then (λ commit. option_and_then (lateness commit) (eta_in s.estimate_basis)) s.commit) same
 
     no_news : (j : ℕ) → news_of t j ≡ []
-    no_news j = by (estimate t.after j) (sym (estimate_left j))
-      where
-        by : (o : Option ℕ) → estimate t.before j ≡ o →
-            flat_map (estimate_item t.after t.wagon) (filter (is_news t.before t.after) (option_to_list (option_map (λ at. record { leg = j; at = at }) o))) ≡ []
-        by None h = refl
-        by (Some at) h = rw h (rw (numbers.itself at) (rw (runner_left (j + 1)) (rw (same_name (runner_of t.before (j + 1))) refl)))
+    no_news j = grind (arith, common_steps, estimate_left j, runner_left (j + 1), numbers.itself, texts.itself)
 
     -- where estimates are counted from what they were counted from before, none is news
     pub no_estimate_items : estimate_items t.before t.after t.wagon ≡ []

@@ -1,9 +1,7 @@
-use Rattle.hub_items.proofs.Common.{◌≡◌, ◌∙◌, sym, Some, arith, common_steps, map-append, option_to_list, alert, Railway, AddressedItem}
+use Rattle.hub_items.proofs.Common.{◌∙◌, sym, arith, common_steps, map-append, option_to_list, Railway, AddressedItem}
 use Rattle.hub_items.proofs.alerts.put_alerts.Goals as goal
 
 pub returns-in_ok-put_to-2 : goal.returns-in_ok-put_to-2
 returns-in_ok-put_to-2 c =
-    let t = c.args.change.now in
-    let told : alert t.before t.after t.wagon ≡ Some c.in-Some.says = sym c.alert.ensures ∙ c.in-Some.is in
     let each = map-append (λ (r : Railway). let i : AddressedItem = record { to = r; body = c.in-Some.says } in i) (option_to_list c.lead.result) (option_to_list c.also_alerted.result) in
-    rw told (grind (arith, common_steps, each))
+    rw (sym c.alert.ensures ∙ c.in-Some.is) (grind (arith, common_steps, each))

@@ -1,5 +1,5 @@
-use Rattle.hub_items.proofs.Common.{same_Some, continues_journeys, named_wagons, changed, ap, ◌∙◌, sym, Bool, ℕ, List, Event, if◌then◌else◌, All-contains, IsChange, Journey, without_newest, state_before, events_in}
-use Rattle.hub_items.proofs.ChangeLemmas.{continues_here, journeys_with, changed_has}
+use Rattle.hub_items.proofs.Common.{◌≡◌, true, has, has_at, arith, common_steps, same_Some, continues_journeys, named_wagons, changed, ap, ◌∙◌, sym, Bool, ℕ, List, Event, if◌then◌else◌, All-contains, IsChange, Journey, without_newest, state_before, events_in}
+use Rattle.hub_items.proofs.ChangeLemmas.{continues_here, journeys_with}
 use Rattle.hub_items.proofs.wagon_change.WagonChange.of.Goals as goal
 
 pub returns : goal.returns
@@ -11,7 +11,7 @@ returns c =
     let w = c.args.change.now.wagon in
     let gone = c.requires.acceptable.1 in
     let change = All-contains (IsChange t) cs c.args.change.now gone.changes.each c.requires.among in
-    let is_changed = changed_has cs c.args.change.now c.requires.among in
+    let is_changed : has (changed cs) w ≡ true = grind (arith, common_steps, has_at (changed cs) c.requires.among.0 w, c.requires.among.1, c.requires.among.2) in
     let same = same_Some _ w (sym c.in-Some.ensures.found ∙ change.position_is) in
     let events = ap (λ (j : Journey). j.events) c.in-Some.ensures.journey ∙ ap (events_in t.wagons) same in
     record {
