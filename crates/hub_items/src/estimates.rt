@@ -10,8 +10,7 @@ use taf_codes::Memory;
 use taf_messages::{EstimateAt, ItemBody, LegIndex};
 use taf_moment::Moment;
 
-/// Adds the items of the estimates that are news. Gives whether the estimates may be others than before: otherwise no alert begins
-/// or ends.
+/// Adds the items of the estimates that are news. Gives whether an alert may begin or end, which is seen from the last estimates.
 #[tactic(auto, using(crate::proofs::NewsLemmas::news_of_each, crate::proofs::NewsLemmas::no_alert_items))]
 pub(crate) fn put_estimates(
     items: &mut Vec<AddressedItem>,
@@ -19,7 +18,7 @@ pub(crate) fn put_estimates(
 ) -> Result<bool, Memory>
     ensures put { OnOk result (items.new.items ≡ items.old.items
         ++ of.estimate_items change.now.before change.now.after change.now.wagon) }
-    ensures kept { IfOk result (λ changed. changed ≡ false
+    ensures kept { IfOk result (λ may_alert. may_alert ≡ false
         → of.alert_items change.now.before change.now.after change.now.wagon ≡ []) }
 {
     if change.keeps_estimates() {
@@ -27,12 +26,17 @@ pub(crate) fn put_estimates(
     }
     let (before, after) = (change.estimates_before(), change.estimates_after());
     let (mut each_before, mut each_after) = (before.in_turn(), after.in_turn());
-    for leg in 0..change.leg_count() {
+    let legs = change.leg_count();
+    for leg in 0..legs {
         let was = each_before.next_estimate();
         let at = each_after.next_estimate();
         put_of_leg(items, change, leg, was, at)?;
     }
-    Ok(true)
+    if change.legs_before().len() != legs {
+        return Ok(true);
+    }
+    let was_late = before.is_late_by(each_before.eta());
+    Ok(was_late != after.is_late_by(each_after.eta()))
 }
 
 // Adds the item of a leg's estimate, if there is one and it is news.
