@@ -1,15 +1,11 @@
 -- When the hub's state is consistent with its history.
-use Rattle.std.specs.Prelude.{◌≡◌, ℕ, ◌<◌, ◌≤◌, true, List, [], ◌∷◌, ◌++◌, length, slice_get, Option, Some, None, Result, Ok, Err, IfOk, OnErr}
+use Rattle.std.specs.Prelude.{◌≡◌, ℕ, ◌<◌, ◌≤◌, true, List, [], ◌∷◌, ◌++◌, length, slice_get, Option, Some, None, Result, IfOk, OnErr}
 use Rattle.taf_codes.specs.declared.memory.Memory.{Memory}
 use Rattle.taf_codes.specs.declared.code.Railway.{Railway}
 use Rattle.taf_messages.specs.declared.call.Call.{Call}
 use Rattle.taf_messages.specs.declared.call.Call.TheVariants.{Send}
 use Rattle.taf_messages.specs.declared.message.Message.{Message}
 use Rattle.taf_messages.specs.declared.reply.Reply.{Reply}
-use Rattle.taf_messages.specs.declared.reply.Reply.TheVariants.{Acknowledged}
-use Rattle.taf_messages.specs.Refusals.{refused}
-use Rattle.taf_messages.specs.declared.reply.Why.TheVariants as why
-use Rattle.outbox.specs.declared.fault.AckAhead.{AckAhead}
 use Rattle.outbox.specs.OutboxStates.{OutboxState, outbox_state_of}
 use Rattle.outbox.specs.Keeping.{Keeps}
 use Rattle.replay_numbers.specs.SentPositions.{position_of, has_room}
@@ -17,7 +13,7 @@ use Rattle.hub_model.specs.declared.entry.Entry.{Entry}
 use Rattle.taf_messages.specs.Bodies.{moment_in}
 use Rattle.hub_model.specs.HubState.{HubState, FirstSend}
 use Rattle.hub_model.specs.Histories.{state_of, IsLegal, answer}
-use Rattle.hub_model.specs.Laws.{AreDated, IsMoment}
+use Rattle.hub_model.specs.Laws.{AreDated, IsMoment, IsSend}
 use Rattle.hub_model.specs.Bounds.{AreWithinLimits, IsWithinLimits}
 use Rattle.hub_tables.specs.TableStates.{table_state, table_part}
 use Rattle.hub_tables.specs.Changes.{known_before}
@@ -40,6 +36,10 @@ OffersWereSent s = (by : Railway) (n : ℕ) → s.first_send by n ≡ None → s
 -- the message's moment is of the calendar, and its lists keep their limits
 abbrev pub KeepsLimits : Message → Type 0
 KeepsLimits m = IsMoment (moment_in m.body) × IsWithinLimits m
+
+-- so do those of the message that a call sends
+abbrev pub SendKeepsLimits : Call → Type 0
+SendKeepsLimits call = IsSend (λ m. IsMoment (moment_in m.body)) call × IsSend IsWithinLimits call
 
 -- the history is legal, and what is looked up is what the model knows after it
 pub record Represents (history : List Entry) (looked_up : HubState) (position : Railway → ℕ → Option ℕ) (box : Railway → OutboxState) : Type 0 where
@@ -79,8 +79,3 @@ pub record Applies (old new : State) (call : Call) (result : Result Reply Memory
   pub answered : IfOk result (λ r. r ≡ answer old.history.entries call)
   pub grows : IfOk result (λ r. new.history.entries ≡ old.history.entries ++ record { call = call; reply = r } ∷ [])
   pub err : OnErr result (new.history.entries ≡ old.history.entries)
-
--- the reply to an acknowledgement that stands, or is ahead
-abbrev pub ack_outcome_reply : Result ℕ AckAhead → Reply
-ack_outcome_reply (Ok stands) = Acknowledged stands
-ack_outcome_reply (Err ahead) = refused None why.AckAhead None (Some ahead.last)

@@ -11,8 +11,7 @@ ghost use Rattle.hub_core.specs.States.{Applies, IsNew, MayAccept, known_before_
 ghost use Rattle.hub_core.specs.Delivery.{AreReady};
 
 use crate::delivery::{deliver, make_room_for};
-use crate::state::State;
-use crate::verdicts::entry_of;
+use crate::state::{State, enter_send};
 use hub_items::put_items;
 use hub_model::items_and_events_are_bounded;
 use memory_ahead::ask_ahead;
@@ -23,24 +22,6 @@ use taf_messages::{Message, Reply, Shared};
 
 // After so many calls the allocator is asked ahead for what the next ones take.
 const CALLS_ASKED_FOR: usize = 4096;
-
-// Makes room for one entry more and for the items in the list. Nothing that is looked up changes.
-fn make_room(state: &mut State) -> Result<(), Memory>
-    ensures entries { state.new.history.entries ≡ state.old.history.entries }
-    ensures tables { state.new.tables ≡ state.old.tables }
-    ensures seen { state.new.seen ≡ state.old.seen }
-    ensures boxes { (r : Railway) → outbox_state_of state.new.outboxes r
-        ≡ outbox_state_of state.old.outboxes r }
-    ensures items { state.new.items.items ≡ state.old.items.items }
-    ensures changes { state.new.changes.items ≡ state.old.changes.items }
-    ensures ready { OnOk result (AreReady state.new.outboxes (2 ^ 62)
-        (length state.new.items.items) state.new.items.items) }
-    ensures room { OnOk result (0 < state.new.history.spare) }
-{
-    make_room_for(&mut state.outboxes, &state.items)?;
-    state.history.reserve()?;
-    Ok(())
-}
 
 // Makes the items of a message by which journeys have gone on, makes room for them and for one entry more, and completes what
 // the message changes of the tables. Where memory is refused, nothing that is looked up changes.
@@ -69,7 +50,8 @@ fn prepare(alloc: Global, state: &mut State, message: &Shared<Message>) -> Resul
         message,
         &state.changes,
     )?;
-    make_room(state)?;
+    make_room_for(&mut state.outboxes, &state.items)?;
+    state.history.reserve()?;
     state.tables.complete(alloc, message.get(), &state.changes)
 }
 
@@ -96,14 +78,8 @@ pub(crate) fn accept(
         state.tables.take_back(&mut state.changes);
         return Err(refused);
     }
-    let content = message.get().content();
-    let by = content.by;
-    let no = content.no;
     deliver(&mut state.outboxes, &mut state.items);
-    let position = state.history.len() as u32;
-    state.seen.note_reserved(by, no, position);
-    state
-        .history
-        .push_reserved(entry_of(message, Reply::Accepted { no }));
+    let no = message.get().no();
+    enter_send(state, message, Reply::Accepted { no });
     Ok(Reply::Accepted { no })
 }

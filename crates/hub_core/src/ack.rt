@@ -1,7 +1,9 @@
 //! Acknowledgements.
-ghost use Rattle.std.specs.Prelude.{◌≡◌, Err, IfOk};
+ghost use Rattle.std.specs.Prelude.{◌≡◌, None, Some, IfOk};
 ghost use Rattle.taf_messages.specs.declared.call.Call.TheVariants as call;
-ghost use Rattle.hub_core.specs.States.{Applies, MayTake, ack_outcome_reply};
+ghost use Rattle.taf_messages.specs.declared.reply.Why.TheVariants as why;
+ghost use Rattle.taf_messages.specs.Refusals.{refused};
+ghost use Rattle.hub_core.specs.States.{Applies, MayTake};
 
 use crate::state::{State, append_entry};
 use hub_model::Entry;
@@ -12,7 +14,7 @@ use taf_messages::{Call, ItemNumber, Refusal, Reply, Shared, Why};
 
 // The reply to an acknowledgement that is ahead.
 fn refusal_of_ack(alloc: Global, ahead: AckAhead) -> Result<Reply, Memory>
-    ensures { IfOk result (λ r. r ≡ ack_outcome_reply (Err ahead)) }
+    ensures { IfOk result (λ r. r ≡ refused None why.AckAhead None (Some ahead.last)) }
 {
     let refusal = Refusal {
         no: None,

@@ -7,6 +7,7 @@ ghost use Rattle.hub_core.specs.States.{Applies, IsConsistent, MayTake};
 
 use crate::state::{State, append_entry};
 use hub_answers::{ask, ask_unit, deviation};
+use outbox::boxes_keep_the_lists;
 use std::alloc::Global;
 use taf_codes::{Memory, Railway};
 use taf_messages::{Call, FetchLimit, Reply, Shared};
@@ -38,7 +39,6 @@ fn reply_to(alloc: Global, state: &State, call: &Call) -> Result<Reply, Memory>
 }
 
 // The reply to a railway that fetches its items.
-#[tactic(auto, using(crate::proofs::HistoryLemmas::fetch_answer))]
 fn fetch_reply(
     alloc: Global,
     state: &State,
@@ -48,6 +48,7 @@ fn fetch_reply(
     requires { IsConsistent state.now }
     ensures { IfOk result (λ r. r ≡ answer state.now.history.entries (call.Fetch by limit)) }
 {
+    boxes_keep_the_lists();
     let items = state.outboxes.fetch(by, limit)?;
     Ok(Reply::Items(Shared::new(alloc, items)?))
 }

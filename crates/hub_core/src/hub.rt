@@ -108,6 +108,7 @@ impl Hub {
 
     /// The records of all planned wagons, by the first accepted plan that named each, then by its
     /// place in that plan.
+    #[tactic(auto, using(std::proofs::lemmas::List::take_all))]
     pub fn view(&self) -> Result<View, Memory>
         ensures { IfOk result (λ v. v ≡ view (state_of self.now)) }
     {

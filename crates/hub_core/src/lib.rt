@@ -27,7 +27,7 @@
 //! | `repeats` | messages that were sent before |
 //! | `refusals` | new messages that are refused |
 //! | `acceptance` | new messages that are accepted |
-//! | `verdicts` | the reply to a new message, and its entry |
+//! | `verdicts` | the reply to a message that is refused |
 //! | `delivery` | items on their way into the outboxes |
 //! | `applying` | each call to its part |
 #![tactic(auto)]

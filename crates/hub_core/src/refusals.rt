@@ -5,8 +5,8 @@ ghost use Rattle.hub_model.specs.Faults.{fault};
 ghost use Rattle.hub_tables.specs.TableStates.{table_state};
 ghost use Rattle.hub_core.specs.States.{Applies, IsNew, MayTake};
 
-use crate::state::State;
-use crate::verdicts::{entry_of, refusal_of};
+use crate::state::{State, enter_send};
+use crate::verdicts::refusal_of;
 use hub_model::Fault;
 use std::alloc::Global;
 use taf_codes::Memory;
@@ -25,14 +25,9 @@ pub(crate) fn refuse(
     requires fault { fault (table_state state.old.tables) message ≡ Some found }
     ensures { Applies state.old state.new (call.Send message) result }
 {
-    let content = message.get().content();
-    let by = content.by;
-    let no = content.no;
-    let reply = refusal_of(alloc, no, found)?;
+    let reply = refusal_of(alloc, message.get().no(), found)?;
     let reply_copy = copy_reply(&reply)?;
     state.history.reserve()?;
-    let position = state.history.len() as u32;
-    state.seen.note_reserved(by, no, position);
-    state.history.push_reserved(entry_of(message, reply));
+    enter_send(state, message, reply);
     Ok(reply_copy)
 }

@@ -11,6 +11,7 @@ use crate::refusals::refuse;
 use crate::repeats::apply_repeat;
 use crate::state::State;
 use hub_model::{estimates_fit, offers_are_in_order};
+use outbox::boxes_keep_the_lists;
 use std::alloc::Global;
 use taf_codes::Memory;
 use taf_messages::{Body, Message, Reply, Shared};
@@ -48,6 +49,7 @@ fn apply_new(alloc: Global, state: &mut State, message: Shared<Message>) -> Resu
     requires new { IsNew state.old message }
     ensures { Applies state.old state.new (call.Send message) result }
 {
+    boxes_keep_the_lists();
     estimates_fit();
     offers_are_in_order();
     match state.tables.take(alloc, message.get(), &mut state.changes)? {

@@ -1,64 +1,52 @@
-use Rattle.hub_core.proofs.Common.{rules, ◌≡◌, ℕ, List, [], ◌∷◌, ◌++◌, Option, Some, None, cond, length, ap, ◌∙◌, ◌<◌, ◌^◌, sym, subst, Send, Message, Reply, Accepted, Paged, same_name, position_of, SentStates, OutboxState, outbox_state_of, with_items, Entry, AddressedItem, items_to, table_state, AreChanges, known_before, known_before_changes, Represents}
-use Rattle.hub_core.proofs.ChangeLemmas.{before_stays, changes_stay}
-use Rattle.hub_core.proofs.HistoryLemmas.{kept_same}
+use Rattle.hub_core.proofs.Common.{rules, ◌≡◌, List, [], ◌∷◌, ◌++◌, Some, None, cond, length, ap, ◌∙◌, ◌<◌, ◌^◌, sym, subst, transport⁻¹, Message, Accepted, same_name, position_of, outbox_state_of, with_items, AddressedItem, items_to, table_state, AreChanges, known_before_changes, Represents, entry_of, if◌then◌else◌, slice_get, All-weaker, has, without_newest, HubState, IsStateBefore, IsChange, changed, TableEntries, Change}
 use Rattle.hub_core.proofs.SendLemmas.{few_items, new_answer, kept_accepted}
 use Rattle.hub_core.proofs.acceptance.accept.Goals as goal
+
+-- a change in tables that know the same
+change_stays : (old new : TableEntries) (c : Change) → table_state new ≡ table_state old → IsChange old c → IsChange new c
+change_stays old new c same change = record {
+  position_is = ap (λ (s : HubState). slice_get s.fleet c.position) same ∙ change.position_is;
+  before_is = subst (λ (s : HubState). IsStateBefore (s.journey c.wagon) c.before) (sym same) change.before_is;
+}
 
 pub take_back-requires : goal.take_back-requires
 take_back-requires c = record {
   changes = let b = c.args.state.now in
       let n = c.prepare.new.state in
       let r = c.in-Err.ensures in
-      subst (AreChanges n.tables) (sym r.changes) (changes_stay b.tables n.tables r.err b.changes.items c.requires.gone_on.changes);
+      let all = c.requires.gone_on.changes in
+      subst (AreChanges n.tables) (sym r.changes) (record { differ = all.differ; each = All-weaker (IsChange b.tables) (IsChange n.tables) (λ d. change_stays b.tables n.tables d r.err) b.changes.items all.each });
 }
 
 pub returns-in-Err : goal.returns-in-Err
 returns-in-Err c = record {
-  kept = let b = c.args.state.now in
-      let n = c.prepare.new.state in
-      let r = c.in-Err.ensures in
-      subst (λ (es : List Entry). Represents es (table_state c.take_back.new.self) (position_of n.seen) (outbox_state_of n.outboxes)) (sym r.entries)
-      (kept_same b.history.entries (known_before_changes b) (table_state c.take_back.new.self) (position_of b.seen) (position_of n.seen) (outbox_state_of b.outboxes) (outbox_state_of n.outboxes)
-      (c.take_back.ensures ∙ ap (known_before n.tables) r.changes ∙ before_stays b.tables n.tables r.err b.changes.items)
-      (λ by k. ap (λ (t : SentStates). position_of t by k) r.seen) r.boxes c.requires.ready.0);
+  kept = let r = c.in-Err.ensures in
+      let tables : table_state c.take_back.new.self ≡ known_before_changes c.args.state.now =
+      c.take_back.ensures ∙ (λ i. record (r.err i) { journey = λ w. if has (changed (r.changes i)) w then without_newest ((r.err i).journey w) else (r.err i).journey w }) in
+      transport⁻¹ (λ i. Represents (r.entries i) (tables i) (position_of (r.seen i)) (λ q. r.boxes q i)) c.requires.ready.0;
   answered = search rules;
   grows = search rules;
   err = search rules;
 }
 
 pub returns : goal.returns
-returns c = record {
-  kept = let b = c.args.state.now in
-      let m = c.args.message in
-      let same = c.content-content.ensures.value ∙ c.get.ensures in
-      let n = c.prepare.new.state in
-      let r = c.in_default.ensures in
-      let entry : Reply → Entry = λ reply. record { call = Send m; reply = reply } in
-      let entered : c.push_reserved.new.self.entries ≡ b.history.entries ++ entry (Accepted m.no) ∷ [] =
-      ap (λ (p : Paged Entry). p.entries) c.push_reserved.ensures ∙
-      ap (λ (e : Entry). n.history.entries ++ e ∷ []) (c.entry_of.ensures ∙ ap entry (ap (λ (x : Message). Accepted x.no) same)) ∙
-      ap (λ (es : List Entry). es ++ entry (Accepted m.no) ∷ []) r.entries in
-      let len : c.len-position.result ≡ length b.history.entries = c.len-position.ensures.value ∙ ap length r.entries in
-      subst (λ (es : List Entry). Represents es (table_state n.tables) (position_of c.note_reserved.new.self) (outbox_state_of c.deliver.new.outboxes)) (sym entered)
-      (kept_accepted b.history.entries m (known_before_changes b) (position_of b.seen) (outbox_state_of b.outboxes) c.requires.ready.0 c.requires.ready.1 c.requires.new.1 c.requires.new.0
-      c.boxes_keep_the_lists.ensures.push (table_state n.tables) (position_of c.note_reserved.new.self) (outbox_state_of c.deliver.new.outboxes) c.requires.acceptable.sound
-      r.tables
-      (λ by k. c.note_reserved.ensures by k ∙
-      ap (λ (x : Message). cond (same_name x.by x.no by k) (Some c.len-position.result) (position_of n.seen by k)) same ∙
-      ap (λ (p : ℕ). cond (same_name m.by m.no by k) (Some p) (position_of n.seen by k)) len ∙
-      ap (λ (o : Option ℕ). cond (same_name m.by m.no by k) (Some (length b.history.entries)) o) (ap (λ (t : SentStates). position_of t by k) r.seen))
-      (λ q. c.deliver.ensures q ∙
-      ap (λ (k : OutboxState). with_items k (items_to q n.items.items)) (r.boxes q) ∙
-      ap (λ (is : List AddressedItem). with_items (outbox_state_of b.outboxes q) (items_to q is)) r.items));
-  answered = let b = c.args.state.now in
-      ap (λ (x : Message). Accepted x.no) (c.content-content.ensures.value ∙ c.get.ensures) ∙
-      new_answer b.history.entries c.args.message (known_before_changes b) (position_of b.seen) (outbox_state_of b.outboxes) c.requires.ready.0 c.requires.ready.1 c.requires.new.1 c.requires.new.0 None c.requires.acceptable.sound;
-  grows = search rules;
-  err = search rules;
-}
+returns c =
+    let b = c.args.state.now in
+    let m = c.args.message in
+    let r = c.in_default.ensures in
+    let e = c.enter_send.ensures in
+    let told : c.no-no.result ≡ m.no = c.no-no.ensures ∙ ap (λ (x : Message). x.no) c.get.ensures in
+    record {
+      kept = transport⁻¹ (λ i. Represents ((e.entries ∙ (λ j. r.entries j ++ entry_of (record { message = m; reply = Accepted (told j) }) ∷ [])) i) ((ap table_state e.tables ∙ r.tables) i)
+          (λ by n. (e.seen by n ∙ (λ j. cond (same_name m.by m.no by n) (Some (length (r.entries j))) (position_of (r.seen j) by n))) i)
+          (λ q. ((λ j. outbox_state_of (e.outboxes j) q) ∙ c.deliver.ensures q ∙ (λ j. with_items (r.boxes q j) (items_to q (r.items j)))) i))
+          (kept_accepted c.requires.ready.0 c.requires.ready.1 m c.requires.new.1 c.requires.new.0 c.boxes_keep_the_lists.ensures.push c.requires.acceptable.sound);
+      answered = ap Accepted told ∙ new_answer c.requires.ready.0 c.requires.ready.1 m c.requires.new.1 c.requires.new.0 None c.requires.acceptable.sound;
+      grows = search rules;
+      err = search rules;
+    }
 
 pub deliver-requires-clause-few : goal.deliver-requires-clause-few
 deliver-requires-clause-few c =
-    let b = c.args.state.now in
     subst (λ (is : List AddressedItem). length is < 2 ^ 62) (sym c.in_default.ensures.items)
-    (few_items c.items_and_events_are_bounded.ensures.items b.history.entries c.args.message (known_before_changes b) (position_of b.seen) (outbox_state_of b.outboxes) c.requires.ready.0 c.requires.new.1 c.requires.acceptable.sound)
+    (few_items c.requires.ready.0 c.requires.ready.1 c.args.message c.requires.new.1 c.requires.new.0 c.items_and_events_are_bounded.ensures.items c.requires.acceptable.sound)

@@ -1,27 +1,44 @@
-use Rattle.hub_core.proofs.Common.{rules, ◌≡◌, ℕ, List, [], ◌∷◌, ◌++◌, ap, ◌∙◌, sym, subst, Ack, Reply, Acknowledged, Paged, position_of, outbox_state_of, Entry, answer, table_state, Represents, ack_outcome_reply}
-use Rattle.hub_core.proofs.AcknowledgementLemmas.{ack_answer, kept_ack}
+use Rattle.hub_core.proofs.Common.{max, bytes_eq, ◌≡◌, ℕ, ◌<◌, Bool, true, false, cond, length, List, [], ◌∷◌, ◌++◌, Option, Some, None, refl, ap, ◌∙◌, sym, subst, ◌≤◌, rules, le-ltb, texts, Railway, Ack, ItemBody, Acknowledged, refused, Paged, position_of, Keeps, Acknowledges, OutboxState, acknowledged_up_to, answer, state_of, HubState, with_acknowledgement, Entry, table_state, Represents, transport⁻¹}
+use Rattle.taf_messages.specs.declared.reply.Why.TheVariants.{AckAhead as Ahead}
+use Rattle.hub_core.proofs.HistoryLemmas.{kept_more, leads_on}
 use Rattle.hub_core.proofs.ack.apply_ack.Goals as goal
 
+-- the box of one railway after it
+keeps_acked : (acks : Acknowledges) (b : Bool) (k : OutboxState) (bodies : List ItemBody) (a m n : ℕ) → Keeps k bodies a → (b ≡ true → (n ≤ length bodies) × (m ≡ max a n)) → Keeps (cond b (acknowledged_up_to k n) k) bodies (cond b m a)
+keeps_acked acks true k bodies a m n keeps h = subst (Keeps (acknowledged_up_to k n) bodies) (sym (h refl).1) (acks k bodies a n keeps (h refl).0)
+keeps_acked acks false k bodies a m n keeps h = keeps
+
+module _ {history : List Entry} {looked_up : HubState} {position : Railway → ℕ → Option ℕ} {box : Railway → OutboxState} (kept : Represents history looked_up position box) (room : length history < 1000000)
+    (by : Railway) (n stands : ℕ) (within : n ≤ length ((state_of history).outbox by)) (number : stands ≡ max (box by).acknowledged n) where
+  abbrev s : HubState
+  s = state_of history
+
+  stands_there : stands ≡ max (s.acknowledged by) n
+  stands_there = number ∙ ap (λ (a : ℕ). max a n) (kept.boxes by).number
+
+  ack_answer : Acknowledged stands ≡ answer history (Ack by n)
+  ack_answer = ap Acknowledged stands_there ∙ ap (λ (b : Bool). cond b (refused None Ahead None (Some (length (s.outbox by)))) (Acknowledged (max (s.acknowledged by) n))) (sym (le-ltb (length (s.outbox by)) n within))
+
+  kept_ack : (acks : Acknowledges) → Represents (history ++ record { call = Ack by n; reply = Acknowledged stands } ∷ []) looked_up position (λ r. cond (bytes_eq by r) (acknowledged_up_to (box r) n) (box r))
+  kept_ack acks =
+      let e : Entry = record { call = Ack by n; reply = Acknowledged stands } in
+      kept_more kept room e (tt, tt) ack_answer (with_acknowledgement s by stands) refl kept.tables (λ also k. leads_on history e (position also k) (s.first_send also k) (kept.firsts also k))
+      (λ r. keeps_acked acks (bytes_eq by r) (box r) (s.outbox r) (s.acknowledged r) stands n (kept.boxes r)
+      (λ e. subst (λ (q : Railway). (n ≤ length (s.outbox q)) × (stands ≡ max (s.acknowledged q) n)) (texts.equal by r e) (within, stands_there)))
+      kept.offers
+
 pub returns-in-Ok : goal.returns-in-Ok
-returns-in-Ok c = record {
-  kept = let b = c.args.state.now in
-      let laws = c.boxes_keep_the_lists.ensures in
-      let o = c.ack.ensures in
-      let entry : Reply → Entry = λ r. record { call = Ack c.args.by c.args.item; reply = r } in
-      let told : ack_outcome_reply c.ack.result ≡ Acknowledged c.in-Ok.stands = ap ack_outcome_reply c.in-Ok.is in
-      let entered : c.push_reserved.new.self.entries ≡ b.history.entries ++ entry (ack_outcome_reply c.ack.result) ∷ [] =
-      ap (λ (p : Paged Entry). p.entries) c.push_reserved.ensures ∙ ap (λ (es : List Entry). es ++ entry (Acknowledged c.in-Ok.stands) ∷ []) c.in_ok-reserve.ensures.entries ∙ ap (λ (r : Reply). b.history.entries ++ entry r ∷ []) (sym told) in
-      subst (λ (es : List Entry). Represents es (table_state b.tables) (position_of b.seen) (outbox_state_of c.ack.new.self)) (sym entered)
-      (subst (λ (n : ℕ). Represents (b.history.entries ++ record { call = Ack c.args.by n; reply = ack_outcome_reply c.ack.result } ∷ []) (table_state b.tables) (position_of b.seen) (outbox_state_of c.ack.new.self)) c.get.ensures.value
-      (kept_ack laws.last laws.acknowledgement b.history.entries c.args.by c.get.result (table_state b.tables) (position_of b.seen) b.outboxes c.ack.new.self c.requires.ready.0 c.requires.ready.1
-      c.ack.result o.when o.stands o.ahead o.kept o.err));
-  answered = let b = c.args.state.now in
-      let laws = c.boxes_keep_the_lists.ensures in
-      let o = c.ack.ensures in
-      sym (ap ack_outcome_reply c.in-Ok.is) ∙
-      ack_answer laws.last laws.acknowledgement b.history.entries c.args.by c.get.result (table_state b.tables) (position_of b.seen) b.outboxes c.ack.new.self c.requires.ready.0 c.requires.ready.1
-      c.ack.result o.when o.stands o.ahead ∙
-      ap (λ (n : ℕ). answer b.history.entries (Ack c.args.by n)) c.get.ensures.value;
-  grows = search rules;
-  err = search rules;
-}
+returns-in-Ok c =
+    let b = c.args.state.now in
+    let n = c.get.result in
+    let laws = c.boxes_keep_the_lists.ensures in
+    let o = c.in-Ok.ensures in
+    let kept = c.requires.ready.0 in
+    let within : n ≤ length ((state_of b.history.entries).outbox c.args.by) = subst (λ (k : ℕ). n ≤ k) (laws.last _ _ _ (kept.boxes c.args.by)) (o.when.0 refl) in
+    record {
+      kept = transport⁻¹ (λ i. Represents ((ap (λ (p : Paged Entry). p.entries) c.push_reserved.ensures ∙ (λ j. c.in_ok-reserve.ensures.entries j ++ record { call = Ack c.args.by (sym c.get.ensures.value j); reply = Acknowledged c.in-Ok.stands } ∷ [])) i)
+          (table_state b.tables) (position_of b.seen) (λ r. o.kept r i)) (kept_ack kept c.requires.ready.1 c.args.by n c.in-Ok.stands within o.stands laws.acknowledgement);
+      answered = ack_answer kept c.requires.ready.1 c.args.by n c.in-Ok.stands within o.stands ∙ ap (λ (k : ℕ). answer b.history.entries (Ack c.args.by k)) c.get.ensures.value;
+      grows = search rules;
+      err = search rules;
+    }
