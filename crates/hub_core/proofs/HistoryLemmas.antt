@@ -1,12 +1,10 @@
 -- What keeps the state, where a history has one more entry.
-use Rattle.hub_core.proofs.Common.{◌≡◌, ℕ, ◌<◌, Bool, true, false, cond, length, List, [], ◌∷◌, ◌++◌, Option, Some, None, refl, ap, ◌∙◌, sym, subst, arith, slice_get_within, length-append, slice_get-left, Railway, Message, Reply, OutboxState, Keeps, Entry, moment_in, HubState, FirstSend, after, answer, state_of, EachSend, IsSend, IsMoment, IsWithinLimits, one_more_entry, state_of-push, table_part, Represents, LeadsTo, OffersWereSent, entry_of, IsLegal, SendKeepsLimits}
+use Rattle.hub_core.proofs.Common.{◌≡◌, ℕ, ◌<◌, Bool, true, false, cond, length, List, [], ◌∷◌, ◌++◌, Option, Some, refl, ap, ◌∙◌, sym, subst, arith, slice_get_within, length-append, slice_get-left, Railway, Message, Reply, OutboxState, Keeps, Entry, moment_in, HubState, FirstSend, after, answer, state_of, EachSend, IsSend, IsMoment, IsWithinLimits, one_more_entry, state_of-push, table_part, Represents, LeadsTo, OffersWereSent, entry_of, IsLegal, SendKeepsLimits}
 
 -- a first send is still found once there are more entries
 pub leads_on : (history : List Entry) (e : Entry) (o : Option ℕ) (t : Option FirstSend) → LeadsTo history o t → LeadsTo (history ++ e ∷ []) o t
-leads_on history e None None h = tt
 leads_on history e (Some p) (Some t) h = slice_get-left history (e ∷ []) p (slice_get_within history p (entry_of t) h) ∙ h
-leads_on history e None (Some t) h = h
-leads_on history e (Some p) None h = h
+leads_on history e o t h = h
 
 -- the last entry is found at the old length
 pub leads_to_last : (history : List Entry) (t : FirstSend) → LeadsTo (history ++ entry_of t ∷ []) (Some (length history)) (Some t)
@@ -42,7 +40,3 @@ module _ {history : List Entry} {looked_up : HubState} {position : Railway → �
         boxes = λ r. subst (λ (t : HubState). Keeps (box' r) (t.outbox r) (t.acknowledged r)) now (boxes r);
         offers = subst OffersWereSent now offers;
       }
-
-  -- where the entry changes no look-up
-  pub kept_quiet : after (state_of history) e ≡ state_of history → Represents (history ++ e ∷ []) looked_up position box
-  kept_quiet is = kept_more (state_of history) is kept.tables (λ by n. leads_on history e (position by n) ((state_of history).first_send by n) (kept.firsts by n)) kept.boxes kept.offers

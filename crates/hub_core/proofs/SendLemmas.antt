@@ -1,5 +1,5 @@
 -- What a new message changes.
-use Rattle.hub_core.proofs.Common.{◌≡◌, ℕ, ◌<◌, Bool, true, false, ◌^◌, cond, length, List, [], ◌∷◌, ◌++◌, Option, Some, None, refl, ap, ◌∙◌, sym, subst, arith, is_some, option_or, Railway, Send, Reply, Accepted, Message, Body, OutboxState, with_items, Keeps, PushesLast, same_name, Entry, Fault, fits, HubState, FirstSend, fault, EstimatesFit, ItemsAreFew, items_of, items_to, verdict, send_reply, after, after_new, after_acceptance, offer_given, answer, state_of, table_part, IsAcceptable, Represents, KeepsLimits, LeadsTo, entry_of}
+use Rattle.hub_core.proofs.Common.{◌≡◌, ℕ, ◌<◌, Bool, true, false, ◌^◌, cond, length, List, [], ◌∷◌, ◌++◌, Option, Some, None, refl, ap, ◌∙◌, sym, subst, arith, is_some, option_or, Railway, Send, Accepted, Message, Body, OutboxState, with_items, Keeps, PushesLast, same_name, Entry, Fault, fits, HubState, FirstSend, fault, EstimatesFit, ItemsAreFew, items_of, items_to, verdict, send_reply, after, after_new, after_acceptance, offer_given, answer, state_of, table_part, IsAcceptable, Represents, KeepsLimits, LeadsTo, entry_of}
 use Rattle.taf_messages.specs.declared.message.Body.TheVariants as body
 use Rattle.interchange.specs.declared.offer.Offer.{Offer as AcceptedOffer}
 use Rattle.hub_core.proofs.HistoryLemmas.{kept_more, leads_noted}
@@ -10,33 +10,20 @@ led_to history None h = refl
 led_to history (Some t) h = absurd h
 
 -- with a position there is one
-led_from : (history : List Entry) (t : Option FirstSend) (p : ℕ) → LeadsTo history (Some p) t → is_some t ≡ true
+pub led_from : (history : List Entry) (t : Option FirstSend) (p : ℕ) → LeadsTo history (Some p) t → is_some t ≡ true
 led_from history (Some t) p h = refl
 led_from history None p h = absurd h
 
 -- an offer is given under the message's own name
 given_elsewhere : (m : Message) (says : Body) (by : Railway) (n : ℕ) → same_name m.by m.no by n ≡ false → offer_given m says by n ≡ None
-given_elsewhere m (body.Plan p) by n h = refl
-given_elsewhere m (body.Movement a) by n h = refl
-given_elsewhere m (body.EtiAsk w) by n h = refl
-given_elsewhere m (body.LegTime w i minutes) by n h = refl
 given_elsewhere m (body.Offer o) by n h = rw h
-given_elsewhere m (body.Answer a) by n h = refl
-given_elsewhere m (body.Withdraw at k) by n h = refl
-given_elsewhere m (body.Reroute w route) by n h = refl
+given_elsewhere m says by n h = refl
 
 -- an offer that is not of this name was sent before
 sent_before : (t : FirstSend) (before given : Option AcceptedOffer) (first : Option FirstSend) (b : Bool) → (b ≡ false → given ≡ None) → (first ≡ None → before ≡ None) →
     cond b (Some t) first ≡ None → option_or given before ≡ None
 sent_before t before given first true g h e = cc
 sent_before t before given first false g h e = ap (λ (o : Option AcceptedOffer). option_or o before) (g refl) ∙ h e
-
--- a message whose name was sent changes nothing
-pub quiet_again : {history : List Entry} {looked_up : HubState} {position : Railway → ℕ → Option ℕ} {box : Railway → OutboxState} (m : Message) (p : ℕ) (reply : Reply) →
-    Represents history looked_up position box → position m.by m.no ≡ Some p → after (state_of history) (record { call = Send m; reply = reply }) ≡ state_of history
-quiet_again {history = history} m p reply kept e =
-    let s = state_of history in
-    ap (λ (b : Bool). cond b s (after_new s m reply)) (led_from history (s.first_send m.by m.no) p (rw e at (kept.firsts m.by m.no)))
 
 module _ {history : List Entry} {looked_up : HubState} {position : Railway → ℕ → Option ℕ} {box : Railway → OutboxState} (kept : Represents history looked_up position box) (room : length history < 1000000)
     (m : Message) (limits : KeepsLimits m) (new : position m.by m.no ≡ None) where

@@ -19,15 +19,12 @@ take_back-requires c = record {
 }
 
 pub returns-in-Err : goal.returns-in-Err
-returns-in-Err c = record {
-  kept = let r = c.in-Err.ensures in
-      let tables : table_state c.take_back.new.self ≡ known_before_changes c.args.state.now =
-      c.take_back.ensures ∙ (λ i. record (r.err i) { journey = λ w. if has (changed (r.changes i)) w then without_newest ((r.err i).journey w) else (r.err i).journey w }) in
-      transport⁻¹ (λ i. Represents (r.entries i) (tables i) (position_of (r.seen i)) (λ q. r.boxes q i)) c.requires.ready.0;
-  answered = search rules;
-  grows = search rules;
-  err = search rules;
-}
+returns-in-Err c =
+    let r = c.in-Err.ensures in
+    let tables : table_state c.take_back.new.self ≡ known_before_changes c.args.state.now = c.take_back.ensures ∙
+    (λ i. record (r.err i) { journey = λ w. if has (changed (r.changes i)) w then without_newest ((r.err i).journey w) else (r.err i).journey w }) in
+    let kept = transport⁻¹ (λ i. Represents (r.entries i) (tables i) (position_of (r.seen i)) (λ q. r.boxes q i)) c.requires.ready.0 in
+    search (rules, kept)
 
 pub returns : goal.returns
 returns c =
@@ -36,15 +33,12 @@ returns c =
     let r = c.in_default.ensures in
     let e = c.enter_send.ensures in
     let told : c.no-no.result ≡ m.no = c.no-no.ensures ∙ ap (λ (x : Message). x.no) c.get.ensures in
-    record {
-      kept = transport⁻¹ (λ i. Represents ((e.entries ∙ (λ j. r.entries j ++ entry_of (record { message = m; reply = Accepted (told j) }) ∷ [])) i) ((ap table_state e.tables ∙ r.tables) i)
-          (λ by n. (e.seen by n ∙ (λ j. cond (same_name m.by m.no by n) (Some (length (r.entries j))) (position_of (r.seen j) by n))) i)
-          (λ q. ((λ j. outbox_state_of (e.outboxes j) q) ∙ c.deliver.ensures q ∙ (λ j. with_items (r.boxes q j) (items_to q (r.items j)))) i))
-          (kept_accepted c.requires.ready.0 c.requires.ready.1 m c.requires.new.1 c.requires.new.0 c.boxes_keep_the_lists.ensures.push c.requires.acceptable.sound);
-      answered = ap Accepted told ∙ new_answer c.requires.ready.0 c.requires.ready.1 m c.requires.new.1 c.requires.new.0 None c.requires.acceptable.sound;
-      grows = search rules;
-      err = search rules;
-    }
+    let kept = transport⁻¹ (λ i. Represents ((e.entries ∙ (λ j. r.entries j ++ entry_of (record { message = m; reply = Accepted (told j) }) ∷ [])) i) ((ap table_state e.tables ∙ r.tables) i)
+    (λ by n. (e.seen by n ∙ (λ j. cond (same_name m.by m.no by n) (Some (length (r.entries j))) (position_of (r.seen j) by n))) i)
+    (λ q. ((λ j. outbox_state_of (e.outboxes j) q) ∙ c.deliver.ensures q ∙ (λ j. with_items (r.boxes q j) (items_to q (r.items j)))) i))
+    (kept_accepted c.requires.ready.0 c.requires.ready.1 m c.requires.new.1 c.requires.new.0 c.boxes_keep_the_lists.ensures.push c.requires.acceptable.sound) in
+    let answered = ap Accepted told ∙ new_answer c.requires.ready.0 c.requires.ready.1 m c.requires.new.1 c.requires.new.0 None c.requires.acceptable.sound in
+    search (rules, kept, answered)
 
 pub deliver-requires-clause-few : goal.deliver-requires-clause-few
 deliver-requires-clause-few c =

@@ -35,10 +35,7 @@ returns-in-Ok c =
     let o = c.in-Ok.ensures in
     let kept = c.requires.ready.0 in
     let within : n ≤ length ((state_of b.history.entries).outbox c.args.by) = subst (λ (k : ℕ). n ≤ k) (laws.last _ _ _ (kept.boxes c.args.by)) (o.when.0 refl) in
-    record {
-      kept = transport⁻¹ (λ i. Represents ((ap (λ (p : Paged Entry). p.entries) c.push_reserved.ensures ∙ (λ j. c.in_ok-reserve.ensures.entries j ++ record { call = Ack c.args.by (sym c.get.ensures.value j); reply = Acknowledged c.in-Ok.stands } ∷ [])) i)
-          (table_state b.tables) (position_of b.seen) (λ r. o.kept r i)) (kept_ack kept c.requires.ready.1 c.args.by n c.in-Ok.stands within o.stands laws.acknowledgement);
-      answered = ack_answer kept c.requires.ready.1 c.args.by n c.in-Ok.stands within o.stands ∙ ap (λ (k : ℕ). answer b.history.entries (Ack c.args.by k)) c.get.ensures.value;
-      grows = search rules;
-      err = search rules;
-    }
+    let kept_now = transport⁻¹ (λ i. Represents ((ap (λ (p : Paged Entry). p.entries) c.push_reserved.ensures ∙ (λ j. c.in_ok-reserve.ensures.entries j ++ record { call = Ack c.args.by (sym c.get.ensures.value j); reply = Acknowledged c.in-Ok.stands } ∷ [])) i)
+    (table_state b.tables) (position_of b.seen) (λ r. o.kept r i)) (kept_ack kept c.requires.ready.1 c.args.by n c.in-Ok.stands within o.stands laws.acknowledgement) in
+    let answered = ack_answer kept c.requires.ready.1 c.args.by n c.in-Ok.stands within o.stands ∙ ap (λ (k : ℕ). answer b.history.entries (Ack c.args.by k)) c.get.ensures.value in
+    search (rules, kept_now, answered)

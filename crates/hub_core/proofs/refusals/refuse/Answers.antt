@@ -10,11 +10,8 @@ returns c =
     let entered = c.enter_send.ensures in
     let reserved = c.in_ok-reserve.ensures.entries in
     let told : c.in_ok-reply.reply ≡ verdict m.no (Some f) = c.in_ok-reply.ensures ∙ (λ i. verdict ((c.no.ensures ∙ ap (λ n. n.no) c.get.ensures) i) (Some f)) in
-    record {
-      kept = transport⁻¹ (λ i. Represents ((entered.entries ∙ (λ j. reserved j ++ entry_of (record { message = m; reply = told j }) ∷ [])) i) (table_state (entered.tables i))
-          (λ by n. (entered.seen by n ∙ (λ j. cond (same_name m.by m.no by n) (Some (length (reserved j))) (position_of b.seen by n))) i) (outbox_state_of (entered.outboxes i)))
-          (kept_refused c.requires.ready.0 c.requires.ready.1 m c.requires.new.1 c.requires.new.0 f c.requires.fault);
-      answered = c.in_ok-reply_copy.ensures ∙ told ∙ new_answer c.requires.ready.0 c.requires.ready.1 m c.requires.new.1 c.requires.new.0 (Some f) c.requires.fault;
-      grows = search rules;
-      err = search rules;
-    }
+    let kept = transport⁻¹ (λ i. Represents ((entered.entries ∙ (λ j. reserved j ++ entry_of (record { message = m; reply = told j }) ∷ [])) i) (table_state (entered.tables i))
+    (λ by n. (entered.seen by n ∙ (λ j. cond (same_name m.by m.no by n) (Some (length (reserved j))) (position_of b.seen by n))) i) (outbox_state_of (entered.outboxes i)))
+    (kept_refused c.requires.ready.0 c.requires.ready.1 m c.requires.new.1 c.requires.new.0 f c.requires.fault) in
+    let answered = c.in_ok-reply_copy.ensures ∙ told ∙ new_answer c.requires.ready.0 c.requires.ready.1 m c.requires.new.1 c.requires.new.0 (Some f) c.requires.fault in
+    search (rules, kept, answered)
