@@ -6,7 +6,7 @@ pub use Rattle.std.proofs.Common.{◌≡◌, ℕ, ◌<◌, Bool, true, false, co
 pub use Rattle.std.proofs.lemmas.Bool.{le-ltb}
 pub use Rattle.std.proofs.lemmas.List.{length-append, map-append}
 pub use Rattle.std.proofs.lemmas.List.Elements.{All-weaker, All-more, All-from_recursion, recursion_from_All, filter-append}
-pub use Rattle.std.proofs.lemmas.Option.{slice_get_within}
+pub use Rattle.std.proofs.lemmas.Option.{slice_get_within, slice_get_read}
 pub use Rattle.taf_codes.specs.Equality.{texts}
 pub use Rattle.taf_codes.specs.declared.code.Railway.{Railway}
 pub use Rattle.trip_plan.specs.Rules.{has}
@@ -18,7 +18,6 @@ pub use Rattle.taf_messages.specs.declared.message.Message.{Message}
 pub use Rattle.taf_messages.specs.declared.reply.Reply.{Reply}
 pub use Rattle.taf_messages.specs.declared.reply.Reply.TheVariants.{Accepted, Acknowledged}
 pub use Rattle.taf_messages.specs.Refusals.{refused}
-pub use Rattle.history_pages.specs.Paged.{Paged}
 pub use Rattle.history_pages.proofs.EntryLemmas.{slice_get-left}
 pub use Rattle.replay_numbers.specs.Names.{same_name}
 pub use Rattle.replay_numbers.specs.SentPositions.{has_room, position_of}
@@ -49,4 +48,5 @@ pub use Rattle.hub_tables.specs.TableStates.{IsAcceptable, table_part, TableEntr
 pub use Rattle.hub_tables.specs.declared.changes.Change.{Change}
 pub use Rattle.hub_core.specs.Delivery.{AreReady, IsReady}
 pub use Rattle.hub_core.specs.States.{Represents, KeepsLimits, known_before_changes, LeadsTo, OffersWereSent, entry_of, SendKeepsLimits}
+pub use Rattle.std.proofs.lemmas.Grind.{get_or_at_push}
 pub use mathlib.Core.Path.{transport⁻¹}

@@ -1,20 +1,17 @@
 -- What keeps the state, where a history has one more entry.
-use Rattle.hub_core.proofs.Common.{◌≡◌, ℕ, ◌<◌, Bool, true, false, cond, length, List, [], ◌∷◌, ◌++◌, Option, Some, refl, ap, ◌∙◌, sym, subst, arith, slice_get_within, length-append, slice_get-left, Railway, Message, Reply, OutboxState, Keeps, Entry, moment_in, HubState, FirstSend, after, answer, state_of, EachSend, IsSend, IsMoment, IsWithinLimits, one_more_entry, state_of-push, table_part, Represents, LeadsTo, OffersWereSent, entry_of, IsLegal, SendKeepsLimits}
+use Rattle.hub_core.proofs.Common.{◌≡◌, ℕ, ◌<◌, Bool, true, false, cond, length, List, [], ◌∷◌, ◌++◌, Option, Some, refl, ap, ◌∙◌, sym, subst, arith, slice_get_within, length-append, slice_get-left, Railway, Message, Reply, OutboxState, Keeps, Entry, moment_in, HubState, FirstSend, after, answer, state_of, EachSend, IsSend, IsMoment, IsWithinLimits, one_more_entry, state_of-push, table_part, Represents, LeadsTo, OffersWereSent, entry_of, IsLegal, SendKeepsLimits, slice_get_read, get_or_at_push}
 
 -- a first send is still found once there are more entries
 pub leads_on : (history : List Entry) (e : Entry) (o : Option ℕ) (t : Option FirstSend) → LeadsTo history o t → LeadsTo (history ++ e ∷ []) o t
 leads_on history e (Some p) (Some t) h = slice_get-left history (e ∷ []) p (slice_get_within history p (entry_of t) h) ∙ h
 leads_on history e o t h = h
 
--- the last entry is found at the old length
-pub leads_to_last : (history : List Entry) (t : FirstSend) → LeadsTo (history ++ entry_of t ∷ []) (Some (length history)) (Some t)
-leads_to_last [] t = refl
-leads_to_last (e ∷ history) t = leads_to_last history t
-
 -- a new name leads to the last entry, and the others as before
 pub leads_noted : (history : List Entry) (t : FirstSend) (b : Bool) (o : Option ℕ) (u : Option FirstSend) → LeadsTo history o u →
     LeadsTo (history ++ entry_of t ∷ []) (cond b (Some (length history)) o) (cond b (Some t) u)
-leads_noted history t true o u h = leads_to_last history t
+leads_noted history t true o u h =
+    let more = history ++ entry_of t ∷ [] in
+    slice_get_read more (length more) (length history) (entry_of t) refl (rw (length-append history (entry_of t ∷ [])) (omega arith)) (sym (get_or_at_push history (entry_of t)).1)
 leads_noted history t false o u h = leads_on history (entry_of t) o u h
 
 -- one entry more

@@ -76,10 +76,8 @@ pub(crate) fn enter_send(state: &mut State, message: Shared<Message>, reply: Rep
     ensures outboxes { state.new.outboxes ≡ state.old.outboxes }
 {
     let content = message.get().content();
-    let by = content.by;
-    let no = content.no;
     let position = state.history.len() as u32;
-    state.seen.note_reserved(by, no, position);
+    state.seen.note_reserved(content.by, content.no, position);
     let call = Call::Send(message);
     state.history.push_reserved(Entry { call, reply });
 }

@@ -1,4 +1,4 @@
-use Rattle.hub_core.proofs.Common.{max, bytes_eq, ◌≡◌, ℕ, ◌<◌, Bool, true, false, cond, length, List, [], ◌∷◌, ◌++◌, Option, Some, None, refl, ap, ◌∙◌, sym, subst, ◌≤◌, rules, le-ltb, texts, Railway, Ack, ItemBody, Acknowledged, refused, Paged, position_of, Keeps, Acknowledges, OutboxState, acknowledged_up_to, answer, state_of, HubState, with_acknowledgement, Entry, table_state, Represents, transport⁻¹}
+use Rattle.hub_core.proofs.Common.{max, bytes_eq, ◌≡◌, ℕ, ◌<◌, Bool, true, false, cond, length, List, [], ◌∷◌, ◌++◌, Option, Some, None, refl, ap, ◌∙◌, sym, subst, ◌≤◌, rules, le-ltb, texts, Railway, Ack, ItemBody, Acknowledged, refused, position_of, Keeps, Acknowledges, OutboxState, acknowledged_up_to, answer, state_of, HubState, with_acknowledgement, Entry, table_state, Represents, transport⁻¹}
 use Rattle.taf_messages.specs.declared.reply.Why.TheVariants.{AckAhead as Ahead}
 use Rattle.hub_core.proofs.HistoryLemmas.{kept_more, leads_on}
 use Rattle.hub_core.proofs.ack.apply_ack.Goals as goal
@@ -35,7 +35,8 @@ returns-in-Ok c =
     let o = c.in-Ok.ensures in
     let kept = c.requires.ready.0 in
     let within : n ≤ length ((state_of b.history.entries).outbox c.args.by) = subst (λ (k : ℕ). n ≤ k) (laws.last _ _ _ (kept.boxes c.args.by)) (o.when.0 refl) in
-    let kept_now = transport⁻¹ (λ i. Represents ((ap (λ (p : Paged Entry). p.entries) c.push_reserved.ensures ∙ (λ j. c.in_ok-reserve.ensures.entries j ++ record { call = Ack c.args.by (sym c.get.ensures.value j); reply = Acknowledged c.in-Ok.stands } ∷ [])) i)
-    (table_state b.tables) (position_of b.seen) (λ r. o.kept r i)) (kept_ack kept c.requires.ready.1 c.args.by n c.in-Ok.stands within o.stands laws.acknowledgement) in
+    let entered : c.push_reserved.new.self.entries ≡ b.history.entries ++ record { call = Ack c.args.by n; reply = Acknowledged c.in-Ok.stands } ∷ [] =
+    (λ i. (c.push_reserved.ensures i).entries) ∙ (λ i. c.in_ok-reserve.ensures.entries i ++ record { call = Ack c.args.by (sym c.get.ensures.value i); reply = Acknowledged c.in-Ok.stands } ∷ []) in
+    let kept_now = transport⁻¹ (λ i. Represents (entered i) (table_state b.tables) (position_of b.seen) (λ r. o.kept r i)) (kept_ack kept c.requires.ready.1 c.args.by n c.in-Ok.stands within o.stands laws.acknowledgement) in
     let answered = ack_answer kept c.requires.ready.1 c.args.by n c.in-Ok.stands within o.stands ∙ ap (λ (k : ℕ). answer b.history.entries (Ack c.args.by k)) c.get.ensures.value in
     search (rules, kept_now, answered)
