@@ -1,29 +1,13 @@
 //! Acknowledgements.
-ghost use Rattle.std.specs.Prelude.{◌≡◌, None, Some, IfOk};
 ghost use Rattle.taf_messages.specs.declared.call.Call.TheVariants as call;
-ghost use Rattle.taf_messages.specs.declared.reply.Why.TheVariants as why;
-ghost use Rattle.taf_messages.specs.Refusals.{refused};
 ghost use Rattle.hub_core.specs.States.{Applies, MayTake};
 
 use crate::state::{State, append_entry};
 use hub_model::Entry;
-use outbox::{AckAhead, boxes_keep_the_lists};
+use outbox::boxes_keep_the_lists;
 use std::alloc::Global;
 use taf_codes::{Memory, Railway};
 use taf_messages::{Call, ItemNumber, Refusal, Reply, Shared, Why};
-
-// The reply to an acknowledgement that is ahead.
-fn refusal_of_ack(alloc: Global, ahead: AckAhead) -> Result<Reply, Memory>
-    ensures { IfOk result (λ r. r ≡ refused None why.AckAhead None (Some ahead.last)) }
-{
-    let refusal = Refusal {
-        no: None,
-        why: Why::AckAhead,
-        wagon: None,
-        last: Some(ahead.last),
-    };
-    Ok(Reply::Refused(Shared::new(alloc, refusal)?))
-}
 
 /// Takes an acknowledgement. The items up to its number are dropped.
 pub(crate) fn apply_ack(
@@ -44,6 +28,15 @@ pub(crate) fn apply_ack(
             state.history.push_reserved(Entry { call, reply });
             Ok(Reply::Acknowledged(stands))
         }
-        Err(ahead) => append_entry(state, call, refusal_of_ack(alloc, ahead)?),
+        Err(ahead) => {
+            let refusal = Refusal {
+                no: None,
+                why: Why::AckAhead,
+                wagon: None,
+                last: Some(ahead.last),
+            };
+            let reply = Reply::Refused(Shared::new(alloc, refusal)?);
+            append_entry(state, call, reply)
+        }
     }
 }

@@ -1,6 +1,5 @@
 //! Questions: they change nothing that is looked up.
 ghost use Rattle.std.specs.Prelude.{◌≡◌, IfOk, true};
-ghost use Rattle.taf_messages.specs.declared.call.Call.TheVariants as call;
 ghost use Rattle.hub_model.specs.Histories.{answer};
 ghost use Rattle.hub_core.specs.Questions.{is_question};
 ghost use Rattle.hub_core.specs.States.{Applies, IsConsistent, MayTake};
@@ -9,8 +8,8 @@ use crate::state::{State, append_entry};
 use hub_answers::{ask, ask_unit, deviation};
 use outbox::boxes_keep_the_lists;
 use std::alloc::Global;
-use taf_codes::{Memory, Railway};
-use taf_messages::{Call, FetchLimit, Reply, Shared};
+use taf_codes::Memory;
+use taf_messages::{Call, Reply, Shared};
 
 /// Takes a question: it is entered with its reply.
 #[inline(never)]
@@ -33,22 +32,11 @@ fn reply_to(alloc: Global, state: &State, call: &Call) -> Result<Reply, Memory>
         Call::Ask { by, wagon } => ask(alloc, &state.tables, *by, *wagon),
         Call::AskUnit { by, unit } => ask_unit(alloc, &state.tables, *by, *unit),
         Call::Deviation { by, consignment } => deviation(alloc, &state.tables, *by, *consignment),
-        Call::Fetch { by, limit } => fetch_reply(alloc, state, *by, *limit),
+        Call::Fetch { by, limit } => {
+            boxes_keep_the_lists();
+            let items = state.outboxes.fetch(*by, *limit)?;
+            Ok(Reply::Items(Shared::new(alloc, items)?))
+        }
         Call::Send(_) | Call::Ack { .. } => unreachable!(),
     }
-}
-
-// The reply to a railway that fetches its items.
-fn fetch_reply(
-    alloc: Global,
-    state: &State,
-    by: Railway,
-    limit: FetchLimit,
-) -> Result<Reply, Memory>
-    requires { IsConsistent state.now }
-    ensures { IfOk result (λ r. r ≡ answer state.now.history.entries (call.Fetch by limit)) }
-{
-    boxes_keep_the_lists();
-    let items = state.outboxes.fetch(by, limit)?;
-    Ok(Reply::Items(Shared::new(alloc, items)?))
 }

@@ -1,10 +1,7 @@
 //! Messages: each is new, or was sent before.
 ghost use Rattle.std.specs.Prelude.{None};
 ghost use Rattle.taf_messages.specs.declared.call.Call.TheVariants as call;
-ghost use Rattle.taf_messages.specs.Bodies.{moment_in};
-ghost use Rattle.hub_model.specs.Bounds.{IsWithinLimits};
-ghost use Rattle.hub_model.specs.Laws.{IsMoment};
-ghost use Rattle.hub_core.specs.States.{Applies, IsNew, MayTake};
+ghost use Rattle.hub_core.specs.States.{Applies, IsNew, KeepsLimits, MayTake};
 
 use crate::acceptance::accept;
 use crate::refusals::refuse;
@@ -16,19 +13,14 @@ use std::alloc::Global;
 use taf_codes::Memory;
 use taf_messages::{Body, Message, Reply, Shared};
 
-// The moment that a message gives is of the calendar, as each `Moment` is.
-fn note_moment(message: &Message)
-    ensures { IsMoment (moment_in message.now.body) }
+// The moment that a message gives is of the calendar, as each `Moment` is, and its lists keep their limits, as each `Plan`,
+// `OfferedWagons` and `Wagons` does.
+fn note_limits(message: &Message)
+    ensures { KeepsLimits message.now }
 {
     if let Some(at) = message.body().moment() {
         let _minutes = at.minutes();
     }
-}
-
-// The lists of a message keep their limits, as each `Plan`, `OfferedWagons` and `Wagons` does.
-fn note_lists(message: &Message)
-    ensures { IsWithinLimits message.now }
-{
     let _lengths = match message.body() {
         Body::Plan(plan) => (plan.legs().len(), plan.wagons().len()),
         Body::Offer(offer) => (0, offer.get().wagons.as_slice().len()),
@@ -69,8 +61,7 @@ pub(crate) fn apply_send(
     ensures { Applies state.old state.new (call.Send message) result }
 {
     let sent = message.get();
-    note_moment(sent);
-    note_lists(sent);
+    note_limits(sent);
     match state.seen.find_or_make_room(sent.by(), sent.no())? {
         Some(position) => apply_repeat(alloc, state, position, message),
         None => apply_new(alloc, state, message),

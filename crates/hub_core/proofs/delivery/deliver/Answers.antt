@@ -2,7 +2,8 @@ use Rattle.hub_core.proofs.Common.{bytes_eq, map, drain_items, ◌≡◌, ℕ, �
 use Rattle.hub_core.proofs.delivery.deliver.Goals as goal
 
 -- a box that is ready still is once one item is put, into this box or another
-still_ready : (b : Bool) (old new : OutboxState) (body : ItemBody) (k m n room room' : ℕ) → new ≡ cond b (with_items old (body ∷ [])) old → room' + cond b 1 0 ≡ room → k < m → (last_of old < k) × (suc n ≤ room) → (last_of new < m) × (n ≤ room')
+still_ready : (b : Bool) (old new : OutboxState) (body : ItemBody) (k m n room room' : ℕ) →
+    new ≡ cond b (with_items old (body ∷ [])) old → room' + cond b 1 0 ≡ room → k < m → (last_of old < k) × (suc n ≤ room) → (last_of new < m) × (n ≤ room')
 still_ready true old new body k m n room room' kept left more h = (omega (arith, ap last_of kept, length-append old.bodies (body ∷ []), h.0, more), omega (arith, left, h.1))
 still_ready false old new body k m n room room' kept left more h = (omega (arith, ap last_of kept, h.0, more), omega (arith, left, h.1))
 
@@ -33,11 +34,10 @@ loop-item-preserved c =
     let put = c.put-number.ensures in
     let k : ℕ = 2 ^ 62 + length before in
     let m : ℕ = 2 ^ 62 + length (before ++ i ∷ []) in
-    let more : k < m = omega (arith, length-append before (i ∷ [])) in
     let P : AddressedItem → Type 0 = IsReady c.loop-item.outboxes k (length (i ∷ others)) in
     let Q : AddressedItem → Type 0 = IsReady c.put-number.new.self m (length others) in
     let ready : AreReady c.loop-item.outboxes k (length (i ∷ others)) (i ∷ others) = subst (λ (qs : List AddressedItem). AreReady c.loop-item.outboxes k (length qs) qs) rest c.loop-item.invariant.1 in (
       (λ r. put.kept r ∙ ap (λ (kept : OutboxState). cond (bytes_eq i.to r) (with_items kept (i.body ∷ [])) kept) (c.loop-item.invariant.0 r) ∙ with_one_more r (outbox_state_of c.args.outboxes.now r) before i),
-      recursion_from_All Q others (All-weaker P Q (λ j h. still_ready (bytes_eq i.to j.to) _ _ i.body k m (length others) _ _ (put.kept j.to) (put.room j.to) more h) others (All-from_recursion P others ready.1)),
+      recursion_from_All Q others (All-weaker P Q (λ j h. still_ready (bytes_eq i.to j.to) _ _ i.body k m (length others) _ _ (put.kept j.to) (put.room j.to) (omega (arith, length-append before (i ∷ []))) h) others (All-from_recursion P others ready.1)),
       append_assoc before (i ∷ []) others ∙ ap (λ (more : List AddressedItem). before ++ more) (sym rest) ∙ c.loop-item.invariant.2,
     )
