@@ -45,6 +45,7 @@ impl JourneyState {
     }
 
     /// Goes on by one event more.
+    #[inline(always)]
     pub(crate) fn advance(&mut self, event: &Event)
         requires on_a_leg { self.old.leg_index < length self.old.legs }
         requires few_legs { length self.old.legs ≤ 8 }
