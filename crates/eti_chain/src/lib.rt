@@ -7,10 +7,10 @@
 //! on top (`specs/Estimates.antt`). The estimate of the last leg is the estimated time of arrival, which is compared
 //! with the moment to which the plan committed.
 //!
-//! [`Estimates`] are those of one track, whose legs they borrow, or copy in place once they follow an event. Contracts see them as the `estimates_state` of the track's
-//! events: what they are counted from, which is the leg index, the legs and the newest anchor with the delays since, and the
-//! committed moment (`specs/EstimateStates.antt`). [`EstimateAnchor`] is what is kept for them beside a track: the anchor and the
-//! commitment alone.
+//! [`Estimates`] are those of one track, whose legs they borrow, or own once they follow an event. Contracts see them as the
+//! `estimates_state` of the track's events: what they are counted from, which is the leg index, the legs and the newest anchor with
+//! the delays since, and the committed moment (`specs/EstimateStates.antt`). [`EstimateAnchor`] is what is kept for them beside a
+//! track: the anchor and the commitment alone.
 //!
 //! - [`Estimates::fits`] says whether no estimate of a track passes 2199-12-31T23:59Z. [`Estimates::of`] and
 //!   [`EstimateAnchor::of`] walk its events.
@@ -20,7 +20,8 @@
 //!   [`Estimates::would_pass_calendar`] says beforehand whether one would pass the calendar.
 //! - [`EstimateAnchor::estimates_by`] gives those by a leg index and legs, which may be kept from before an event.
 //! - [`Estimates::estimate`], [`Estimates::eta`], [`Estimates::late`] and [`Estimates::late_by`] read them.
-//!   [`EstimatesInTurn`], by [`Estimates::in_turn`], gives those of all legs, one after another.
+//!   [`EstimatesInTurn`], by [`Estimates::in_turn`], gives those of all legs, one after another, and then the estimated time of
+//!   arrival, by which [`Estimates::is_late_by`] says whether the wagon is late without another sum.
 //!
 //! Promised: each answer is that of the definitions over the track's events, and what `add` keeps is what `of` would
 //! give. Only `add` takes memory. Sums are made in 128 bits: fewer than 2^64 events delay a wagon by at most 100,000 minutes

@@ -12,8 +12,8 @@
 //! None goes to the sender of the message. Nothing is changed: in the tables the journeys of the message's wagons have gone on by
 //! it, and what was kept of them before is lent, each with its wagon's position. So what is news is found by comparing both.
 //! Where the estimates of a wagon are counted from the same leg, legs and anchor as before, none is news, and no alert of it begins
-//! or ends. The list is empty before the items are put, and keeps its memory: so one that is lent again for the next message mostly
-//! takes no more.
+//! or ends. Otherwise the estimates of its last leg, before and with the message, tell whether one does. The list is empty before
+//! the items are put, and keeps its memory: so one that is lent again for the next message mostly takes no more.
 #![tactic(auto)]
 
 mod acceptable;

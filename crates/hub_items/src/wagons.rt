@@ -34,15 +34,14 @@ pub(crate) fn put_of_wagons(
     if let Body::Plan(plan) = from.message.body() {
         return Ok(put_alert_ends(items, from, plan)?);
     }
-    let is_changed = put_each_estimates(items, from)?;
-    if is_changed {
+    let may_alert = put_each_estimates(items, from)?;
+    if may_alert {
         return Ok(put_each_alerts(items, from)?);
     }
     Ok(())
 }
 
-// The estimates of the wagons whose journeys went on. Gives whether those of a wagon may be others than before: otherwise no alert
-// begins or ends.
+// The estimates of the wagons whose journeys went on. Gives whether an alert of a wagon may begin or end.
 fn put_each_estimates(items: &mut Vec<AddressedItem>, from: Acceptable<'_>) -> Result<bool, Memory>
     requires acceptable { MayBeAccepted from }
     requires goes_on { continues_journeys from.message.now.body ≡ true }
@@ -52,14 +51,14 @@ fn put_each_estimates(items: &mut Vec<AddressedItem>, from: Acceptable<'_>) -> R
         ++ flat_map (estimates_at s m) (named_wagons s.offer m)) }
     ensures kept { let s = state_before from.entry in
         let m = from.entry.message.now in
-        IfOk result (λ changed. changed ≡ false
+        IfOk result (λ may_alert. may_alert ≡ false
         → flat_map (alerts_at s m) (named_wagons s.offer m) ≡ []) }
 {
-    let mut is_changed = false;
+    let mut may_alert = false;
     for change in from.changes {
-        is_changed = put_estimates(items, &WagonChange::of(from, change))? | is_changed;
+        may_alert = put_estimates(items, &WagonChange::of(from, change))? | may_alert;
     }
-    Ok(is_changed)
+    Ok(may_alert)
 }
 
 // Their alerts.
