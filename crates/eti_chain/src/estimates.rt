@@ -1,4 +1,4 @@
-ghost use Rattle.std.specs.Prelude.{◌≡◌, List, [], ◌∷◌, ◌++◌, None, not, true};
+ghost use Rattle.std.specs.Prelude.{◌≡◌, ◌≤◌, List, [], ◌∷◌, ◌++◌, None, is_some, not, true};
 ghost use Rattle.std.specs.Option.{option_and_then};
 ghost use Rattle.journey.specs.declared.event.Event.{Event};
 ghost use Rattle.journey.specs.Checks.{refusal};
@@ -105,11 +105,12 @@ impl<'a> Estimates<'a> {
         self.basis.moment(leg)
     }
 
-    /// The estimates of all legs, from the first one on.
-    pub fn in_turn(&self) -> EstimatesInTurn<'_>
-        ensures { result ≡ in_turn_from self.now.estimate_basis 0 }
+    /// The estimates of the legs in turn, from this leg on, which is not after the current one.
+    pub fn in_turn_from(&self, leg: usize) -> EstimatesInTurn<'_>
+        requires { leg ≤ self.now.estimate_basis.leg_index }
+        ensures { result ≡ in_turn_from self.now.estimate_basis leg }
     {
-        EstimatesInTurn::of(&self.basis)
+        EstimatesInTurn::of(&self.basis, leg)
     }
 
     /// When the wagon is expected at the end of its last leg.
@@ -128,10 +129,10 @@ impl<'a> Estimates<'a> {
         self.late_by().is_some()
     }
 
-    /// Whether the wagon is expected after the moment to which the plan committed, by its estimated time of arrival.
-    pub fn is_late_by(&self, eta: Option<Moment>) -> bool
-        ensures { (events : List Event) → self.now ≡ estimates_state events → eta ≡ of.eta events
-            → result ≡ of.is_late events }
+    /// Whether the wagon is late where this is its estimated time of arrival.
+    pub fn is_late_with(&self, eta: Option<Moment>) -> bool
+        ensures { result ≡ is_some (option_and_then
+            (λ commit. option_and_then (of.lateness commit) eta) self.now.commit) }
     {
         lateness(self.commit, eta).is_some()
     }

@@ -10,7 +10,7 @@ use std::marker::Model;
 use taf_moment::Moment;
 use trip_plan::Leg;
 
-/// When a wagon is expected at the end of its legs, of one leg after another from the first one on. Each estimate goes on
+/// When a wagon is expected at the end of its legs, of one leg after another from a leg on. Each estimate goes on
 /// from the one before, so that the minutes of a leg are added once. It borrows the legs, and takes no memory.
 #[derive(Drop)]
 pub struct EstimatesInTurn<'a> {
@@ -35,17 +35,18 @@ impl<'a> Model for EstimatesInTurn<'a> {
 }
 
 impl<'a> EstimatesInTurn<'a> {
-    /// The estimates that are counted from this, from the first leg on.
-    pub(crate) fn of(basis: &'a EstimateBasis<'a>) -> EstimatesInTurn<'a>
-        requires { IsWithin basis.now }
-        ensures { result ≡ in_turn_from basis.now 0 }
+    /// The estimates that are counted from this, from a leg on that is not after the current one.
+    pub(crate) fn of(basis: &'a EstimateBasis<'a>, leg: usize) -> EstimatesInTurn<'a>
+        requires within { IsWithin basis.now }
+        requires not_after { leg ≤ basis.now.leg_index }
+        ensures { result ≡ in_turn_from basis.now leg }
     {
         let at = basis.moment(basis.leg_index);
         EstimatesInTurn {
             leg_index: basis.leg_index,
             legs: basis.legs.legs().as_slice(),
             anchor: basis.anchor,
-            leg: 0,
+            leg,
             at,
         }
     }

@@ -20,8 +20,8 @@
 //!   [`Estimates::would_pass_calendar`] says beforehand whether one would pass the calendar.
 //! - [`EstimateAnchor::estimates_by`] gives those by a leg index and legs, which may be kept from before an event.
 //! - [`Estimates::estimate`], [`Estimates::eta`], [`Estimates::late`] and [`Estimates::late_by`] read them.
-//!   [`EstimatesInTurn`], by [`Estimates::in_turn`], gives those of all legs, one after another, and then the estimated time of
-//!   arrival, by which [`Estimates::is_late_by`] says whether the wagon is late without another sum.
+//!   [`EstimatesInTurn`], by [`Estimates::in_turn_from`], gives those of the legs from one on, one after another, and then the
+//!   estimated time of arrival, by which [`Estimates::is_late_with`] says whether the wagon is late without another sum.
 //!
 //! Promised: each answer is that of the definitions over the track's events, and what `add` keeps is what `of` would
 //! give. Only `add` takes memory. Sums are made in 128 bits: fewer than 2^64 events delay a wagon by at most 100,000 minutes

@@ -2,7 +2,7 @@
 pub use Rattle.std.specs.List.{range_with_len}
 pub use Rattle.std.specs.Option.{option_and_then}
 pub use Rattle.std.specs.Prelude.{◌||◌, filter_map, option_map, map, flat_map, option_to_list, not, bytes_eq, filter, slice_get}
-pub use Rattle.std.proofs.Common.{◌≡◌, ℕ, Bool, true, List, [], ◌∷◌, ◌++◌, Option, None, refl, ap, ◌∙◌, sym, false, Some, append_assoc, append-nil, length, ◌+◌, take, get_or, arith, rules, subst, if◌then◌else◌}
+pub use Rattle.std.proofs.Common.{◌≡◌, ℕ, zero, suc, ◌<◌, ◌≤◌, add-one, Bool, true, List, [], ◌∷◌, ◌++◌, Option, None, refl, ap, ◌∙◌, sym, false, Some, append_assoc, append-nil, length, ◌+◌, take, get_or, arith, rules, subst, if◌then◌else◌}
 pub use Rattle.std.proofs.lemmas.Bool.{or_right, false≢true}
 pub use Rattle.std.proofs.lemmas.Fn.{filter_same}
 pub use Rattle.std.proofs.lemmas.Grind.{common_steps}

@@ -1,5 +1,5 @@
 -- What is told of a wagon's estimates, leg by leg.
-use Rattle.hub_items.proofs.Common.{◌≡◌, ℕ, ◌+◌, Bool, true, List, [], ◌∷◌, ◌++◌, length, Option, refl, ap, ◌∙◌, arith, common_steps, filter, filter_map, flat_map, ◌||◌, slice_get, option_map, option_to_list, option_and_then, map-id, map-range_with_len_more, range_with_len, or_right, numbers, texts, has, legs, runner_of, EstimatesState, estimates_state, end_in, eta_in, estimate, late_by, lateness, is_news, estimate_item, estimate_items, alert_items, Transition, estimate_of, news_of}
+use Rattle.hub_items.proofs.Common.{◌≡◌, ℕ, zero, suc, ◌+◌, ◌<◌, ◌≤◌, add-one, leg_index, Bool, true, List, [], ◌∷◌, ◌++◌, length, Option, refl, ap, sym, ◌∙◌, arith, common_steps, filter, filter_map, flat_map, ◌||◌, slice_get, option_map, option_to_list, option_and_then, map-id, map-range_with_len_more, range_with_len, or_right, numbers, texts, has, legs, runner_of, EstimatesState, estimates_state, end_in, eta_in, estimate, late_by, lateness, is_news, estimate_item, estimate_items, alert_items, Transition, estimate_of, news_of}
 
 -- what is there of each
 pub found_of_each : {A B : Type 0} (f : A → Option B) (xs : List A) → filter_map f xs ≡ flat_map (λ x. option_to_list (f x)) xs
@@ -22,9 +22,23 @@ none_of_each f (w ∷ ws) h =
 pub one_leg_more : (n : ℕ) → range_with_len 0 (n + 1) ≡ range_with_len 0 n ++ n ∷ []
 one_leg_more n = simp map-id at (map-range_with_len_more (λ x. x) 0 n n (omega arith))
 
+-- where each of the first legs gives nothing, all give nothing
+none_up_to : {B : Type 0} (f : ℕ → List B) (n : ℕ) → ((j : ℕ) → j < n → f j ≡ []) → flat_map f (range_with_len 0 n) ≡ []
+none_up_to f zero h = refl
+none_up_to f (suc n) h =
+    ap (flat_map f) (ap (range_with_len 0) (sym (add-one n)) ∙ one_leg_more n) ∙ grind (arith, common_steps, none_up_to f n (λ j k. h j (omega arith)), h n (omega arith))
+
 module _ (t : Transition) where
   pub news_of_each : estimate_items t.before t.after t.wagon ≡ flat_map (news_of t) (range_with_len 0 (length (legs t.after)))
   news_of_each = passed_of_each (estimate_item t.after t.wagon) (is_news t.before t.after) (estimate_of t) (range_with_len 0 (length (legs t.after)))
+
+  -- a leg behind the wagon has no estimate
+  behind : (j : ℕ) → j < leg_index t.after → news_of t j ≡ []
+  behind j h = grind (arith, common_steps)
+
+  -- so there is no news of the legs behind it
+  pub none_behind : (n : ℕ) → n ≤ leg_index t.after → flat_map (news_of t) (range_with_len 0 n) ≡ []
+  none_behind n h = none_up_to (news_of t) n (λ j k. behind j (omega arith))
 
   module _ (same : estimates_state t.after ≡ estimates_state t.before) where
     estimate_left : (j : ℕ) → estimate t.after j ≡ estimate t.before j

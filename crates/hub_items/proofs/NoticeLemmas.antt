@@ -1,11 +1,20 @@
 -- The notices of a message, each railway once.
-use Rattle.hub_items.proofs.Common.{◌≡◌, not, List, [], ◌∷◌, ◌++◌, refl, ap, ◌∙◌, sym, arith, append-nil, ◌||◌, map, filter, bytes_eq, bytes_eq-Decides, common_steps, Leg, Railway, Message, Option, Some, None, option_map, option_to_list, runners, AddressedItem, each_once, has_item_for, with_notice, with_notices}
+use Rattle.hub_items.proofs.Common.{◌≡◌, Bool, true, false, false≢true, if◌then◌else◌, not, List, [], ◌∷◌, ◌++◌, refl, ap, ◌∙◌, sym, arith, append-nil, ◌||◌, map, filter, bytes_eq, bytes_eq-Decides, common_steps, Leg, Railway, Message, Option, Some, None, option_map, option_to_list, runners, AddressedItem, each_once, has_item_for, with_notice, with_notices}
 use Rattle.taf_messages.specs.declared.item.ItemBody.TheVariants as item
 
 -- the railway of a leg, if there is one
 pub runner_listed : (o : Option Leg) → option_to_list (option_map (λ (l : Leg). l.ru) o) ≡ runners (option_to_list o)
 runner_listed None = refl
 runner_listed (Some l) = refl
+
+left_in : {A : Type 0} (is_out any_more : Bool) (x : A) (left xs : List A) → (is_out || any_more) ≡ false → (any_more ≡ false → left ≡ xs) → (if not is_out then x ∷ left else left) ≡ x ∷ xs
+left_in {A} true any_more x left xs h k = absurd (false≢true (sym h))
+left_in {A} false any_more x left xs h k = ap (λ (l : List A). x ∷ l) (k h)
+
+-- where no item goes to the railway, none is taken out
+pub none_taken_out : (items : List AddressedItem) (r : Railway) → has_item_for items r ≡ false → filter (λ i. not (bytes_eq i.to r)) items ≡ items
+none_taken_out [] r h = refl
+none_taken_out (i ∷ items) r h = left_in (bytes_eq i.to r) (has_item_for items r) i _ items h (none_taken_out items r)
 
 module _ (m : Message) where
   -- the message for each of the railways

@@ -29,8 +29,8 @@ pub(crate) fn put_notice(
     Ok(())
 }
 
-// An item of the list goes to the railway.
-fn has_item_for(items: &[AddressedItem], railway: Railway) -> bool
+/// Whether an item of the list goes to the railway.
+pub(crate) fn has_item_for(items: &[AddressedItem], railway: Railway) -> bool
     ensures { result ≡ has_item_for items.now railway }
 {
     items.iter().any(|item| item.to == railway)

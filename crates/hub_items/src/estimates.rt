@@ -10,7 +10,8 @@ use taf_codes::Memory;
 use taf_messages::{EstimateAt, ItemBody, LegIndex};
 use taf_moment::Moment;
 
-/// Adds the items of the estimates that are news. Gives whether an alert may begin or end, which is seen from the last estimates.
+/// Adds the items of the estimates that are news; legs behind the wagon have none. Gives whether an alert may begin or end, which
+/// is seen from the last estimates.
 #[tactic(auto, using(crate::proofs::NewsLemmas::news_of_each, crate::proofs::NewsLemmas::no_alert_items))]
 pub(crate) fn put_estimates(
     items: &mut Vec<AddressedItem>,
@@ -25,9 +26,11 @@ pub(crate) fn put_estimates(
         return Ok(false);
     }
     let (before, after) = (change.estimates_before(), change.estimates_after());
-    let (mut each_before, mut each_after) = (before.in_turn(), after.in_turn());
+    let first = change.leg_index_before().min(change.leg_index_after());
+    let mut each_before = before.in_turn_from(first);
+    let mut each_after = after.in_turn_from(first);
     let legs = change.leg_count();
-    for leg in 0..legs {
+    for leg in first..legs {
         let was = each_before.next_estimate();
         let at = each_after.next_estimate();
         put_of_leg(items, change, leg, was, at)?;
@@ -35,8 +38,8 @@ pub(crate) fn put_estimates(
     if change.legs_before().len() != legs {
         return Ok(true);
     }
-    let was_late = before.is_late_by(each_before.eta());
-    Ok(was_late != after.is_late_by(each_after.eta()))
+    let was_late = before.is_late_with(each_before.eta());
+    Ok(was_late != after.is_late_with(each_after.eta()))
 }
 
 // Adds the item of a leg's estimate, if there is one and it is news.

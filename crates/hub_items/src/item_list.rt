@@ -6,6 +6,7 @@ ghost use Rattle.hub_tables.specs.Changes.{HasGoneOn, known_before};
 ghost use Rattle.hub_items.specs.MessageItems.{MayBeAccepted, all_items, state_before};
 
 use crate::acceptable::Acceptable;
+use crate::each::has_item_for;
 use crate::notices::put_notices;
 use crate::wagons::put_of_wagons;
 use hub_model::AddressedItem;
@@ -59,9 +60,11 @@ fn put_all(
     Ok(put_of_wagons(items, from)?)
 }
 
-// Takes the items for the sender out.
+// Takes the items for the sender out, where there are any.
 fn keep_others(items: &mut Vec<AddressedItem>, sender: Railway)
     ensures { items.new.items ≡ filter (λ i. not (bytes_eq i.to sender)) items.old.items }
 {
-    items.retain(|item| item.to != sender);
+    if has_item_for(items, sender) {
+        items.retain(|item| item.to != sender);
+    }
 }

@@ -56,6 +56,7 @@ pub(crate) fn put_notices(
 }
 
 // Adds the notice of new legs: for the current leg's railway, and those of the legs taken away and set.
+#[inline(never)]
 #[tactic(auto, using(crate::proofs::NoticeLemmas::runner_listed))]
 fn put_of_route(
     items: &mut Vec<AddressedItem>,
@@ -73,6 +74,7 @@ fn put_of_route(
 }
 
 // Adds the notices of an answer, for who made the offer and for the leads of the wagons, and the sub notice.
+#[inline(never)]
 fn put_of_answer(
     alloc: Global,
     items: &mut Vec<AddressedItem>,

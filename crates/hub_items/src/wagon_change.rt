@@ -122,6 +122,14 @@ impl<'a> WagonChange<'a> {
         self.before.earlier.leg_index
     }
 
+    /// How many legs are behind the wagon with the event.
+    pub(crate) fn leg_index_after(&self) -> usize
+        ensures value { result ≡ stages.leg_index self.now.after }
+        ensures on_a_leg { result < length (legs_of.legs self.now.after) }
+    {
+        self.wagon.track().leg_index()
+    }
+
     /// The railway of a leg with the event.
     pub(crate) fn runner_after(&self, leg: usize) -> Option<Railway>
         ensures { result ≡ legs_of.runner_of self.now.after leg }

@@ -62,6 +62,7 @@ fn put_each_estimates(items: &mut Vec<AddressedItem>, from: Acceptable<'_>) -> R
 }
 
 // Their alerts.
+#[inline(never)]
 fn put_each_alerts(items: &mut Vec<AddressedItem>, from: Acceptable<'_>) -> Result<(), Memory>
     requires acceptable { MayBeAccepted from }
     requires goes_on { continues_journeys from.message.now.body ≡ true }

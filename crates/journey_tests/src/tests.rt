@@ -229,7 +229,7 @@ fn expected(estimates: &Estimates<'_>) -> [Option<Moment>; 3] {
 
 // The same, one after another.
 fn expected_in_turn(estimates: &Estimates<'_>) -> [Option<Moment>; 3] {
-    let mut each = estimates.in_turn();
+    let mut each = estimates.in_turn_from(0);
     let first = each.next_estimate();
     let second = each.next_estimate();
     [first, second, each.next_estimate()]

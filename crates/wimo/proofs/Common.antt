@@ -11,4 +11,6 @@ pub use Rattle.taf_messages.specs.declared.event.RecordEvent.{RecordEvent}
 pub use Rattle.taf_messages.specs.declared.record.EstimateAt.{EstimateAt}
 pub use Rattle.journey.specs.Legs.{HaveRoom, index_after}
 pub use Rattle.journey.specs.declared.event.Event.{Event}
+pub use Rattle.eti_chain.specs.EstimateStates.{EstimatesInTurn, in_turn_from}
+pub use Rattle.eti_chain.specs.Estimates.{end_in, estimate_basis}
 pub use Rattle.wimo.specs.Records.{record_event, record_events, units_among}

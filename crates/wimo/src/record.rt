@@ -38,6 +38,7 @@ pub fn record_with(
 {
     let plan = track.plan();
     let stage = track.stage();
+    let eta = estimates.eta();
     Ok(Record {
         wagon: track.wagon(),
         lead: plan.lead(),
@@ -50,8 +51,8 @@ pub fn record_with(
         place: track.place(),
         responsible: track.responsible(),
         estimates: estimates_of(alloc, track, estimates)?,
-        eta: estimates.eta(),
-        late: estimates.late(),
+        eta,
+        late: estimates.is_late_with(eta),
         events: events_of(alloc, track.events())?,
         units: units_on(alloc, plan.units(), track.wagon())?,
     })
@@ -116,8 +117,9 @@ fn estimates_of(
 {
     let legs = track.legs().len();
     let mut shown = Vec::with_capacity(alloc, legs)?;
+    let mut each = estimates.in_turn_from(0);
     for leg in 0..legs {
-        if let Some(at) = estimates.estimate(leg) {
+        if let Some(at) = each.next_estimate() {
             let leg = leg_number(leg);
             shown.push(EstimateAt { leg, at })?;
         }
