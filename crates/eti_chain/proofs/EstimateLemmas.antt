@@ -1,5 +1,5 @@
 -- What one more event does to what estimates are counted from.
-use Rattle.eti_chain.proofs.Common.{take, take_more, get_or, length, ◌<◌, ◌≡◌, ℕ, ◌+◌, Bool, true, false, cond, List, [], ◌∷◌, ◌++◌, Option, Some, None, refl, ap, ◌∙◌, sym, add-zero, add_assoc, sum_by, is_some, option_map, option_or, sum_by_push, Leg, Event, EventBody, EstimateAsked, newest, since, leg_index, is_reception, legs_after, legs, newest-push, since-push, legs-push, leg_index-push, index_after, Anchor, anchor_in, delay_in, delays, delayed_by, anchor, basis_from, estimate_basis, anchor_after, Moved, Offered, Withdrawn}
+use Rattle.eti_chain.proofs.Common.{take, take_more, get_or, length, ◌<◌, ◌≡◌, ℕ, ◌+◌, Bool, true, false, cond, List, [], ◌∷◌, ◌++◌, Option, Some, None, refl, ap, ◌∙◌, sym, add-zero, add_assoc, sum_by, is_some, option_map, option_or, sum_by_push, Leg, Event, EventBody, EstimateAsked, newest, since, leg_index, is_reception, legs_after, legs, newest-push, since-push, legs-push, leg_index-push, index_after, Anchor, anchor_in, delay_in, delays, delayed_by, anchor, basis_from, estimate_basis, anchor_after, Moved, Offered, Withdrawn, Answered}
 
 -- an event that receives nothing leaves the leg index
 pub leg_index-kept : (events : List Event) (e : Event) → is_reception e.body ≡ false → leg_index (events ++ e ∷ []) ≡ leg_index events
@@ -37,19 +37,32 @@ anchor_push events e =
 pub anchor_more : (events : List Event) (i : ℕ) (e : Event) → i < length events → e ≡ get_or events i e → anchor (take (i + 1) events) ≡ anchor_after (anchor (take i events)) e
 anchor_more events i e h is = ap anchor (take_more events i e h ∙ ap (λ (d : Event). take i events ++ d ∷ []) (sym is)) ∙ anchor_push (take i events) e
 
--- an event that says nothing of legs, and receives nothing
+-- an event that says nothing of legs
 abbrev pub keeps_legs : EventBody → Bool
 keeps_legs (Moved what) = true
 keeps_legs EstimateAsked = true
 keeps_legs (Offered place to) = true
+keeps_legs (Answered place received) = true
 keeps_legs (Withdrawn place) = true
 keeps_legs _ = false
 
--- it changes the anchor alone
-pub basis-kept : (events : List Event) (e : Event) → keeps_legs e.body ≡ true → estimate_basis (events ++ e ∷ []) ≡ basis_from (leg_index events) (legs events) (anchor_after (anchor events) e)
-basis-kept events e h =
+-- it changes the leg index and the anchor alone
+pub basis-moved : (events : List Event) (e : Event) → keeps_legs e.body ≡ true →
+    estimate_basis (events ++ e ∷ []) ≡ basis_from (index_after (leg_index events) e.body) (legs events) (anchor_after (anchor events) e)
+basis-moved events e h =
     (λ i. basis_from (leg_index-push events e i) (legs-push events e i) (anchor_push events e i)) ∙ by e.body h (leg_index events) (legs events) (anchor_after (anchor events) e)
   where
-    by : (body : EventBody) → keeps_legs body ≡ true → (c : ℕ) (ls : List Leg) (a : Option Anchor) → basis_from (index_after c body) (legs_after c ls body) a ≡ basis_from c ls a
-    by EstimateAsked h c ls a = cc (add-zero c)
-    by _ h c ls a = cc (add-zero c)
+    by : (body : EventBody) → keeps_legs body ≡ true → (c : ℕ) (ls : List Leg) (a : Option Anchor) → basis_from (index_after c body) (legs_after c ls body) a ≡ basis_from (index_after c body) ls a
+    by EstimateAsked h c ls a = refl
+    by (Moved what) h c ls a = refl
+    by (Offered place to) h c ls a = refl
+    by (Answered place received) h c ls a = refl
+    by (Withdrawn place) h c ls a = refl
+    by _ h c ls a = cc
+
+-- where it receives nothing, the anchor alone
+pub basis-kept : (events : List Event) (e : Event) → keeps_legs e.body ≡ true → is_reception e.body ≡ false →
+    estimate_basis (events ++ e ∷ []) ≡ basis_from (leg_index events) (legs events) (anchor_after (anchor events) e)
+basis-kept events e h r =
+    basis-moved events e h ∙ ap (λ b. basis_from (leg_index events + cond b 1 0) (legs events) (anchor_after (anchor events) e)) r ∙
+    ap (λ c. basis_from c (legs events) (anchor_after (anchor events) e)) (add-zero (leg_index events))

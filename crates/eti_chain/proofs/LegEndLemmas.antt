@@ -1,5 +1,5 @@
 -- A journey ends on its last leg, and its estimates stay within the calendar.
-use Rattle.eti_chain.proofs.Common.{◌≡◌, ℕ, ◌+◌, ◌≤◌, Bool, true, false, List, [], ◌∷◌, ◌++◌, length, Option, Some, None, refl, ap, ◌∙◌, sym, arith, option_or, not-false, eqb-true, false≢true, Railway, last_minute, Leg, MovementKind, Release, Departure, Exception, Estimate, Arrival, Delivery, Stage, Event, EventBody, Planned, Moved, EstimateAsked, LegTimed, Answered, Rerouted, stage, stage_after, leg_index, legs, journey_state, refusal, movement_checks, passed, stage-push, legs-push, leg_index-push, timed_length, legs_after, index_after, option_map, fits, fits_in, is_calendar_checked, anchor, anchor_after, delayed_by, basis_from}
+use Rattle.eti_chain.proofs.Common.{◌≡◌, ℕ, ◌+◌, ◌≤◌, Bool, true, false, List, [], ◌∷◌, ◌++◌, length, Option, Some, None, refl, ap, ◌∙◌, sym, arith, option_or, not-false, eqb-true, false≢true, Railway, last_minute, Leg, MovementKind, Release, Departure, Exception, Estimate, Arrival, Delivery, Stage, Event, EventBody, Planned, Moved, EstimateAsked, LegTimed, Answered, Rerouted, stage, stage_after, leg_index, is_reception, legs, journey_state, refusal, movement_checks, passed, stage-push, legs-push, leg_index-push, timed_length, legs_after, index_after, option_map, fits, fits_in, is_calendar_checked, anchor, anchor_after, delayed_by, basis_from}
 use Rattle.taf_messages.specs.declared.record.Stage.TheVariants as stage_is
 use Rattle.eti_chain.proofs.EstimateLemmas.{keeps_legs, basis-kept, not_delayed}
 use Rattle.eti_chain.proofs.CalendarLemmas.{at_end, fits-last}
@@ -60,16 +60,16 @@ module _ (events : List Event) (by : Railway) (number : ℕ) (fit : IsFit events
   stays h = let last = fit.ends h in omega arith
 
   -- an event that changes no estimate
-  silent : (at : Option ℕ) (body : EventBody) → keeps_legs body ≡ true → anchor_after (anchor events) (an by number at body) ≡ option_map (delayed_by 0) (anchor events) →
+  silent : (at : Option ℕ) (body : EventBody) → keeps_legs body ≡ true → is_reception body ≡ false → anchor_after (anchor events) (an by number at body) ≡ option_map (delayed_by 0) (anchor events) →
       fits (events ++ an by number at body ∷ []) ≡ true
-  silent at body k is =
-      ap fits_in (basis-kept events (an by number at body) k) ∙ ap (λ a. fits_in (basis_from (leg_index events) (legs events) a)) (is ∙ not_delayed (anchor events)) ∙ fit.fit
+  silent at body k r is =
+      ap fits_in (basis-kept events (an by number at body) k r) ∙ ap (λ a. fits_in (basis_from (leg_index events) (legs events) a)) (is ∙ not_delayed (anchor events)) ∙ fit.fit
 
   -- an event that ends the last leg at its moment
   ended : (m : ℕ) (what : MovementKind) → anchor_after (anchor events) (an by number (Some m) (Moved what)) ≡ Some (at_end m) → leg_index events + 1 ≡ length (legs events) → m ≤ last_minute →
       IsFit (events ++ an by number (Some m) (Moved what) ∷ [])
   ended m what is last d = after (Some m) (Moved what)
-      (ap fits_in (basis-kept events (an by number (Some m) (Moved what)) refl) ∙ ap (λ a. fits_in (basis_from (leg_index events) (legs events) a)) is ∙ fits-last (leg_index events) (legs events) m last d)
+      (ap fits_in (basis-kept events (an by number (Some m) (Moved what)) refl refl) ∙ ap (λ a. fits_in (basis_from (leg_index events) (legs events) a)) is ∙ fits-last (leg_index events) (legs events) m last d)
       (λ h. omega arith)
 
   pub fit_said : (at : Option ℕ) (body : EventBody) → IsDated at → HasMoment at body → refusal events by body ≡ None →
@@ -82,8 +82,8 @@ module _ (events : List Event) (by : Railway) (number : ℕ) (fit : IsFit events
   fit_said at (Moved Departure) d t r f = after at (Moved Departure) (f refl) (λ h. cc)
   fit_said at (Moved (Exception delay)) d t r f = after at (Moved (Exception delay)) (f refl) stays
   fit_said at (Moved Estimate) d t r f = after at (Moved Estimate) (f refl) stays
-  fit_said at EstimateAsked d t r f = after at EstimateAsked (silent at EstimateAsked refl refl) stays
+  fit_said at EstimateAsked d t r f = after at EstimateAsked (silent at EstimateAsked refl refl refl) stays
   fit_said at (LegTimed leg minutes) d t r f = after at (LegTimed leg minutes) (f refl) (λ h. stays h ∙ sym (timed_length (legs events) leg minutes))
   fit_said at (Answered place received) d t r f = after at (Answered place received) (f refl) (λ h. cc)
   fit_said at (Rerouted route) d t r f = after at (Rerouted route) (f refl) (λ h. absurd (false≢true (sym (rerouted_before events by route (stage events) refl r) ∙ h)))
-  fit_said at body d t r f = after at body (silent at body refl refl) (λ h. cc)
+  fit_said at body d t r f = after at body (silent at body refl refl refl) (λ h. cc)

@@ -85,9 +85,11 @@ impl<'a> Estimates<'a> {
             EventBody::Moved(_)
             | EventBody::EstimateAsked
             | EventBody::Offered { .. }
+            | EventBody::Answered { .. }
             | EventBody::Withdrawn { .. } => {
                 let state = track.journey_state();
-                !EstimateBasis::by(state.leg_index, HeldLegs::Lent(&state.legs), anchor).fits()
+                let leg_index = event.body.leg_index_after(state.leg_index);
+                !EstimateBasis::by(leg_index, HeldLegs::Lent(&state.legs), anchor).fits()
             }
             _ => {
                 let state = track.state_after(event);

@@ -73,6 +73,7 @@ impl<T> Pages<T> {
     }
 
     /// Makes room for one entry more, where there is none.
+    #[inline(always)]
     pub fn reserve(&mut self) -> Result<(), Memory>
         ensures entries { self.new.entries ≡ self.old.entries }
         ensures ok { OnOk result (0 < self.new.spare) }
@@ -83,6 +84,17 @@ impl<T> Pages<T> {
         if self.current.len() < self.current.capacity() {
             return Ok(());
         }
+        self.begin_page()
+    }
+
+    // Begins a page, where the last one has no room.
+    #[inline(never)]
+    fn begin_page(&mut self) -> Result<(), Memory>
+        requires { self.old.spare ≡ 0 }
+        ensures entries { self.new.entries ≡ self.old.entries }
+        ensures ok { OnOk result (0 < self.new.spare) }
+        ensures err { OnErr result (self.new ≡ self.old) }
+    {
         if self.current.capacity() == 0 {
             self.current.reserve_exact(PAGE)?;
             return Ok(());

@@ -7,6 +7,7 @@ pub runner_listed : (o : Option Leg) → option_to_list (option_map (λ (l : Leg
 runner_listed None = refl
 runner_listed (Some l) = refl
 
+-- an item that is not for the railway stays before those that stay
 left_in : {A : Type 0} (is_out any_more : Bool) (x : A) (left xs : List A) → (is_out || any_more) ≡ false → (any_more ≡ false → left ≡ xs) → (if not is_out then x ∷ left else left) ≡ x ∷ xs
 left_in {A} true any_more x left xs h k = absurd (false≢true (sym h))
 left_in {A} false any_more x left xs h k = ap (λ (l : List A). x ∷ l) (k h)

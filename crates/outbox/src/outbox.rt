@@ -124,7 +124,7 @@ fn numbered_items(
         let Some(body) = rest.next() else {
             return Ok(ItemList::from_vec(items));
         };
-        number = number.saturating_add(1);
+        number += 1;
         let body = copy_of(body)?;
         items.push_reserved(Item { number, body });
     }

@@ -1,7 +1,7 @@
 ghost use Rattle.std.specs.Prelude.{◌≡◌, ◌<◌, ◌≤◌, ◌+◌, ◌^◌, bytes_eq, true, Some, IfOk};
 ghost use Rattle.std.specs.List.{list_any};
 ghost use Rattle.journey.specs.Checks.{is_lead};
-ghost use Rattle.journey.specs.Legs.{HasRoom, HaveRoom, index_after};
+ghost use Rattle.journey.specs.Legs.{HasRoom, HaveRoom};
 ghost use Rattle.journey.specs.JourneyStates.{journey_state};
 ghost use Rattle.eti_chain.specs.EstimateStates.{estimates_state};
 ghost use Rattle.eti_chain.specs.Estimates as of;
@@ -137,22 +137,9 @@ fn events_of(alloc: Global, events: &[Event]) -> Result<RecordEvents, AllocError
     for event in events {
         let what = shown_as(current, &event.body);
         shown.push_reserved(recorded(event, what));
-        current = leg_after(current, &event.body);
+        current = event.body.leg_index_after(current);
     }
     Ok(Listed::from_vec(shown))
-}
-
-// The leg after an event.
-fn leg_after(current: usize, body: &EventBody) -> usize
-    requires { current + 1 < 2 ^ 64 }
-    ensures value { result ≡ index_after current body.now }
-    ensures next { result ≤ current + 1 }
-{
-    if let EventBody::Answered { received: true, .. } = body {
-        current + 1
-    } else {
-        current
-    }
 }
 
 // An event of which this is shown.

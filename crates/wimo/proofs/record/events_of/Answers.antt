@@ -20,10 +20,10 @@ loop-event-preserved c =
     let rest = drop (i + 1) events in
     let behind : drop i events ≡ event ∷ rest = at_drop_more (λ l. l) events i event c.loop-event-test.true ∙ ap (λ e. e ∷ rest) (sym c.event-item.is) in
     let here = c.recorded.ensures ∙ ap (λ what. record { by = event.by; no = event.no; at = event.at; what = what }) c.shown_as-what.ensures in
-    let next = c.leg_after-current.ensures in
+    let next = c.leg_index_after-current.ensures in
     record {
-      shown = shown_more c.loop-event.shown.items c.push_reserved.new.self.items current c.leg_after-current.result event rest _ (c.push_reserved.ensures.items ∙ ap (λ r. c.loop-event.shown.items ++ r ∷ []) (here)) next.value (rw behind at c.loop-event.invariant.shown);
-      room = room_more current c.leg_after-current.result event rest next.value (rw behind at c.loop-event.invariant.room);
+      shown = shown_more c.loop-event.shown.items c.push_reserved.new.self.items current c.leg_index_after-current.result event rest _ (c.push_reserved.ensures.items ∙ ap (λ r. c.loop-event.shown.items ++ r ∷ []) (here)) next.value (rw behind at c.loop-event.invariant.shown);
+      room = room_more current c.leg_index_after-current.result event rest next.value (rw behind at c.loop-event.invariant.room);
       small = omega arith;
       space = omega (arith, c.loop-event-test.true);
     }
