@@ -1,6 +1,6 @@
 //! Each growth of a session refused in turn.
 
-use crate::script_runner::{HELLO, ID};
+use crate::script_runner::{HELLO, ID, begin_anew};
 use hub_core::Hub;
 use inbox::Job;
 use memory_limit::MemoryLimit;
@@ -166,19 +166,13 @@ impl Scarce {
         Ok(())
     }
 
-    // Begins anew with a new session and a new hub, and gives the session.
-    fn restart(&mut self) -> Session {
-        *self.hub = Hub::new(self.alloc);
-        replace(&mut *self.session, Session::new(self.alloc, ID))
-    }
-
     // What comes of the lines, where so many bytes are left for each step.
     fn run(&mut self, left: usize) -> Result<Told, Fail> {
         self.left = left;
         self.lines = 0;
         self.answers = 0;
         self.read_lines()?;
-        let session = self.restart();
+        let session = begin_anew(self.alloc, &mut *self.session, &mut *self.hub);
         let tally = replies_of(self.alloc, &session.on_end())?;
         let said = replace(&mut self.said, Vec::new(self.alloc));
         Ok(Told { said, tally })

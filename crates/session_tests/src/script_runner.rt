@@ -67,6 +67,12 @@ fn line_at(script: &str, place: usize) -> Option<&str> {
         .nth(place)
 }
 
+/// Puts a new session and a new hub in place of these, and gives back the session that was there.
+pub(crate) fn begin_anew(alloc: Global, session: &mut Session, hub: &mut Hub) -> Session {
+    *hub = Hub::new(alloc);
+    replace(session, Session::new(alloc, ID))
+}
+
 // What the hub answered to a call.
 fn answer_of(hub: &Hub, place: usize) -> Result<(u64, Reply), HubFault> {
     let Some(entry) = hub.entry(place) else {
@@ -259,8 +265,7 @@ impl ScriptRunner {
 
     /// Takes what came of it, and begins anew with a new session and a new hub.
     pub(crate) fn end(&mut self) -> Result<ScriptResult, Fail> {
-        let session = replace(&mut *self.session, Session::new(self.alloc, ID));
-        *self.hub = Hub::new(self.alloc);
+        let session = begin_anew(self.alloc, &mut *self.session, &mut *self.hub);
         self.taken = 0;
         self.read = 0;
         let tally = replies_of(self.alloc, &session.on_end())?;
