@@ -1,0 +1,17 @@
+//! Tests of a journal and its file: the crates `log_file`, `journal` and `disk_file`. There is nothing else here.
+//!
+//! Calls of a file over memory fail one after another; a journal is cut at every byte, damaged, and opened again; a file of
+//! the system is made, locked, committed to and repaired. The tests stand apart from the crates that they test, since a
+//! crate with tests is proved twice.
+#![tactic(auto)]
+
+#[cfg(test)]
+mod damaged;
+#[cfg(test)]
+mod failing;
+#[cfg(test)]
+mod given;
+#[cfg(test)]
+mod system;
+#[cfg(test)]
+mod torn;

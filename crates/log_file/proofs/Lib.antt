@@ -1,0 +1,2 @@
+mod SnapshotLemmas
+pub mod CrashLemmas
