@@ -6,13 +6,14 @@ use anyhow::Result;
 use schedules::run_seeds;
 use std::alloc::Global;
 use std::io::Write;
+use std::random::RandomSource;
 use std::sync::Wait;
 use std::thread::Threads;
 use std::time::{Clock, Instant};
 
 /// Does what the words ask for.
 pub fn perform<W: Write>(
-    rt: &(impl Threads + Wait + Clock + Sync),
+    rt: &(impl Threads + Wait + Clock + RandomSource + Sync),
     alloc: Global,
     output: &mut W,
     asked: Asked,
@@ -33,7 +34,7 @@ fn print_names<W: Write>(output: &mut W) -> Result<()> {
 }
 
 fn measure<W: Write>(
-    rt: &(impl Threads + Wait + Clock + Sync),
+    rt: &(impl Threads + Wait + Clock + RandomSource + Sync),
     alloc: Global,
     output: &mut W,
     bench: Bench,
@@ -125,7 +126,7 @@ fn measure_report<W: Write>(
 }
 
 fn measure_lanes<W: Write>(
-    rt: &(impl Threads + Wait + Clock + Sync),
+    rt: &(impl Threads + Wait + Clock + RandomSource + Sync),
     alloc: Global,
     output: &mut W,
     count: u64,

@@ -6,6 +6,7 @@ use crate::measured::Measured;
 use anyhow::Result;
 use hub_shifts::{OpenGate, ShiftFault, run_shift};
 use std::alloc::{AllocError, Global};
+use std::random::RandomSource;
 use std::sync::Wait;
 use std::thread::Threads;
 use std::time::{Clock, Instant};
@@ -86,7 +87,7 @@ fn new_sessions(alloc: Global, lines: &[u8]) -> Result<Vec<(Lines<'_>, Unkept)>,
 }
 
 /// Calls of a shift, an eighth of them in each session.
-pub(crate) fn calls<R: Threads + Wait + Clock + Sync>(
+pub(crate) fn calls<R: Threads + Wait + Clock + RandomSource + Sync>(
     rt: &R,
     alloc: Global,
     count: u64,

@@ -3,6 +3,7 @@ use std::alloc::Global;
 use std::io;
 use std::io::ErrorKind;
 use std::net::Net;
+use std::random::RandomSource;
 use std::sync::Wait;
 use std::test::Fail;
 use std::thread::Threads;
@@ -27,7 +28,7 @@ pub(crate) struct Ended {
 // Does what the line of arguments names.
 pub(crate) fn end_of<H>(rt: &H, line: &str, input: &str) -> Result<Ended, Fail>
 where
-    H: Net + Threads + Wait + Sync + AllocGlobal,
+    H: Net + Threads + Wait + Sync + RandomSource + AllocGlobal,
     H::Stream: Send,
 {
     let arguments = arguments(rt.alloc(), line)?;

@@ -4,6 +4,7 @@
 //! |---|---|
 //! | `commands` | the commands of `taf_hub`: their texts, their faults and their statuses |
 //! | `serving` | a shift of two railways over loopback, and a port that is taken |
+//! | `reported` | the lines of faults, and of sessions that could not be served to their end |
 //! | `measurements` | the arguments of `bench`, and how many lines each benchmark prints |
 //!
 //! The tests stand apart from the crates that they test, since a crate with tests is proved twice.
@@ -13,5 +14,7 @@
 mod commands;
 #[cfg(test)]
 mod measurements;
+#[cfg(test)]
+mod reported;
 #[cfg(test)]
 mod serving;

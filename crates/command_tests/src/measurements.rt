@@ -1,5 +1,6 @@
 use benchmarks::{Asked, Bench, Measured, perform, read_words};
 use std::alloc::Global;
+use std::random::RandomSource;
 use std::sync::Wait;
 use std::test::Fail;
 use std::thread::Threads;
@@ -21,7 +22,7 @@ fn asked(alloc: Global, words: &[&str]) -> Result<Asked, Fail> {
 
 // What is printed where this is asked for.
 fn printed(
-    rt: &(impl Threads + Wait + Clock + Sync),
+    rt: &(impl Threads + Wait + Clock + RandomSource + Sync),
     alloc: Global,
     words: &[&str],
 ) -> Result<Vec<u8>, Fail> {

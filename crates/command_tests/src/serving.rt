@@ -1,4 +1,4 @@
-//! A shift of two railways over loopback.
+//! Shifts over loopback.
 
 use crate::commands::end_of;
 use hub_commands::{ShiftSize, serve_on};
@@ -6,26 +6,18 @@ use memory_limit::MemoryLimit;
 use std::alloc::Global;
 use std::io::{Read, Write};
 use std::net::{Ipv4Addr, Net, OpenStream, Shutdown, SocketAddr, TcpListener, TcpStream};
+use std::random::RandomSource;
 use std::sync::Wait;
 use std::test::*;
 use std::thread::Threads;
 use std::{io, thread};
+use test_scripts::Script;
 
-static FIRST: &str = r#"{"kind":"hello","from":"R100"}
-{"kind":"plan","from":"R100","no":1,"consignment":"C-1","load":"loaded","commit":"2025-03-01T15:30Z","wagons":["218124712173"],"legs":[{"ru":"R101","origin":"DE00001","target":"AT00002","minutes":300},{"ru":"R102","origin":"AT00002","target":"IT00003","minutes":240}]}
-{"from":"R100","kind":"ask","wagon":"218124712173"}
-{"at":"2025-03-01T05:30Z","from":"R100","kind":"release","no":2,"wagon":"218124712173"}
-{"from":"R100","kind":"ask","wagon":"218124712173"}
-{"from":"R100","kind":"fetch","limit":10}
-"#;
+const FIRST_HELLO: &str = r#"{"kind":"hello","from":"R100"}
+> {"hello":"R100"}"#;
 
-static SECOND: &str = r#"{"kind":"hello","from":"R200"}
-{"kind":"plan","from":"R200","no":1,"consignment":"C-2","load":"loaded","commit":"2025-03-01T15:30Z","wagons":["338478961232"],"legs":[{"ru":"R201","origin":"DE00001","target":"AT00002","minutes":300}]}
-{"from":"R200","kind":"ask","wagon":"338478961232"}
-{"at":"2025-03-01T05:30Z","from":"R200","kind":"release","no":2,"wagon":"338478961232"}
-{"from":"R200","kind":"ask","wagon":"338478961232"}
-{"from":"R200","kind":"fetch","limit":10}
-"#;
+const SECOND_HELLO: &str = r#"{"kind":"hello","from":"R200"}
+> {"hello":"R200"}"#;
 
 // What is printed, in either order of the wagons: the plan that came first has its wagon first.
 static PRINTED: [&str; 2] = [
@@ -41,24 +33,34 @@ wagons 2
 ",
 ];
 
-// How many lines a railway is said that sends these lines.
-fn count_said<R: Net>(
+// What is said to one that sends these bytes and ends.
+fn said_to<R: Net>(
     rt: &R,
     alloc: Global,
     address: SocketAddr,
-    lines: &str,
-) -> io::Result<usize> {
+    lines: &[u8],
+) -> io::Result<Vec<u8>> {
     let mut stream = TcpStream::connect(rt, address)?;
-    stream.write_all(lines.as_bytes())?;
+    stream.write_all(lines)?;
     stream.shutdown(Shutdown::Write)?;
     let mut said = Vec::new(alloc);
     stream.read_to_end(&mut said)?;
-    Ok(said.iter().filter(|byte| **byte == b'\n').count())
+    Ok(said)
+}
+
+// Whether the railway that sends the lines of a script is said those that are wanted, each byte.
+fn is_answered<R: Net>(rt: &R, alloc: Global, address: SocketAddr, script: &Script) -> bool {
+    match said_to(rt, alloc, address, script.input.as_slice()) {
+        Ok(said) => said.as_slice() == script.wanted.as_slice(),
+        Err(_) => false,
+    }
 }
 
 #[test]
 fn two_railways_are_served(rt: HostRuntime) -> Result<(), Fail> {
     let alloc = rt.alloc();
+    let first = Script::of(alloc, &[FIRST_HELLO, test_scripts::FIRST])?;
+    let second = Script::of(alloc, &[SECOND_HELLO, test_scripts::SECOND])?;
     let listener = TcpListener::bind(&rt, (Ipv4Addr::LOCALHOST, 0))?;
     let address = listener.local_addr()?;
     let Some(size) = ShiftSize::new(2, 2) else {
@@ -66,18 +68,18 @@ fn two_railways_are_served(rt: HostRuntime) -> Result<(), Fail> {
     };
     let mut output = Vec::new(alloc);
     let mut errors = Vec::new(alloc);
-    let (said, status) = thread::join(
+    let (answered, status) = thread::join(
         &rt,
         || {
             thread::join(
                 &rt,
-                || count_said(&rt, alloc, address, FIRST).ok(),
-                || count_said(&rt, alloc, address, SECOND).ok(),
+                || is_answered(&rt, alloc, address, &first),
+                || is_answered(&rt, alloc, address, &second),
             )
         },
-        || serve_on(&rt, &listener, size, &mut output, &mut errors),
+        || serve_on(&rt, listener, size, &mut output, &mut errors),
     );
-    assert!(rt; said == (Some(6), Some(6)));
+    assert!(rt; answered == (true, true));
     assert!(rt; status == 0 && errors.is_empty());
     assert!(rt;
         PRINTED
@@ -100,9 +102,9 @@ fn a_taken_port_is_a_fault(rt: HostRuntime) -> Result<(), Fail> {
 }
 
 // The status of a shift of three railways of which so many connect, on a listener that then waits for no other.
-fn status_of_some<H>(rt: &H, listener: &TcpListener, connected: usize) -> Result<u8, Fail>
+fn status_of_some<H>(rt: &H, listener: TcpListener, connected: usize) -> Result<u8, Fail>
 where
-    H: Net + Threads + Wait + Sync + AllocGlobal,
+    H: Net + Threads + Wait + Sync + RandomSource + AllocGlobal,
 {
     let Some(size) = ShiftSize::new(3, 2) else {
         return Err(Fail::new("no size"));
@@ -122,7 +124,7 @@ fn an_accept_that_fails_is_a_fault(rt: HostRuntime) -> Result<(), Fail> {
     for connected in 0..3usize {
         let listener = TcpListener::bind(&rt, (Ipv4Addr::LOCALHOST, 0))?;
         assert!(rt;
-            status_of_some(&rt, &listener, connected)? == 5,
+            status_of_some(&rt, listener, connected)? == 5,
             "at {connected}"
         );
     }
@@ -133,6 +135,7 @@ fn an_accept_that_fails_is_a_fault(rt: HostRuntime) -> Result<(), Fail> {
 #[test]
 fn an_output_that_fails_is_a_fault(rt: HostRuntime) -> Result<(), Fail> {
     let alloc = rt.alloc();
+    let script = Script::of(alloc, &[FIRST_HELLO, test_scripts::FIRST])?;
     let listener = TcpListener::bind(&rt, (Ipv4Addr::LOCALHOST, 0))?;
     let address = listener.local_addr()?;
     let Some(size) = ShiftSize::new(1, 1) else {
@@ -140,12 +143,12 @@ fn an_output_that_fails_is_a_fault(rt: HostRuntime) -> Result<(), Fail> {
     };
     let mut room = [0u8; 4];
     let mut errors = Vec::new(alloc);
-    let (said, status) = thread::join(
+    let (answered, status) = thread::join(
         &rt,
-        || count_said(&rt, alloc, address, FIRST).ok(),
-        || serve_on(&rt, &listener, size, room.as_mut_slice(), &mut errors),
+        || is_answered(&rt, alloc, address, &script),
+        || serve_on(&rt, listener, size, room.as_mut_slice(), &mut errors),
     );
-    assert!(rt; said == Some(6) && status == 3);
+    assert!(rt; answered && status == 3);
     assert!(rt; errors.as_slice() == "fault: write\n".as_bytes());
     Ok(())
 }
@@ -153,12 +156,12 @@ fn an_output_that_fails_is_a_fault(rt: HostRuntime) -> Result<(), Fail> {
 // The status of a shift of one railway that says nothing, where so many bytes are left.
 fn status_within<H>(
     rt: &H,
-    listener: &TcpListener,
+    listener: TcpListener,
     memory_limit: &mut MemoryLimit,
     left: usize,
 ) -> Result<u8, Fail>
 where
-    H: Net + Threads + Wait + Sync + AllocGlobal,
+    H: Net + Threads + Wait + Sync + RandomSource + AllocGlobal,
 {
     let Some(size) = ShiftSize::new(1, 1) else {
         return Err(Fail::new("no size"));
@@ -175,11 +178,11 @@ where
 // Memory is refused, until there is enough for all but the threads.
 #[test]
 fn refused_memory_and_then_no_thread(rt: HostRuntime) -> Result<(), Fail> {
-    let listener = TcpListener::bind(&rt, (Ipv4Addr::LOCALHOST, 0))?;
     let mut memory_limit = MemoryLimit::new(rt.alloc())?;
     let mut refused = 0u32;
     for step in 0..10_000usize {
-        match status_within(&rt, &listener, &mut memory_limit, step * 64)? {
+        let listener = TcpListener::bind(&rt, (Ipv4Addr::LOCALHOST, 0))?;
+        match status_within(&rt, listener, &mut memory_limit, step * 64)? {
             4 => refused = refused.saturating_add(1),
             5 => break,
             _ => return Err(Fail::new("another status")),

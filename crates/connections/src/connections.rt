@@ -2,14 +2,15 @@
 ghost use Rattle.std.specs.Prelude.{◌≡◌, vec_len, IfOk};
 
 use crate::fault::AcceptFault;
+use crate::guard::RequestGuard;
 use std::alloc::Global;
 use std::io::{ErrorKind, Read, Write};
 use std::net::{OpenListener, OpenStream};
 use std::sync::Wait;
 use taf_codes::Std;
 
-/// A session's reader and writer, the two ends of its connection.
-pub type Ends<T> = (Std<T>, Std<T>);
+/// A session's reader and writer, the two ends of its connection. The reader gives nothing where a request of HTTP comes first.
+pub type Ends<T> = (RequestGuard<Std<T>>, Std<T>);
 
 /// Accepts so many connections, in the order in which they come, and waits for each.
 ///
@@ -54,7 +55,7 @@ fn both_ends<T: Read + Write + OpenStream + Drop>(stream: T) -> Result<Ends<T>, 
     // A connection that was broken meanwhile is a session all the same, which ends at once.
     let _ = stream.set_nodelay(true);
     match stream.try_clone() {
-        Ok(reader) => Ok((Std::new(reader), Std::new(stream))),
+        Ok(reader) => Ok((RequestGuard::new(Std::new(reader)), Std::new(stream))),
         Err(_) => Err(AcceptFault::Socket),
     }
 }

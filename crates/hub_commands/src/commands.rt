@@ -9,13 +9,14 @@ use hub_tasks::{Task, task_of};
 use shift_size::ShiftSize;
 use std::io::{Read, Write};
 use std::net::{Net, OpenListener, OpenStream};
+use std::random::RandomSource;
 use std::sync::Wait;
 use std::thread::Threads;
 
 /// Does what the arguments name, the program's name first, and gives the status.
 pub fn perform<H, R, W, E>(rt: &H, arguments: &[String], input: R, output: W, errors: &mut E) -> u8
 where
-    H: Net + Threads + Wait + Sync + AllocGlobal,
+    H: Net + Threads + Wait + Sync + RandomSource + AllocGlobal,
     H::Stream: Send,
     R: Read + Drop,
     W: Write + Drop,
@@ -33,16 +34,17 @@ where
     }
 }
 
-/// Serves one shift over the connections of a listener, as the command `serve` does on its port, and gives the status.
-pub fn serve_on<L, H, W, E>(rt: &H, listener: &L, size: ShiftSize, output: W, errors: &mut E) -> u8
+/// Serves one shift over the connections of a listener, as the command `serve` does on its port, and gives the status. It listens
+/// until all connections of the shift are there.
+pub fn serve_on<L, H, W, E>(rt: &H, listener: L, size: ShiftSize, output: W, errors: &mut E) -> u8
 where
-    L: OpenListener,
+    L: OpenListener + Drop,
     L::Stream: Read + Write + OpenStream + Send + Drop,
-    H: Threads + Wait + Sync + AllocGlobal,
+    H: Threads + Wait + Sync + RandomSource + AllocGlobal,
     W: Write + Drop,
     E: Write,
 {
-    match serve::serve(rt, rt.alloc(), listener, size, output) {
+    match serve::serve(rt, listener, size, output, errors) {
         Ok(status) => status,
         Err(fault) => report_fault(fault, errors),
     }

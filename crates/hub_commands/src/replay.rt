@@ -2,9 +2,11 @@ use crate::print::{gathering, print};
 use hub_core::Hub;
 use hub_faults::Fault;
 use hub_replay::run;
+use seeded_state::SeededState;
 use std::alloc::Global;
 use std::io::{Read, Write};
 use std::mem::forget;
+use std::random::RandomSource;
 use std::thread::Threads;
 use taf_codes::{Sink, Source, Std};
 use wimo_report::hub_lines;
@@ -12,7 +14,7 @@ use wimo_report::hub_lines;
 /// Answers the lines of the input on the output, on a new hub, and then prints the report of all
 /// wagons.
 pub fn perform<R: Read + Drop, W: Write + Drop>(
-    rt: &(impl Threads + Sync),
+    rt: &(impl Threads + Sync + RandomSource),
     alloc: Global,
     input: R,
     output: W,
@@ -25,12 +27,12 @@ pub fn perform<R: Read + Drop, W: Write + Drop>(
 
 // Answers the lines on a new hub, and gives the lines of the report.
 fn answer(
-    rt: &(impl Threads + Sync),
+    rt: &(impl Threads + Sync + RandomSource),
     alloc: Global,
     reader: &mut impl Source,
     writer: &mut impl Sink,
 ) -> Result<Vec<String>, Fault> {
-    let mut hub = Hub::new(alloc);
+    let mut hub = Hub::with_hasher(alloc, SeededState::drawn(rt));
     let report = report_of(rt, alloc, reader, writer, &mut hub);
     // The program ends here. To give back the memory of each call would take as long as many calls.
     forget(hub);

@@ -1,11 +1,11 @@
 use crate::print::{gathering, print};
 use hub_faults::Fault;
-use hub_server::{SettledShift, serve_connections};
+use hub_server::{ServerFault, SessionEnd, SettledShift, serve_connections};
 use shift_size::ShiftSize;
-use std::alloc::Global;
 use std::io::{Read, Write};
 use std::mem::forget;
 use std::net::{Ipv4Addr, Net, OpenListener, OpenStream, TcpListener};
+use std::random::RandomSource;
 use std::sync::Wait;
 use std::thread::Threads;
 use wimo_report::hub_lines;
@@ -19,7 +19,7 @@ pub fn perform<R, W, E>(
     errors: &mut E,
 ) -> Result<u8, Fault>
 where
-    R: Net + Threads + Wait + Sync + AllocGlobal,
+    R: Net + Threads + Wait + Sync + RandomSource + AllocGlobal,
     R::Stream: Send,
     W: Write + Drop,
     E: Write,
@@ -30,22 +30,34 @@ where
     let sessions = size.sessions();
     // Where standard error fails, nobody is told where the shift listens; it is served all the same.
     let _ = errors.write_fmt(format_args!("listening on 127.0.0.1:{port}, {sessions} sessions\n"));
-    serve(rt, rt.alloc(), &listener, size, output)
+    serve(rt, listener, size, output, errors)
 }
 
 /// Serves one shift over the connections of a listener: prints `settled C`, with the number of calls of its history, and the
-/// report of all wagons.
-pub(crate) fn serve<L: OpenListener, R: Threads + Wait + Sync, W: Write + Drop>(
+/// report of all wagons. Each session that could not be served to its end is a line among the errors, and so is why a shift did
+/// not settle.
+pub(crate) fn serve<L, R, W, E>(
     rt: &R,
-    alloc: Global,
-    listener: &L,
+    listener: L,
     size: ShiftSize,
     output: W,
+    errors: &mut E,
 ) -> Result<u8, Fault>
 where
+    L: OpenListener + Drop,
     L::Stream: Read + Write + OpenStream + Send + Drop,
+    R: Threads + Wait + Sync + RandomSource + AllocGlobal,
+    W: Write + Drop,
+    E: Write,
 {
-    let SettledShift { shift, calls } = serve_connections(rt, alloc, listener, size)?;
+    let alloc = rt.alloc();
+    let SettledShift { shift, calls } = match serve_connections(rt, alloc, listener, size) {
+        Ok(settled) => settled,
+        Err(fault) => return Err(explained(fault, errors)),
+    };
+    for (session, end) in shift.ends.iter().enumerate() {
+        report_end(session, *end, errors);
+    }
     let lines = hub_lines(rt, alloc, &shift.hub);
     // The program ends here. To give back the memory of each call would take as long as many calls.
     forget(shift);
@@ -56,4 +68,25 @@ where
     };
     print(&mut output, &lines)?;
     Ok(0)
+}
+
+// The fault of the command, once it is told in which respect a shift did not settle.
+fn explained<E: Write>(fault: ServerFault, errors: &mut E) -> Fault {
+    if let ServerFault::NotSettled(_) = fault {
+        let _ = errors.write_fmt(format_args!("{fault}\n"));
+    }
+    Fault::from(fault)
+}
+
+/// Prints how a session ended that could not be served to its end, as `session 3: the writer failed`. The sessions are counted
+/// from 0, in the order of their connections. Of one that ended complete it prints nothing.
+pub fn report_end<E: Write>(session: usize, end: SessionEnd, errors: &mut E) {
+    // Where standard error fails, nobody is told; the shift is reported all the same.
+    let _ = match end {
+        SessionEnd::Complete => Ok(()),
+        SessionEnd::Stranger => errors.write_fmt(format_args!(
+            "session {session}: an answer came that was not to its oldest call\n"
+        )),
+        SessionEnd::Fault(fault) => errors.write_fmt(format_args!("session {session}: {fault}\n")),
+    };
 }

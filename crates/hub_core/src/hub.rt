@@ -11,6 +11,7 @@ use crate::state::State;
 use crate::view::View;
 use hub_answers::{apart, view_part};
 use hub_model::{Entry, histories_are_runs};
+use seeded_state::SeededState;
 use std::alloc::Global;
 use std::marker::Model;
 use taf_codes::Memory;
@@ -40,12 +41,19 @@ impl Model for Hub {
 }
 
 impl Hub {
-    /// A hub that has taken no call. Takes no memory.
+    /// A hub that has taken no call, and whose tables hash from the fixed seed. Takes no memory.
     pub fn new(alloc: Global) -> Hub
         ensures { result ≡ [] }
     {
+        Hub::with_hasher(alloc, SeededState::fixed())
+    }
+
+    /// A hub that has taken no call, and whose tables hash so. Takes no memory.
+    pub fn with_hasher(alloc: Global, hasher: SeededState) -> Hub
+        ensures { result ≡ [] }
+    {
         Hub {
-            state: State::new(alloc),
+            state: State::with_hasher(alloc, hasher),
             alloc,
         }
     }

@@ -17,7 +17,7 @@ use taf_messages::{Call, Message, Reply, Shared, Why, copy_reply, same};
 fn repeat_reply(
     alloc: Global,
     state: &State,
-    position: u32,
+    position: u64,
     message: &Message,
 ) -> Result<Reply, Memory>
     requires kept { IsConsistent state.now }
@@ -50,7 +50,7 @@ fn repeat_reply(
 pub(crate) fn apply_repeat(
     alloc: Global,
     state: &mut State,
-    position: u32,
+    position: u64,
     message: Shared<Message>,
 ) -> Result<Reply, Memory>
     requires ready { MayTake state.old }

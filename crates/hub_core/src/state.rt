@@ -12,6 +12,7 @@ use hub_model::{AddressedItem, Entry};
 use hub_tables::{Change, Tables};
 use outbox::Outboxes;
 use replay_numbers::Seen;
+use seeded_state::SeededState;
 use std::alloc::Global;
 use taf_codes::Memory;
 use taf_messages::{Call, Message, Reply, Shared, copy_reply};
@@ -30,16 +31,16 @@ pub(crate) struct State {
 }
 
 impl State {
-    /// The state of a hub that has taken no call.
-    pub fn new(alloc: Global) -> State
+    /// The state of a hub that has taken no call, and whose tables hash so.
+    pub fn with_hasher(alloc: Global, hasher: SeededState) -> State
         ensures history { result.history.entries ≡ [] }
         ensures kept { IsConsistent result }
     {
         State {
             history: Pages::new(alloc),
-            tables: Tables::new(alloc),
-            seen: Seen::new(alloc),
-            outboxes: Outboxes::new(alloc),
+            tables: Tables::with_hasher(alloc, hasher),
+            seen: Seen::with_hasher(alloc, hasher),
+            outboxes: Outboxes::with_hasher(alloc, hasher),
             changes: Vec::new(alloc),
             items: Vec::new(alloc),
         }
@@ -76,7 +77,7 @@ pub(crate) fn enter_send(state: &mut State, message: Shared<Message>, reply: Rep
     ensures outboxes { state.new.outboxes ≡ state.old.outboxes }
 {
     let content = message.get().content();
-    let position = state.history.len() as u32;
+    let position = state.history.len() as u64;
     state.seen.note_reserved(content.by, content.no, position);
     let call = Call::Send(message);
     state.history.push_reserved(Entry { call, reply });

@@ -44,4 +44,4 @@ abbrev pub fault_of_server : ServerFault → Fault
 fault_of_server of_server.Socket = Socket
 fault_of_server of_server.Thread = Thread
 fault_of_server of_server.Memory = Memory
-fault_of_server of_server.NotSettled = NotSettled
+fault_of_server (of_server.NotSettled why) = NotSettled

@@ -113,7 +113,7 @@ impl From<ServerFault> for Fault {
             ServerFault::Socket => Fault::Socket,
             ServerFault::Thread => Fault::Thread,
             ServerFault::Memory => Fault::Memory,
-            ServerFault::NotSettled => Fault::NotSettled,
+            ServerFault::NotSettled(_) => Fault::NotSettled,
         }
     }
 }

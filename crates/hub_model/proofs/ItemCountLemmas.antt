@@ -1,12 +1,12 @@
 -- How many items an accepted message makes.
 use native.Mathlib.Omega.{arith}
-use Rattle.hub_model.proofs.Common.{◌≡◌, ℕ, ◌+◌, ◌*◌, ◌≤◌, suc, List, [], ◌∷◌, ◌++◌, length, drop, mul-suc, Option, Some, None, refl, ap, ◌∙◌, true, Bool, not, eqb, map, filter, flat_map, filter_map, option_map, option_to_list, bytes_eq, option_or, cons_option, range_with_len, cond_both, ltb-false, eq-eqb, length-append, length-map, length-drop, length-range_with_len, length-filter, count_by-le-length, Railway, Leg, has, MovementKind, Release, Departure, YardArrival, YardDeparture, Exception, Estimate, Arrival, Delivery, Message, Body, EstimateAt, ItemBody, Offer, wagons_of, asked_by, Event, Rerouted, leg_index, responsible, journey_state, legs, current_leg, lead_of, runner_of, route_checks, estimate, estimates, passed, same_name, Entry, AddressedItem, HubState, new_state, named_wagons, journey_after, fault, each_once, runners, movement_receivers, route_receivers, notice_receivers, sub_item, sub_items, notices, estimate_item, is_news, estimate_items, alert, alert_receivers, alert_items, items_of, items_to, after_acceptance, offer_given, state_of, IsLegal, HasFewLegs, HasFewWagons, IsWithinLimits, AreWithinLimits, ItemsAreFew, OutboxesAreBounded}
+use Rattle.hub_model.proofs.Common.{◌≡◌, ℕ, ◌+◌, ◌*◌, ◌≤◌, suc, sound_journey, List, [], ◌∷◌, ◌++◌, length, drop, mul-suc, Option, Some, None, refl, ap, ◌∙◌, true, Bool, not, eqb, map, filter, flat_map, filter_map, option_map, option_to_list, bytes_eq, option_or, cons_option, range_with_len, cond_both, ltb-false, eq-eqb, length-append, length-map, length-drop, length-range_with_len, length-filter, count_by-le-length, Railway, Leg, has, MovementKind, Release, Departure, YardArrival, YardDeparture, Exception, Estimate, Arrival, Delivery, Message, Body, EstimateAt, ItemBody, Offer, wagons_of, asked_by, Event, Rerouted, leg_index, responsible, journey_state, legs, current_leg, lead_of, runner_of, route_checks, estimate, estimates, passed, same_name, Entry, AddressedItem, HubState, new_state, named_wagons, journey_after, fault, each_once, runners, movement_receivers, route_receivers, notice_receivers, sub_item, sub_items, notices, estimate_item, is_news, estimate_items, alert, alert_receivers, alert_items, items_of, items_to, after_acceptance, offer_given, state_of, IsLegal, HasFewLegs, HasFewWagons, IsWithinLimits, AreWithinLimits, ItemsAreFew, OutboxesAreBounded}
 use Rattle.taf_messages.specs.declared.message.Body.TheVariants as body
 use Rattle.taf_messages.specs.declared.item.ItemBody.TheVariants as item
 use Rattle.hub_model.proofs.NoFaultLemmas.{no_known_fault, known_allowed, msg}
 use Rattle.hub_model.proofs.JourneyLengthLemmas.{IsTrackState, kept_from}
 use Rattle.hub_model.proofs.GrowthLemmas.{grown_from}
-use Rattle.hub_model.proofs.LegIndexLemmas.{IsUnderway, AllUnderway, kept_underway, underway_nothing}
+use Rattle.hub_model.proofs.AdmittedLemmas.{IsAdmitted, AllAdmitted, kept_admitted, admitted_nothing}
 
 -- lengths of lists that are made of others
 few_filter : {A : Type 0} (p : A → Bool) (xs : List A) → length (filter p xs) ≤ length xs
@@ -38,9 +38,9 @@ few_each f k each (x ∷ xs) =
     rw l (omega arith)
 
 -- a wagon has at most eight legs, and at most eight estimates
-few_legs : (events : List Event) → IsUnderway events → length (legs events) ≤ 8
-few_legs [] u = omega arith
-few_legs (e ∷ events) u = (u.on refl).1
+few_legs : (events : List Event) → IsAdmitted events → length (legs events) ≤ 8
+few_legs [] a = omega arith
+few_legs (e ∷ events) a = (sound_journey (e ∷ events) (a refl)).few_legs
 
 few_estimates : (events : List Event) → length (estimates events) ≤ length (legs events)
 few_estimates events =
@@ -59,7 +59,7 @@ one_item events w e =
     (λ h. few_to _ (lead_of events))
     (λ h. few_to _ (runner_of events (e.leg + 1)))
 
-few_estimate_items : (before after : List Event) (w : ℕ) → IsUnderway after → length (estimate_items before after w) ≤ 8
+few_estimate_items : (before after : List Event) (w : ℕ) → IsAdmitted after → length (estimate_items before after w) ≤ 8
 few_estimate_items before after w u =
     let a = few_each (estimate_item after w) 1 (one_item after w) (filter (is_news before after) (estimates after)) in
     let b = few_filter (is_news before after) (estimates after) in
@@ -95,7 +95,7 @@ few_told after Estimate = omega arith
 few_told after Arrival = few_option (lead_of after)
 few_told after Delivery = few_option (lead_of after)
 
-few_told_of_route : (before : List Event) (route : List Leg) → IsUnderway before → length route ≤ 8 → length (route_receivers before route) ≤ 17
+few_told_of_route : (before : List Event) (route : List Leg) → IsAdmitted before → length route ≤ 8 → length (route_receivers before route) ≤ 17
 few_told_of_route before route u h =
     let rest = drop (leg_index before + 1) (legs before) in
     let near = option_to_list (current_leg before) in
@@ -114,7 +114,7 @@ named_alone w = rw (eq-eqb w w refl) refl
 
 -- what an accepted message needs
 pub record AreFew (s : HubState) : Type 0 where
-  pub underway : AllUnderway s
+  pub admitted : AllAdmitted s
   pub offers : (by : Railway) (n : ℕ) → length (wagons_of (s.offer by n)) ≤ 60
 
 module _ (s : HubState) (few : AreFew s) (by : Railway) (number : ℕ) where
@@ -135,7 +135,7 @@ module _ (s : HubState) (few : AreFew s) (by : Railway) (number : ℕ) where
       let known = no_known_fault s by number (body.Reroute w route) w tt f (named_alone w) in
       let c = passed (route_checks (journey_state (s.journey w)) by route) (known_allowed (s.journey w) by (Rerouted route) known) in
       let h = ltb-false 8 (leg_index (s.journey w) + 1 + length route) c.1.1.1.1.0 in
-      let u = few.underway.each w in
+      let u = few.admitted.each w in
       let g = few_told_of_route (s.journey w) route u (omega arith) in
       omega arith
 
@@ -176,7 +176,7 @@ module _ (s : HubState) (few : AreFew s) (by : Railway) (number : ℕ) where
       let ws = named_wagons s.offer m in
       let e : ℕ → List AddressedItem = λ w. estimate_items (s.journey w) (journey_after s m w) w in
       let i : ℕ → List AddressedItem = λ w. alert_items (s.journey w) (journey_after s m w) w in
-      let all = kept_underway.accepts s m l f few.underway in
+      let all = kept_admitted.accepts s m (l, d) f few.admitted in
       let a = few_notices says l d f in
       let b = few_each e 8 (λ w. few_estimate_items (s.journey w) (journey_after s m w) w (all.each w)) ws in
       let c = few_each i 2 (λ w. few_alert_items (s.journey w) (journey_after s m w) w) ws in
@@ -204,15 +204,15 @@ offer_few m (body.Reroute w route) d by n = omega arith
 kept_few : IsTrackState IsWithinLimits AreFew
 kept_few = record {
   accepts = λ s m d f few. record {
-    underway = kept_underway.accepts s m d.0 f few.underway;
+    admitted = kept_admitted.accepts s m d f few.admitted;
     offers = λ by n. few_given (offer_given m m.body by n) (s.offer by n) (offer_few m m.body d.1 by n) (few.offers by n);
   };
-  notes = λ s m reply few. record { underway = kept_underway.notes s m reply few.underway; offers = few.offers };
-  acks = λ s by n few. record { underway = kept_underway.acks s by n few.underway; offers = few.offers };
+  notes = λ s m reply few. record { admitted = kept_admitted.notes s m reply few.admitted; offers = few.offers };
+  acks = λ s by n few. record { admitted = kept_admitted.acks s by n few.admitted; offers = few.offers };
 }
 
 few_nothing : AreFew new_state
-few_nothing = record { underway = underway_nothing; offers = λ by n. omega arith }
+few_nothing = record { admitted = admitted_nothing; offers = λ by n. omega arith }
 
 always_few : (history : List Entry) → IsLegal history → AreWithinLimits history → AreFew (state_of history)
 always_few history legal d = kept_from IsWithinLimits AreFew kept_few new_state history legal d few_nothing

@@ -1,5 +1,5 @@
 -- What every accepted message keeps holds after every legal history.
-use Rattle.hub_model.proofs.Common.{◌≡◌, ℕ, cond, List, [], ◌∷◌, Option, Some, None, refl, is_some, fold, Railway, Call, Send, Ask, AskUnit, Deviation, Fetch, Ack, Reply, Accepted, Refused, refused, One, Many, Items, Acknowledged, Message, Entry, HubState, FirstSend, Fault, fault, reply_to, send_reply, verdict, after_acceptance, with_first_send, with_acknowledgement, after_new, after_call, after, IsLegalFrom, IsSend, EachSend}
+use Rattle.hub_model.proofs.Common.{◌≡◌, ℕ, cond, List, [], ◌∷◌, Option, Some, None, refl, is_some, fold, Railway, Call, Send, Ask, AskUnit, Deviation, Fetch, Ack, Reply, Accepted, Refused, refused, One, Many, Items, Acknowledged, Message, Entry, HubState, FirstSend, Fault, fault, reply_to, send_reply, verdict, after_acceptance, with_first_send, with_acknowledgement, after_new, after_call, after, step, IsLegalFrom, IsSend, EachSend}
 
 -- a property that each accepted message of this sort keeps, and that speaks of neither sends nor acknowledgements
 pub record IsTrackState (D : Message → Type 0) (P : HubState → Type 0) : Type 0 where
@@ -45,3 +45,8 @@ is_any (Ack by n) = tt
 pub each_any : (history : List Entry) → EachSend (λ m. Unit {0}) history
 each_any [] = tt
 each_any (e ∷ history) = (is_any e.call, each_any history)
+
+-- so it holds after any calls
+pub kept_calls : (P : HubState → Type 0) (kept : IsTrackState (λ m. Unit {0}) P) (s : HubState) (calls : List Call) → P s → P (fold step s calls)
+kept_calls P kept s [] p = p
+kept_calls P kept s (call ∷ calls) p = kept_calls P kept (step s call) calls (kept_after (λ m. Unit {0}) P kept s call (reply_to s call) (is_any call) refl p)

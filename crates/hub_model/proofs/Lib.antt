@@ -12,7 +12,7 @@ pub mod NamedWagonLemmas
 pub mod NoFaultLemmas
 pub mod SoundnessLemmas
 pub mod JourneyLengthLemmas
-pub mod LegIndexLemmas
+pub mod AdmittedLemmas
 pub mod GrowthLemmas
 pub mod ItemCountLemmas
 pub mod PositionLemmas
@@ -27,6 +27,7 @@ pub mod WagonEventLemmas
 pub mod ReceiverLemmas
 pub mod ResponsibleEventLemmas
 pub mod ConsentLemmas
+pub mod InvolvedLemmas
 pub mod NeedToKnowLemmas
 pub mod RefusalLemmas
 pub mod OfferOpeningLemmas
@@ -37,5 +38,8 @@ pub mod FaultLemmas
 pub mod FrameLemmas
 pub mod ApartLemmas
 pub mod UnitFrameLemmas
+pub mod OwnReplyLemmas
+pub mod RunnerLemmas
+pub mod SenderLemmas
 pub mod EitherOrderLemmas
 pub mod AlikeLemmas

@@ -1,5 +1,6 @@
 -- Records, items and replies reach railways that they concern.
-use Rattle.hub_model.proofs.Common.{◌≡◌, ℕ, ◌+◌, Bool, true, false, cond, not, List, [], ◌∷◌, ◌++◌, length, drop, get_or, Option, Some, None, refl, ap, ◌∙◌, sym, subst, inl, inr, eqb, append_assoc, ◌&&◌, is_some, is_none, map, filter, flat_map, filter_map, slice_get, option_map, option_to_list, option_and_then, bytes_eq, All, Contains, cons_option, fold, list_any, false≢true, or_cases, or_right, cond_both, false_from_ne_true, none-some, same_Some, slice_get-map, slice_get_within, get_or_from_slice_get, slice_get-get_or, All-nil, All-cons, All-head, All-tail, All-append, All-map, All-filter, All-drop, All-weaker, All-contains_itself, Contains-append_right, bytes_eq-Decides, Railway, is_text, Leg, Trip, has, Call, Send, Ask, AskUnit, Deviation, Fetch, Ack, Reply, refused, One, Many, Acknowledged, Why, UnknownWagon, UnknownUnit, UnknownConsignment, NotYours, NumberReused, same_message, ItemBody, Message, Body, MovementKind, Release, Departure, YardArrival, YardDeparture, Exception, Estimate, Arrival, Delivery, EstimateAt, Record, Stage, Event, leg_index, responsible, plan, stage, legs, lead_of, runner_of, current_leg, asked_by, estimates, record_in, record_of, may_see, AddressedItem, Fault, fault, same_name, HubState, FirstSend, new_state, named_wagons, journey_after, unit_wagon, each_once, runners, movement_receivers, route_receivers, notice_receivers, sub_item, sub_items, notices, estimate_item, is_news, estimate_items, alert, alert_receivers, alert_items, items_of, items_to, reply_to, refusal_reply, verdict, send_reply, record_reply, unit_reply, deviating_records, deviation_reply, after_call, step, state_after, accepts, accepted_message, items_from, IsOfTrip, RecordsAreForTheTrip, is_verdict, MessagesGetVerdicts, Concerns, ItemsGoToTheConcerned, HasSource, ItemsHaveSources, OutsidersLearnWhetherKnown}
+use native.Mathlib.Omega.{arith}
+use Rattle.hub_model.proofs.Common.{◌≡◌, ℕ, ◌+◌, zero, suc, take, legs-push, with_event, Rerouted, IsInvolved, estimated_wagon, EstimatesStayOnTheTrip, Bool, true, false, cond, not, List, [], ◌∷◌, ◌++◌, length, drop, Option, Some, None, refl, ap, ◌∙◌, sym, subst, inl, inr, eqb, append_assoc, ◌&&◌, is_some, is_none, map, filter, flat_map, filter_map, slice_get, option_map, option_to_list, option_and_then, bytes_eq, All, Contains, fold, list_any, false≢true, or_cases, cond_both, false_from_ne_true, none-some, same_Some, All-nil, All-cons, All-head, All-tail, All-append, All-map, All-filter, All-weaker, All-contains_itself, Contains-append_right, bytes_eq-Decides, Railway, is_text, Leg, Trip, has, Call, Send, Ask, AskUnit, Deviation, Fetch, Ack, Reply, refused, One, Many, Acknowledged, Why, UnknownWagon, UnknownUnit, UnknownConsignment, NotYours, NumberReused, same_message, ItemBody, Message, Body, MovementKind, Release, Departure, YardArrival, YardDeparture, Exception, Estimate, Arrival, Delivery, Record, Stage, Event, leg_index, responsible, plan, stage, legs, lead_of, runner_of, current_leg, asked_by, record_in, record_of, may_see, AddressedItem, Fault, fault, same_name, HubState, FirstSend, new_state, named_wagons, journey_after, unit_wagon, each_once, runners, movement_receivers, route_receivers, notice_receivers, sub_item, sub_items, notices, estimate_items, alert_items, items_of, items_to, reply_to, refusal_reply, verdict, send_reply, record_reply, unit_reply, deviating_records, deviation_reply, after_call, step, state_after, accepts, accepted_message, items_from, IsOfTrip, RecordsAreForTheTrip, is_verdict, MessagesGetVerdicts, Concerns, ItemsGoToTheConcerned, HasSource, ItemsHaveSources, OutsidersLearnWhetherKnown}
 use Rattle.taf_messages.specs.declared.item.ItemBody.TheVariants as item
 use Rattle.taf_messages.specs.declared.message.Body.TheVariants as body
 use Rattle.hub_model.proofs.ListLemmas.{outbox_list}
@@ -7,15 +8,7 @@ use Rattle.hub_model.proofs.NoFaultLemmas.{msg}
 use Rattle.hub_model.proofs.StepLemmas.{state_after-push, step-first_send}
 use Rattle.hub_model.proofs.ResponsibleEventLemmas.{text_is}
 use Rattle.hub_model.proofs.DependencyLemmas.{has_first}
-
--- the railway of a leg is among those of the legs
-pub in_runners : (ls : List Leg) (i : ℕ) (r : Railway) → option_map (λ l. l.ru) (slice_get ls i) ≡ Some r → Contains (runners ls) r
-in_runners ls i r h =
-    let there : slice_get (runners ls) i ≡ Some r = slice_get-map (λ l. l.ru) ls i ∙ h in
-    (i, slice_get_within (runners ls) i r there, get_or_from_slice_get (runners ls) i r r there)
-
-own_runners : (ls : List Leg) → All (λ l. Contains (runners ls) l.ru) ls
-own_runners ls k d h = in_runners ls k (get_or ls k d).ru (ap (option_map (λ l. l.ru)) (slice_get-get_or ls k d h))
+use Rattle.hub_model.proofs.InvolvedLemmas.{in_runners, own_runners, each_option, each_found, each_of_wagons, each_of_once, lead_involved, runner_involved, responsible_involved, IsForInvolved, estimates_involved, alerts_involved}
 
 any_runner : (ls : List Leg) (r : Railway) → list_any (λ l. bytes_eq l.ru r) ls ≡ true → Contains (runners ls) r
 any_runner [] r h = absurd (false≢true h)
@@ -25,7 +18,7 @@ any_runner (l ∷ ls) r h = elim (or_cases (bytes_eq l.ru r) (list_any (λ k. by
 ]
 
 -- whoever may see a wagon is on its trip
-of_trip : (events : List Event) (by : Railway) → may_see events by ≡ true → IsOfTrip events by
+pub of_trip : (events : List Event) (by : Railway) → may_see events by ≡ true → IsOfTrip events by
 of_trip events by h = elim (or_cases (is_text (lead_of events) by) (list_any (λ l. bytes_eq l.ru by) (legs events)) h) [
   | inl e ↦ inl (text_is (lead_of events) by e)
   | inr e ↦ inr (any_runner (legs events) by e)
@@ -39,12 +32,12 @@ seen : (b : Bool) (x r : Record) (why : Why) (w : Option ℕ) → cond b (One x)
 seen true x r why w h = let e : x ≡ r = cc in (refl, e)
 seen false x r why w h = absurd (no_record why w r h)
 
-shown : (by : Railway) (events : List Event) (o : Option Record) (why also : Why) (w v : Option ℕ) (r : Record) → record_reply by events o (refusal_reply why w) (refusal_reply also v) ≡ One r →
+pub shown : (by : Railway) (events : List Event) (o : Option Record) (why also : Why) (w v : Option ℕ) (r : Record) → record_reply by events o (refusal_reply why w) (refusal_reply also v) ≡ One r →
     (may_see events by ≡ true) × (o ≡ Some r)
 shown by events None why also w v r h = absurd (no_record why w r h)
 shown by events (Some x) why also w v r h = let e = seen (may_see events by) x r also v h in (e.0, ap Some e.1)
 
-wagon_in : (w : ℕ) (events : List Event) (p : Option Trip) (st : Option Stage) (r : Record) → option_and_then (λ q. option_map (record_in w events q) st) p ≡ Some r → w ≡ r.wagon
+pub wagon_in : (w : ℕ) (events : List Event) (p : Option Trip) (st : Option Stage) (r : Record) → option_and_then (λ q. option_map (record_in w events q) st) p ≡ Some r → w ≡ r.wagon
 wagon_in w events None st r h = absurd (none-some r h)
 wagon_in w events (Some p) None r h = absurd (none-some r h)
 wagon_in w events (Some p) (Some st) r h = ap (λ (x : Record). x.wagon) (same_Some (record_in w events p st) r h)
@@ -119,62 +112,22 @@ messages_get_verdicts calls m =
     let s = state_after calls in
     send_verdict s m (s.first_send m.by m.no) (verdicts_all new_state (λ by n first h. absurd (none-some first h)) calls m.by m.no)
 
--- lists whose elements are of a kind
-each_option : {A : Type 0} (P : A → Type 0) (o : Option A) → ((x : A) → o ≡ Some x → P x) → All P (option_to_list o)
-each_option P None h = All-nil P
-each_option P (Some x) h = All-cons P x [] (h x refl) (All-nil P)
-
-each_cons : {A : Type 0} (P : A → Type 0) (o : Option A) (xs : List A) → ((x : A) → o ≡ Some x → P x) → All P xs → All P (cons_option o xs)
-each_cons P None xs h all = all
-each_cons P (Some x) xs h all = All-cons P x xs (h x refl) all
-
-has_rest : (w v : ℕ) (ws : List ℕ) → has ws v ≡ true → has (w ∷ ws) v ≡ true
-has_rest w v ws h = or_right (eqb w v) (has ws v) h
-
-each_found : {A : Type 0} (P : A → Type 0) (f : ℕ → Option A) (ws : List ℕ) → ((w : ℕ) → has ws w ≡ true → (x : A) → f w ≡ Some x → P x) → All P (filter_map f ws)
-each_found P f [] h = All-nil P
-each_found P f (w ∷ ws) h = each_cons P (f w) (filter_map f ws) (h w (has_first w ws)) (each_found P f ws (λ v e. h v (has_rest w v ws e)))
-
-each_of_wagons : {A : Type 0} (P : A → Type 0) (f : ℕ → List A) (ws : List ℕ) → ((w : ℕ) → has ws w ≡ true → All P (f w)) → All P (flat_map f ws)
-each_of_wagons P f [] h = All-nil P
-each_of_wagons P f (w ∷ ws) h = All-append P (f w) (flat_map f ws) (h w (has_first w ws)) (each_of_wagons P f ws (λ v e. h v (has_rest w v ws e)))
-
-each_of_all : {A B : Type 0} (P : B → Type 0) (f : A → List B) (xs : List A) → ((x : A) → All P (f x)) → All P (flat_map f xs)
-each_of_all P f [] h = All-nil P
-each_of_all P f (x ∷ xs) h = All-append P (f x) (flat_map f xs) (h x) (each_of_all P f xs h)
-
-each_of_once : (P : Railway → Type 0) (rs : List Railway) → All P rs → All P (each_once rs)
-each_of_once P [] h = All-nil P
-each_of_once P (r ∷ rs) h =
-    All-cons P r (filter (λ q. not (bytes_eq q r)) (each_once rs)) (All-head P r rs h)
-    (All-filter (λ q. not (bytes_eq q r)) P (each_once rs) (each_of_once P rs (All-tail P r rs h)))
-
 -- who gets a notice
 module _ (s : HubState) (m : Message) where
   abbrev IsConcerned : Railway → Type 0
   IsConcerned r = Concerns s m r
 
-  before_it : (w : ℕ) (r : Railway) → has (named_wagons s.offer m) w ≡ true → IsOfTrip (s.journey w) r → IsConcerned r
-  before_it w r n h = inr (w, n, inl (inl h))
+  involved_concerned : (w : ℕ) (r : Railway) → has (named_wagons s.offer m) w ≡ true → IsInvolved (journey_after s m w) r → IsConcerned r
+  involved_concerned w r n h = inr (w, n, inl h)
 
-  after_it : (w : ℕ) (r : Railway) → has (named_wagons s.offer m) w ≡ true → IsOfTrip (journey_after s m w) r → IsConcerned r
-  after_it w r n h = inr (w, n, inr (inl h))
-
-  responsible_after_it : (w : ℕ) (r : Railway) → has (named_wagons s.offer m) w ≡ true → responsible (journey_after s m w) ≡ Some r → IsConcerned r
-  responsible_after_it w r n h = inr (w, n, inr (inr h))
+  all_concerned : (w : ℕ) (rs : List Railway) → has (named_wagons s.offer m) w ≡ true → All (IsInvolved (journey_after s m w)) rs → All IsConcerned rs
+  all_concerned w rs n all = All-weaker (IsInvolved (journey_after s m w)) IsConcerned (λ r h. involved_concerned w r n h) rs all
 
   lead_concerned : (w : ℕ) → has (named_wagons s.offer m) w ≡ true → All IsConcerned (option_to_list (lead_of (journey_after s m w)))
-  lead_concerned w n = each_option IsConcerned (lead_of (journey_after s m w)) (λ r h. after_it w r n (inl h))
-
-  runner_concerned : (w i : ℕ) → has (named_wagons s.offer m) w ≡ true → All IsConcerned (option_to_list (runner_of (journey_after s m w) i))
-  runner_concerned w i n =
-      each_option IsConcerned (runner_of (journey_after s m w) i) (λ r h. after_it w r n (inr (in_runners (legs (journey_after s m w)) i r h)))
-
-  responsible_concerned : (w : ℕ) → has (named_wagons s.offer m) w ≡ true → All IsConcerned (option_to_list (responsible (journey_after s m w)))
-  responsible_concerned w n = each_option IsConcerned (responsible (journey_after s m w)) (λ r h. responsible_after_it w r n h)
+  lead_concerned w n = all_concerned w (option_to_list (lead_of (journey_after s m w))) n (lead_involved (journey_after s m w))
 
   movement_concerned : (w : ℕ) → has (named_wagons s.offer m) w ≡ true → (what : MovementKind) → All IsConcerned (movement_receivers (journey_after s m w) what)
-  movement_concerned w n Release = runner_concerned w 0 n
+  movement_concerned w n Release = all_concerned w (option_to_list (runner_of (journey_after s m w) 0)) n (runner_involved (journey_after s m w) 0)
   movement_concerned w n Estimate = All-nil IsConcerned
   movement_concerned w n Departure = lead_concerned w n
   movement_concerned w n (YardArrival place) = lead_concerned w n
@@ -183,52 +136,55 @@ module _ (s : HubState) (m : Message) where
   movement_concerned w n Arrival = lead_concerned w n
   movement_concerned w n Delivery = lead_concerned w n
 
-  -- the legs kept, and those taken away
-  legs_concerned : (w : ℕ) → has (named_wagons s.offer m) w ≡ true → All (λ l. IsConcerned l.ru) (legs (s.journey w))
-  legs_concerned w n =
-      All-weaker (λ l. Contains (runners (legs (s.journey w))) l.ru) (λ l. IsConcerned l.ru) (λ l h. before_it w l.ru n (inr h)) (legs (s.journey w)) (own_runners (legs (s.journey w)))
+-- a route leaves the current leg
+kept_before : (ls route : List Leg) (c : ℕ) (l : Leg) → slice_get ls c ≡ Some l → slice_get (take (suc c) ls ++ route) c ≡ Some l
+kept_before [] route c l h = absurd (none-some l h)
+kept_before (k ∷ ls) route zero l h = h
+kept_before (k ∷ ls) route (suc c) l h = kept_before ls route c l h
 
-  current_concerned : (w : ℕ) → has (named_wagons s.offer m) w ≡ true → All (λ l. IsConcerned l.ru) (option_to_list (current_leg (s.journey w)))
-  current_concerned w n =
-      each_option (λ l. IsConcerned l.ru) (current_leg (s.journey w))
-      (λ l h. before_it w l.ru n (inr (in_runners (legs (s.journey w)) (leg_index (s.journey w)) l.ru (ap (option_map (λ k. k.ru)) h))))
+pub kept_leg : (ls route : List Leg) (c : ℕ) (l : Leg) → slice_get ls c ≡ Some l → slice_get (take (c + 1) ls ++ route) c ≡ Some l
+kept_leg ls route c l h =
+    let next : suc c ≡ c + 1 = omega arith in
+    subst (λ n. slice_get (take n ls ++ route) c ≡ Some l) next (kept_before ls route c l h)
 
-  route_concerned : (w : ℕ) → has (named_wagons s.offer m) w ≡ true → (route : List Leg) → All IsConcerned (runners route) → All IsConcerned (route_receivers (s.journey w) route)
-  route_concerned w n route h =
+abbrev rerouted : Railway → ℕ → List Leg → Event
+rerouted by number route = record { by = by; no = number; at = None; body = Rerouted route }
+
+current_kept : (events : List Event) (by : Railway) (number : ℕ) (route : List Leg) (l : Leg) → current_leg events ≡ Some l →
+    runner_of (with_event events (rerouted by number route)) (leg_index events) ≡ Some l.ru
+current_kept [] by number route l h = absurd (none-some l h)
+current_kept (first ∷ events) by number route l h =
+    let before = first ∷ events in
+    let c = leg_index before in
+    ap (λ ls. option_map (λ (k : Leg). k.ru) (slice_get ls c)) (legs-push before (rerouted by number route)) ∙
+    ap (option_map (λ (k : Leg). k.ru)) (kept_leg (legs before) route c l h)
+
+-- a reroute concerns the railways of the current leg, of the legs that it takes away, and of those that it sets
+module _ (s : HubState) (by : Railway) (number w : ℕ) (route : List Leg) where
+  abbrev reroute : Message
+  reroute = msg by number (body.Reroute w route)
+
+  current_concerned : All (λ l. Concerns s reroute l.ru) (option_to_list (current_leg (s.journey w)))
+  current_concerned =
+      each_option (λ l. Concerns s reroute l.ru) (current_leg (s.journey w))
+      (λ l h.
+      let after : journey_after s reroute w ≡ with_event (s.journey w) (rerouted by number route) =
+      ap (λ b. cond b (with_event (s.journey w) (rerouted by number route)) (s.journey w)) (has_first w []) in
+      let runs : runner_of (journey_after s reroute w) (leg_index (s.journey w)) ≡ Some l.ru =
+      ap (λ events. runner_of events (leg_index (s.journey w))) after ∙ current_kept (s.journey w) by number route l h in
+      involved_concerned s reroute w l.ru (has_first w []) (inl (inr (in_runners (legs (journey_after s reroute w)) (leg_index (s.journey w)) l.ru runs))))
+
+  route_concerned : All (Concerns s reroute) (route_receivers (s.journey w) route)
+  route_concerned =
       let near = option_to_list (current_leg (s.journey w)) in
       let rest = drop (leg_index (s.journey w) + 1) (legs (s.journey w)) in
-      All-append IsConcerned (runners near ++ runners rest) (runners route)
-      (All-append IsConcerned (runners near) (runners rest)
-      (All-map IsConcerned (λ l. l.ru) near (current_concerned w n))
-      (All-map IsConcerned (λ l. l.ru) rest (All-drop (λ l. IsConcerned l.ru) (leg_index (s.journey w) + 1) (legs (s.journey w)) (legs_concerned w n))))
-      h
-
-  -- those of an estimate and of an alert
-  estimate_concerned : (w : ℕ) → has (named_wagons s.offer m) w ≡ true → (e : EstimateAt) → All (λ i. IsConcerned i.to) (estimate_item (journey_after s m w) w e)
-  estimate_concerned w n e =
-      let after = journey_after s m w in
-      let eta : Railway → AddressedItem = λ r. record { to = r; body = item.Eta w e.at } in
-      let eti : Railway → AddressedItem = λ r. record { to = r; body = item.Eti w e.leg e.at } in
-      cond_both (eqb (e.leg + 1) (length (legs after))) (map eta (option_to_list (lead_of after))) (map eti (option_to_list (runner_of after (e.leg + 1)))) (All (λ i. IsConcerned i.to))
-      (λ h. All-map (λ i. IsConcerned i.to) eta (option_to_list (lead_of after)) (lead_concerned w n))
-      (λ h. All-map (λ i. IsConcerned i.to) eti (option_to_list (runner_of after (e.leg + 1))) (runner_concerned w (e.leg + 1) n))
-
-  estimates_concerned : (w : ℕ) → has (named_wagons s.offer m) w ≡ true → All (λ i. IsConcerned i.to) (estimate_items (s.journey w) (journey_after s m w) w)
-  estimates_concerned w n =
-      each_of_all (λ i. IsConcerned i.to) (estimate_item (journey_after s m w) w) (filter (is_news (s.journey w) (journey_after s m w)) (estimates (journey_after s m w))) (estimate_concerned w n)
-
-  alerted_concerned : (w : ℕ) → has (named_wagons s.offer m) w ≡ true → All IsConcerned (alert_receivers (journey_after s m w))
-  alerted_concerned w n =
-      let after = journey_after s m w in
-      each_of_once IsConcerned (option_to_list (lead_of after) ++ option_to_list (responsible after))
-      (All-append IsConcerned (option_to_list (lead_of after)) (option_to_list (responsible after)) (lead_concerned w n) (responsible_concerned w n))
-
-  alerts_concerned : (w : ℕ) → has (named_wagons s.offer m) w ≡ true → All (λ i. IsConcerned i.to) (alert_items (s.journey w) (journey_after s m w) w)
-  alerts_concerned w n =
-      let after = journey_after s m w in
-      let f : ItemBody → List AddressedItem = λ says. map (λ r. record { to = r; body = says }) (alert_receivers after) in
-      each_of_all (λ i. IsConcerned i.to) f (option_to_list (alert (s.journey w) after w))
-      (λ says. All-map (λ i. IsConcerned i.to) (λ r. record { to = r; body = says }) (alert_receivers after) (alerted_concerned w n))
+      let taken_off : All (λ l. Concerns s reroute l.ru) rest =
+      All-weaker (λ l. Contains (runners rest) l.ru) (λ l. Concerns s reroute l.ru) (λ l h. inr (w, has_first w [], inr h)) rest (own_runners rest) in
+      All-append (Concerns s reroute) (runners near ++ runners rest) (runners route)
+      (All-append (Concerns s reroute) (runners near) (runners rest)
+      (All-map (Concerns s reroute) (λ l. l.ru) near current_concerned)
+      (All-map (Concerns s reroute) (λ l. l.ru) rest taken_off))
+      (All-weaker (Contains (runners route)) (Concerns s reroute) (λ r h. inl h) (runners route) (All-contains_itself (runners route)))
 
 notified_concerned : (s : HubState) (by : Railway) (number : ℕ) (says : Body) → All (Concerns s (msg by number says)) (notice_receivers s (journey_after s (msg by number says)) by says)
 notified_concerned s by number (body.Plan p) =
@@ -236,7 +192,9 @@ notified_concerned s by number (body.Plan p) =
     All-weaker (Contains (runners p.legs)) (Concerns s m) (λ r h. inl h) (runners p.legs) (All-contains_itself (runners p.legs))
 notified_concerned s by number (body.Movement v) =
     movement_concerned s (msg by number (body.Movement v)) v.wagon (has_first v.wagon []) v.what
-notified_concerned s by number (body.EtiAsk w) = responsible_concerned s (msg by number (body.EtiAsk w)) w (has_first w [])
+notified_concerned s by number (body.EtiAsk w) =
+    (let m = msg by number (body.EtiAsk w) in
+    all_concerned s m w (option_to_list (responsible (journey_after s m w))) (has_first w []) (responsible_involved (journey_after s m w)))
 notified_concerned s by number (body.LegTime w leg minutes) = All-nil (Concerns s (msg by number (body.LegTime w leg minutes)))
 notified_concerned s by number (body.Offer o) =
     let m = msg by number (body.Offer o) in
@@ -244,14 +202,11 @@ notified_concerned s by number (body.Offer o) =
 notified_concerned s by number (body.Answer a) =
     let m = msg by number (body.Answer a) in
     All-cons (Concerns s m) a.offerer (filter_map (λ w. lead_of (journey_after s m w)) (a.received ++ a.refused)) (inl (inl refl))
-    (each_found (Concerns s m) (λ w. lead_of (journey_after s m w)) (a.received ++ a.refused) (λ w n r h. after_it s m w r n (inl h)))
+    (each_found (Concerns s m) (λ w. lead_of (journey_after s m w)) (a.received ++ a.refused) (λ w n r h. involved_concerned s m w r n (inl (inl h))))
 notified_concerned s by number (body.Withdraw at n) =
     let m = msg by number (body.Withdraw at n) in
     each_option (Concerns s m) (asked_by (s.offer by n)) (λ r h. inl h)
-notified_concerned s by number (body.Reroute w route) =
-    let m = msg by number (body.Reroute w route) in
-    route_concerned s m w (has_first w []) route
-    (All-weaker (Contains (runners route)) (Concerns s m) (λ r h. inl h) (runners route) (All-contains_itself (runners route)))
+notified_concerned s by number (body.Reroute w route) = route_concerned s by number w route
 
 sub_concerned : (s : HubState) (by : Railway) (number : ℕ) (says : Body) → All (λ i. Concerns s (msg by number says) i.to) (sub_items by says)
 sub_concerned s by number (body.Answer a) =
@@ -267,22 +222,48 @@ sub_concerned s by number (body.Offer o) = All-nil (λ i. Concerns s (msg by num
 sub_concerned s by number (body.Withdraw at n) = All-nil (λ i. Concerns s (msg by number (body.Withdraw at n)) i.to)
 sub_concerned s by number (body.Reroute w route) = All-nil (λ i. Concerns s (msg by number (body.Reroute w route)) i.to)
 
+-- notices and sub notices are of no one wagon
+sub_of_none : (by : Railway) (says : Body) → All (λ i. estimated_wagon i.body ≡ None) (sub_items by says)
+sub_of_none by (body.Answer a) =
+    let P : AddressedItem → Type 0 = λ i. estimated_wagon i.body ≡ None in
+    cond_both (eqb (length a.received) 0) [] (map (sub_item by a) (option_to_list a.manager)) (All P)
+    (λ h. All-nil P)
+    (λ h. All-map P (sub_item by a) (option_to_list a.manager) (each_option (λ r. P (sub_item by a r)) a.manager (λ r e. refl)))
+sub_of_none by _ = All-nil (λ i. estimated_wagon i.body ≡ None)
+
+-- what holds of notices, of estimates and of alerts, and does so of each item
+module _ (P : AddressedItem → Type 0) (s : HubState) (m : Message)
+    (notified : All (λ r. P (record { to = r; body = item.Notice m })) (notice_receivers s (journey_after s m) m.by m.body))
+    (sub : All P (sub_items m.by m.body))
+    (involved : (w : ℕ) (i : AddressedItem) → has (named_wagons s.offer m) w ≡ true → IsForInvolved (s.journey w) (journey_after s m w) w i → P i) where
+  each_item : All P (items_of s m)
+  each_item =
+      let rs = notice_receivers s (journey_after s m) m.by m.body in
+      let notice : Railway → AddressedItem = λ r. record { to = r; body = item.Notice m } in
+      let e : ℕ → List AddressedItem = λ w. estimate_items (s.journey w) (journey_after s m w) w in
+      let a : ℕ → List AddressedItem = λ w. alert_items (s.journey w) (journey_after s m w) w in
+      let ws = named_wagons s.offer m in
+      let notices_are : All P (notices s m) =
+      All-append P (map notice (each_once rs)) (sub_items m.by m.body) (All-map P notice (each_once rs) (each_of_once (λ r. P (notice r)) rs notified)) sub in
+      let estimates_are : All P (flat_map e ws) =
+      each_of_wagons P e ws (λ w n. All-weaker (IsForInvolved (s.journey w) (journey_after s m w) w) P (λ i h. involved w i n h) (e w) (estimates_involved (s.journey w) (journey_after s m w) w)) in
+      let alerts_are : All P (flat_map a ws) =
+      each_of_wagons P a ws (λ w n. All-weaker (IsForInvolved (s.journey w) (journey_after s m w) w) P (λ i h. involved w i n h) (a w) (alerts_involved (s.journey w) (journey_after s m w) w)) in
+      All-filter (λ i. not (bytes_eq i.to m.by)) P (notices s m ++ flat_map e ws ++ flat_map a ws)
+      (All-append P (notices s m ++ flat_map e ws) (flat_map a ws) (All-append P (notices s m) (flat_map e ws) notices_are estimates_are) alerts_are)
+
 pub items_go_to_the_concerned : ItemsGoToTheConcerned
 items_go_to_the_concerned s m =
-    let P : AddressedItem → Type 0 = λ i. Concerns s m i.to in
-    let rs = notice_receivers s (journey_after s m) m.by m.body in
-    let notice : Railway → AddressedItem = λ r. record { to = r; body = item.Notice m } in
-    let e : ℕ → List AddressedItem = λ w. estimate_items (s.journey w) (journey_after s m w) w in
-    let a : ℕ → List AddressedItem = λ w. alert_items (s.journey w) (journey_after s m w) w in
-    let ws = named_wagons s.offer m in
-    let send_of_name : All P (notices s m) =
-    All-append P (map notice (each_once rs)) (sub_items m.by m.body)
-    (All-map P notice (each_once rs) (each_of_once (Concerns s m) rs (notified_concerned s m.by m.no m.body)))
-    (sub_concerned s m.by m.no m.body) in
-    All-filter (λ i. not (bytes_eq i.to m.by)) P (notices s m ++ flat_map e ws ++ flat_map a ws)
-    (All-append P (notices s m ++ flat_map e ws) (flat_map a ws)
-    (All-append P (notices s m) (flat_map e ws) send_of_name (each_of_wagons P e ws (estimates_concerned s m)))
-    (each_of_wagons P a ws (alerts_concerned s m)))
+    each_item (λ i. Concerns s m i.to) s m (notified_concerned s m.by m.no m.body) (sub_concerned s m.by m.no m.body) (λ w i n h. involved_concerned s m w i.to n h.1)
+
+-- each estimate and each alert is for a railway that is involved in its wagon
+pub estimates_stay_on_the_trip : EstimatesStayOnTheTrip
+estimates_stay_on_the_trip s m =
+    let P : AddressedItem → Type 0 = λ i. (w : ℕ) → estimated_wagon i.body ≡ Some w → IsInvolved (journey_after s m w) i.to in
+    each_item P s m
+    (λ k d h w e. absurd (none-some w e))
+    (All-weaker (λ i. estimated_wagon i.body ≡ None) P (λ i h w e. absurd (none-some w (sym h ∙ e))) (sub_items m.by m.body) (sub_of_none m.by m.body))
+    (λ w i n h v e. subst (λ x. IsInvolved (journey_after s m x) i.to) (same_Some w v (sym h.0 ∙ e)) h.1)
 
 -- the items that are for one railway
 to_railway : (P : Railway → ItemBody → Type 0) (r : Railway) (items : List AddressedItem) → All (λ i. P i.to i.body) items → All (P r) (items_to r items)

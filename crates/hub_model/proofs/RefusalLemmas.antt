@@ -5,7 +5,7 @@ use Rattle.taf_messages.specs.declared.message.Body.TheVariants as body
 use Rattle.taf_messages.specs.declared.record.Stage.TheVariants as stage_is
 use Rattle.hub_model.proofs.NoFaultLemmas.{msg}
 use Rattle.hub_model.proofs.ResponsibleEventLemmas.{text_is}
-use Rattle.hub_model.proofs.NeedToKnowLemmas.{in_runners}
+use Rattle.hub_model.proofs.InvolvedLemmas.{in_runners}
 
 -- two checks' results that refuse alike
 pub record RefusesAlike (a b : Option Why) : Type 0 where

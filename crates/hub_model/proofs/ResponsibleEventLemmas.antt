@@ -1,9 +1,9 @@
 -- What one more event of a journey changes of the responsible railway.
-use Rattle.hub_model.proofs.Common.{◌≡◌, ◌⊎◌, ℕ, Bool, true, false, cond, not, List, [], ◌∷◌, ◌++◌, Option, Some, None, refl, ap, ◌∙◌, sym, inl, inr, ◌&&◌, ◌||◌, is_some, option_or, option_eq, option_flatten, false≢true, not-false, not_from_true, or_from, and_right, cond-false, none-some, same_Some, cond_some, list_any-append, bytes_eq-Decides, Railway, is_text, MovementKind, Release, Departure, YardArrival, YardDeparture, Exception, Estimate, Arrival, Delivery, Stage, Event, EventBody, Planned, Moved, EstimateAsked, LegTimed, Offered, Answered, Withdrawn, Rerouted, newest, stage, stage_after, moved_to, has_departed, is_departure, is_delivered, is_delivery, is_reception, is_plan, new_responsible, responsible, journey_state, responsible_in, checks, movement_checks, refusal, same_stage, stage-push, in_offer, offering, offering_by, in_offer-push, journey_state-push, passed, taken_by}
+use Rattle.hub_model.proofs.Common.{◌≡◌, ◌⊎◌, ℕ, Bool, true, false, cond, not, List, [], ◌∷◌, ◌++◌, Option, Some, None, refl, ap, ◌∙◌, sym, inl, inr, ◌&&◌, ◌||◌, is_some, option_or, option_eq, option_flatten, false≢true, true≢false, false_from_ne_true, StaysDelivered, Place, not-false, not_from_true, or_from, and_right, cond-false, none-some, same_Some, cond_some, list_any-append, bytes_eq-Decides, Railway, is_text, MovementKind, Release, Departure, YardArrival, YardDeparture, Exception, Estimate, Arrival, Delivery, Stage, Event, EventBody, Planned, Moved, EstimateAsked, LegTimed, Offered, Answered, Withdrawn, Rerouted, newest, stage, stage_after, moved_to, has_departed, is_departure, is_delivered, is_delivery, is_reception, is_plan, new_responsible, responsible, journey_state, responsible_in, checks, movement_checks, refusal, same_stage, stage-push, in_offer, offering, offering_by, in_offer-push, journey_state-push, passed, taken_by}
 use Rattle.taf_messages.specs.declared.record.Stage.TheVariants as stage_is
 
 -- before the departure
-abbrev is_early : Option Stage → Bool
+abbrev pub is_early : Option Stage → Bool
 is_early (Some stage_is.Planned) = true
 is_early (Some stage_is.Released) = true
 is_early _ = false
@@ -18,7 +18,7 @@ text_is None by h = absurd (false≢true h)
 text_is (Some x) by h = ap Some ((bytes_eq-Decides x by).0 h)
 
 -- a stage that is one of these
-planned_early : (o : Option Stage) → (option_eq same_stage o (Some stage_is.Planned) || false) ≡ true → is_early o ≡ true
+pub planned_early : (o : Option Stage) → (option_eq same_stage o (Some stage_is.Planned) || false) ≡ true → is_early o ≡ true
 planned_early (Some stage_is.Planned) h = refl
 planned_early (Some stage_is.Released) h = refl
 planned_early (Some stage_is.Running) h = absurd (false≢true h)
@@ -28,7 +28,7 @@ planned_early (Some stage_is.Arrived) h = absurd (false≢true h)
 planned_early (Some stage_is.Delivered) h = absurd (false≢true h)
 planned_early None h = absurd (false≢true h)
 
-released_early : (o : Option Stage) → (option_eq same_stage o (Some stage_is.Released) || false) ≡ true → is_early o ≡ true
+pub released_early : (o : Option Stage) → (option_eq same_stage o (Some stage_is.Released) || false) ≡ true → is_early o ≡ true
 released_early (Some stage_is.Planned) h = refl
 released_early (Some stage_is.Released) h = refl
 released_early (Some stage_is.Running) h = absurd (false≢true h)
@@ -39,7 +39,7 @@ released_early (Some stage_is.Delivered) h = absurd (false≢true h)
 released_early None h = absurd (false≢true h)
 
 -- the responsible railway after one more event
-responsible-push : (events : List Event) (e : Event) → responsible (events ++ e ∷ []) ≡
+pub responsible-push : (events : List Event) (e : Event) → responsible (events ++ e ∷ []) ≡
     cond ((has_departed events || is_departure e.body) && not (is_delivered events || is_delivery e.body)) (option_or (new_responsible e.by e.body) (newest (λ d. new_responsible d.by d.body) events)) None
 responsible-push events e = ap responsible_in (journey_state-push events e)
 
@@ -198,3 +198,33 @@ event_stops events e r f kept h n =
       | inl d ↦ inl (own_delivery events e.by e.body r d f h, d)
       | inr k ↦ inr (received_then events e.by e.body r k f kept h)
     ]
+
+departed_cases : (departed delivered : Bool) (by : Railway) (last : Option Railway) → delivered ≡ false → cond ((departed || true) && not (delivered || false)) (option_or (Some by) last) None ≡ Some by
+departed_cases true false by last d = refl
+departed_cases false false by last d = refl
+departed_cases departed true by last d = absurd (true≢false d)
+
+released_alone : stage_is.Released ≡ stage_is.Delivered → ⊥
+released_alone h = cc
+
+-- the railway that departs with a released wagon answers for it
+pub departed_now : (events : List Event) (by : Railway) (number : ℕ) (at : Option ℕ) → stage events ≡ Some stage_is.Released → StaysDelivered events → responsible (events ++ an by number at (Moved Departure) ∷ []) ≡ Some by
+departed_now events by number at released kept =
+    let on : is_delivered events ≡ false = false_from_ne_true (is_delivered events) (λ d. released_alone (same_Some stage_is.Released stage_is.Delivered (sym released ∙ kept d))) in
+    responsible-push events (an by number at (Moved Departure)) ∙ departed_cases (has_departed events) (is_delivered events) by (newest (λ d. new_responsible d.by d.body) events) on
+
+received_cases : (departed delivered : Bool) (last : Option Railway) (by from : Railway) → cond (departed && not delivered) last None ≡ Some from →
+    cond ((departed || false) && not (delivered || false)) (option_or (Some by) last) None ≡ Some by
+received_cases true false last by from h = refl
+received_cases true true last by from h = absurd (none-some from h)
+received_cases false delivered last by from h = absurd (none-some from h)
+
+-- so does the railway that receives a wagon for which another answered
+pub received_now : (events : List Event) (by from : Railway) (number : ℕ) (at : Option ℕ) (place : Place) → responsible events ≡ Some from → responsible (events ++ an by number at (Answered place true) ∷ []) ≡ Some by
+received_now events by from number at place h =
+    responsible-push events (an by number at (Answered place true)) ∙ received_cases (has_departed events) (is_delivered events) (newest (λ d. new_responsible d.by d.body) events) by from h
+
+-- a stage that is the released one
+pub released_is : (o : Option Stage) → (option_eq same_stage o (Some stage_is.Released) || false) ≡ true → o ≡ Some stage_is.Released
+released_is (Some stage_is.Released) h = refl
+released_is _ h = cc

@@ -1,5 +1,5 @@
 -- What every legal history keeps of offers and wagons.
-use Rattle.hub_model.proofs.Common.{◌≡◌, ℕ, Bool, true, false, cond, List, [], ◌∷◌, Option, Some, None, refl, ◌∙◌, sym, inl, inr, unwrap_or, option_or, true≢false, false≢true, cond_both, cases_Bool, Railway, has, UnknownWagon, WagonBusy, Message, TrainOffer, Body, Event, EventBody, Planned, Moved, EstimateAsked, LegTimed, Offered, Answered, Withdrawn, Rerouted, stage, is_delivered, refusal, in_offer, offering_by, stage_in_offer, in_offer-push, in_offer-kept, settles, StaysDelivered, delivered-kept, wagons_of, same_name, HubState, new_state, named_wagons, event_for, event_body_for, with_event, journey_after, fault, known_fault, is_unknown, is_busy, after_acceptance, opening_given, offer_given}
+use Rattle.hub_model.proofs.Common.{◌≡◌, ◌⊎◌, ℕ, Bool, true, false, cond, List, [], ◌∷◌, Option, Some, None, refl, ◌∙◌, sym, inl, inr, unwrap_or, option_or, true≢false, false≢true, cond_both, cases_Bool, Railway, has, UnknownWagon, WagonBusy, Message, TrainOffer, Body, Event, EventBody, Planned, Moved, EstimateAsked, LegTimed, Offered, Answered, Withdrawn, Rerouted, stage, is_delivered, refusal, in_offer, offering_by, stage_in_offer, in_offer-push, in_offer-kept, settles, StaysDelivered, delivered-kept, wagons_of, same_name, is_plan, HubState, Offers, new_state, named_wagons, event_for, event_body_for, with_event, journey_after, fault, known_fault, is_unknown, is_busy, after_acceptance, opening_given, offer_given}
 use Rattle.taf_messages.specs.declared.message.Body.TheVariants as body
 use Rattle.taf_messages.specs.declared.record.Stage.TheVariants as stage_is
 use Rattle.hub_model.proofs.NamedWagonLemmas.{same_name_true, from_same_name, some_name, some_pair}
@@ -46,7 +46,7 @@ not_settled by also n k x differ a b =
     true≢false (sym (same_name_true by also n k parts.0 parts.1) ∙ differ)
 
 -- what is left open after an answer or a withdrawal
-open_before : (c o : Bool) → unwrap_or (cond c (Some false) None) o ≡ true → (c ≡ false) × (o ≡ true)
+pub open_before : (c o : Bool) → unwrap_or (cond c (Some false) None) o ≡ true → (c ≡ false) × (o ≡ true)
 open_before true o h = absurd (false≢true h)
 open_before false o h = (refl, h)
 
@@ -121,6 +121,17 @@ answered_known (e ∷ events) by (Rerouted route) k o = cc
 abbrev pub NoPlan : Body → Type 0
 NoPlan (body.Plan p) = ⊥
 NoPlan _ = Unit {0}
+
+-- what is said of a wagon begins its journey anew, or the message is no plan
+pub plan_or_not : (offers : Offers) (by : Railway) (says : Body) (w : ℕ) → (is_plan (event_body_for offers by says w) ≡ true) ⊎ NoPlan says
+plan_or_not offers by (body.Plan p) w = inl refl
+plan_or_not offers by (body.Movement m) w = inr tt
+plan_or_not offers by (body.EtiAsk v) w = inr tt
+plan_or_not offers by (body.LegTime v leg minutes) w = inr tt
+plan_or_not offers by (body.Offer o) w = inr tt
+plan_or_not offers by (body.Answer a) w = inr tt
+plan_or_not offers by (body.Withdraw at n) w = inr tt
+plan_or_not offers by (body.Reroute v route) w = inr tt
 
 pub all_known : (s : HubState) (so : IsSound s) (by : Railway) (number : ℕ) (says : Body) (w : ℕ) → NoPlan says → fault s (msg by number says) ≡ None → has (named_wagons s.offer (msg by number says)) w ≡ true →
     known_fault s (msg by number says) w ≡ None

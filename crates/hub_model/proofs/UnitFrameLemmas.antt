@@ -52,13 +52,13 @@ no_plan_in : (says : EventBody) → is_plan says ≡ false → plan_in says ≡ 
 no_plan_in (Planned p) h = absurd (true≢false h)
 no_plan_in _ h = refl
 
-plan_goes_on : (events : List Event) (e : Event) → is_plan e.body ≡ false → plan (with_event events e) ≡ plan events
+pub plan_goes_on : (events : List Event) (e : Event) → is_plan e.body ≡ false → plan (with_event events e) ≡ plan events
 plan_goes_on [] e h = rw h refl
 plan_goes_on (first ∷ events) e h =
     let on : with_event (first ∷ events) e ≡ (first ∷ events) ++ e ∷ [] = rw h refl in
     ap plan on ∙ plan-push (first ∷ events) e ∙ ap (λ o. option_or o (plan (first ∷ events))) (no_plan_in e.body h)
 
-taken_already : (b : Bool) → cond b (Some ConsignmentTaken) None ≡ None → b ≡ true → ⊥
+pub taken_already : (b : Bool) → cond b (Some ConsignmentTaken) None ≡ None → b ≡ true → ⊥
 taken_already true h e = let z : Some ConsignmentTaken ≡ None = h in cc
 taken_already false h e = false≢true e
 

@@ -1,7 +1,7 @@
 -- How many legs, events and items there are at most.
 use Rattle.std.specs.Prelude.{◌≡◌, ◌≤◌, ◌<◌, ◌*◌, ℕ, false, List, length, position, slice_get, Option, Some, None, is_some}
 use Rattle.std.specs.Option.{option_and_then}
-use Rattle.hub_model.specs.Common.{Railway, Message, Body, Event, leg_index, legs}
+use Rattle.hub_model.specs.Common.{Railway, Message, Body, Event, leg_index, legs, IsJourney}
 use Rattle.taf_messages.specs.declared.message.Body.TheVariants as body
 use Rattle.hub_model.specs.declared.entry.Entry.{Entry}
 use Rattle.hub_model.specs.Faults.{fault, is_unknown}
@@ -14,19 +14,6 @@ use Rattle.hub_model.specs.Laws.{EachSend}
 abbrev pub HasFewLegs : Body → Type 0
 HasFewLegs (body.Plan p) = (0 < length p.legs) × (length p.legs ≤ 8)
 HasFewLegs _ = Unit {0}
-
--- the plans that were sent have one to eight legs
-abbrev pub PlansHaveLegs : List Entry → Type 0
-PlansHaveLegs history = EachSend (λ m. HasFewLegs m.body) history
-
--- the leg index is below the number of legs, and they are eight at most
-abbrev pub IsOnLeg : List Event → Type 0
-IsOnLeg events = (leg_index events < length (legs events)) × (length (legs events) ≤ 8)
-
--- a wagon with a journey is on one of its legs, after every legal history
-abbrev pub AlwaysOnLeg : Type 0
-AlwaysOnLeg = (history : List Entry) → IsLegal history → PlansHaveLegs history → (w : ℕ) →
-    is_unknown ((state_of history).journey w) ≡ false → IsOnLeg ((state_of history).journey w)
 
 -- a message lists at most 60 wagons, and an answer as many received and refused
 abbrev pub HasFewWagons : Body → Type 0
@@ -42,6 +29,20 @@ IsWithinLimits m = HasFewLegs m.body × HasFewWagons m.body
 -- the messages that were sent keep them
 abbrev pub AreWithinLimits : List Entry → Type 0
 AreWithinLimits history = EachSend IsWithinLimits history
+
+-- a wagon with a journey has one that a track can have, after every legal history: a plan, and events each of which could come next
+abbrev pub JourneysAreAdmitted : Type 0
+JourneysAreAdmitted = (history : List Entry) → IsLegal history → AreWithinLimits history → (w : ℕ) →
+    is_unknown ((state_of history).journey w) ≡ false → IsJourney ((state_of history).journey w)
+
+-- the leg index is below the number of legs, and they are eight at most
+abbrev pub IsOnLeg : List Event → Type 0
+IsOnLeg events = (leg_index events < length (legs events)) × (length (legs events) ≤ 8)
+
+-- so it is on one of its legs
+abbrev pub AlwaysOnLeg : Type 0
+AlwaysOnLeg = (history : List Entry) → IsLegal history → AreWithinLimits history → (w : ℕ) →
+    is_unknown ((state_of history).journey w) ≡ false → IsOnLeg ((state_of history).journey w)
 
 -- an accepted message makes at most 1,322 items: 122 notices, an estimate for each of 8 legs of 120 wagons, and two alerts for each wagon
 abbrev pub ItemsAreFew : Type 0

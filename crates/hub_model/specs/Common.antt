@@ -13,12 +13,13 @@ pub use Rattle.taf_messages.specs.Bodies.{moment_in}
 pub use Rattle.taf_messages.specs.Content.{same_message}
 pub use Rattle.taf_messages.specs.declared.call.Call.{Call}
 pub use Rattle.taf_messages.specs.declared.call.Call.TheVariants.{Send, Ack, Ask, AskUnit, Deviation, Fetch}
+pub use Rattle.taf_messages.specs.declared.item.Item.{Item}
 pub use Rattle.taf_messages.specs.declared.item.ItemBody.{ItemBody}
 pub use Rattle.taf_messages.specs.declared.message.Body.{Body}
 pub use Rattle.taf_messages.specs.declared.message.Message.{Message}
 pub use Rattle.taf_messages.specs.declared.message.TrainAnswer.{TrainAnswer}
 pub use Rattle.taf_messages.specs.declared.movement.MovementKind.{MovementKind}
-pub use Rattle.taf_messages.specs.declared.movement.MovementKind.TheVariants.{Release, Estimate}
+pub use Rattle.taf_messages.specs.declared.movement.MovementKind.TheVariants.{Release, Departure, Estimate}
 pub use Rattle.taf_messages.specs.declared.record.EstimateAt.{EstimateAt}
 pub use Rattle.taf_messages.specs.declared.record.Record.{Record}
 pub use Rattle.taf_messages.specs.declared.reply.Reply.{Reply}
@@ -27,11 +28,12 @@ pub use Rattle.taf_messages.specs.Refusals.{refused}
 pub use Rattle.taf_messages.specs.declared.reply.Why.{Why}
 pub use Rattle.taf_messages.specs.declared.reply.Why.TheVariants.{UnknownWagon, UnknownOffer, ConsignmentTaken, WagonBusy, UnitBusy, NotYours, OfferClosed, ListsDiffer, BeyondCalendar, UnknownConsignment, UnknownUnit, NumberReused, AckAhead}
 pub use Rattle.replay_numbers.specs.Names.{same_name}
-pub use Rattle.outbox.specs.Numbering.{is_ahead, items_to_fetch}
+pub use Rattle.outbox.specs.Numbering.{is_ahead, numbered_items, items_to_fetch}
 pub use Rattle.interchange.specs.Offers.{asked_by, matches, wagons_of, place_of}
 pub use Rattle.interchange.specs.declared.offer.Offer.{Offer}
 pub use Rattle.journey.specs.Checks.{refusal}
 pub use Rattle.journey.specs.Legs.{legs, current_leg, runner_of, lead_of}
+pub use Rattle.journey.specs.NewestLegs.{IsJourney}
 pub use Rattle.journey.specs.Stages.{is_plan, leg_index, is_delivery, responsible, is_delivered, stage, is_on_its_way, is_departure, plan}
 pub use Rattle.journey.specs.Words.{newest, oldest, from_last}
 pub use Rattle.journey.specs.declared.event.Event.{Event}

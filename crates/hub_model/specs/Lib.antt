@@ -13,4 +13,5 @@ pub mod Laws
 pub mod Bounds
 pub mod Responsibility
 pub mod Consent
+pub mod Senders
 pub mod NeedToKnow

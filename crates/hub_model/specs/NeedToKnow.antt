@@ -1,6 +1,7 @@
 -- Who is shown records, and who gets items (4.2.6, 4.2.7, 4.2.8, 4.2.11).
-use Rattle.std.specs.Prelude.{◌≡◌, ◌⊎◌, ℕ, Bool, true, false, List, ◌∷◌, ◌++◌, length, Option, Some, None, IsSome, is_some, option_map, option_and_then, All, Contains}
-use Rattle.hub_model.specs.Common.{Railway, UnitCode, ConsignmentId, has, Call, Send, Ask, AskUnit, Deviation, Reply, Accepted, Refused, One, Many, ItemBody, Message, Body, Record, Event, stage, responsible, is_on_its_way, legs, lead_of, asked_by, record_of}
+use Rattle.std.specs.Prelude.{◌≡◌, ◌⊎◌, ℕ, ◌+◌, Bool, true, false, List, [], ◌∷◌, ◌++◌, length, drop, Option, Some, None, IsSome, is_some, option_map, option_and_then, All, Contains}
+use Rattle.hub_model.specs.Common.{Railway, UnitCode, ConsignmentId, has, Call, Send, Ask, AskUnit, Deviation, Fetch, Ack, Reply, Accepted, Refused, One, Many, Items, Item, ItemBody, Message, Body, Record, Event, leg_index, stage, responsible, is_on_its_way, legs, lead_of, asked_by, record_of, numbered_items}
+use Rattle.taf_messages.specs.declared.item.ItemBody.TheVariants as item
 use Rattle.taf_messages.specs.declared.message.Body.TheVariants as body
 use Rattle.hub_model.specs.HubState.{HubState, named_wagons, journey_after}
 use Rattle.hub_model.specs.Units.{unit_wagon}
@@ -28,6 +29,40 @@ pub record IsShownTo (s : HubState) (by : Railway) : Type 0 where
 abbrev pub RecordsAreForTheTrip : Type 0
 RecordsAreForTheTrip = (s : HubState) (by : Railway) → IsShownTo s by
 
+-- the sender of a call
+abbrev pub sender_of : Call → Railway
+sender_of (Send m) = m.by
+sender_of (Ask by w) = by
+sender_of (AskUnit by u) = by
+sender_of (Deviation by c) = by
+sender_of (Fetch by limit) = by
+sender_of (Ack by n) = by
+
+-- the records that a reply shows
+abbrev pub records_in : Reply → List Record
+records_in (One r) = r ∷ []
+records_in (Many rs) = rs
+records_in _ = []
+
+-- the items that a reply shows
+abbrev pub items_in : Reply → List Item
+items_in (Items is) = is
+items_in _ = []
+
+-- the record is that of its wagon, and the railway is of the wagon's trip
+pub record IsOfOwnTrip (s : HubState) (by : Railway) (r : Record) : Type 0 where
+  pub is_its_record : record_of r.wagon (s.journey r.wagon) ≡ Some r
+  pub of_trip : IsOfTrip (s.journey r.wagon) by
+
+-- the reply to the call shows records of the sender's own trips alone, and items of its own outbox alone
+pub record ShowsTheirOwn (s : HubState) (call : Call) : Type 0 where
+  pub records : All (IsOfOwnTrip s (sender_of call)) (records_in (reply_to s call))
+  pub items : All (Contains (numbered_items (s.outbox (sender_of call)))) (items_in (reply_to s call))
+
+-- so does the reply to each call, whatever calls came before
+abbrev pub RepliesShowTheirOwn : Type 0
+RepliesShowTheirOwn = (calls : List Call) (call : Call) → ShowsTheirOwn (state_after calls) call
+
 -- the reply accepts a message or refuses it, and shows nothing else
 abbrev pub is_verdict : Reply → Bool
 is_verdict (Accepted number) = true
@@ -51,18 +86,36 @@ NamesRailway s m (body.Answer a) r = (a.offerer ≡ r) ⊎ (a.manager ≡ Some r
 NamesRailway s m (body.Withdraw at n) r = asked_by (s.offer m.by n) ≡ Some r
 NamesRailway s m _ r = ⊥
 
--- before the message or after it, the railway is involved in a wagon that the message names
+-- the message is a reroute that takes a leg of the railway away
+abbrev pub IsTakenOff : HubState → Body → ℕ → Railway → Type 0
+IsTakenOff s (body.Reroute v route) w r = Contains (runners (drop (leg_index (s.journey w) + 1) (legs (s.journey w)))) r
+IsTakenOff s _ w r = ⊥
+
+-- after the message the railway is involved in a wagon that the message names, or the message takes a leg of it away
 abbrev pub IsInvolvedIn : HubState → Message → Railway → Type 0
 IsInvolvedIn s m r =
-    (w : ℕ) × (has (named_wagons s.offer m) w ≡ true) × (IsInvolved (s.journey w) r ⊎ IsInvolved (journey_after s m w) r)
+    (w : ℕ) × (has (named_wagons s.offer m) w ≡ true) × (IsInvolved (journey_after s m w) r ⊎ IsTakenOff s m.body w r)
 
--- the message concerns the railway
+-- the message concerns the railway; the notice of an answer goes to the leads of all its wagons, and shows each lead those of the others too
 abbrev pub Concerns : HubState → Message → Railway → Type 0
 Concerns s m r = NamesRailway s m m.body r ⊎ IsInvolvedIn s m r
 
 -- each item that a message makes goes to a railway that the message concerns
 abbrev pub ItemsGoToTheConcerned : Type 0
 ItemsGoToTheConcerned = (s : HubState) (m : Message) → All (λ i. Concerns s m i.to) (items_of s m)
+
+-- the wagon of an estimate or an alert
+abbrev pub estimated_wagon : ItemBody → Option ℕ
+estimated_wagon (item.Eti w leg at) = Some w
+estimated_wagon (item.Eta w at) = Some w
+estimated_wagon (item.AlertBegins w minutes) = Some w
+estimated_wagon (item.AlertEnds w) = Some w
+estimated_wagon _ = None
+
+-- each estimate and each alert goes to a railway that is involved in its wagon after the message
+abbrev pub EstimatesStayOnTheTrip : Type 0
+EstimatesStayOnTheTrip = (s : HubState) (m : Message) →
+    All (λ i. (w : ℕ) → estimated_wagon i.body ≡ Some w → IsInvolved (journey_after s m w) i.to) (items_of s m)
 
 -- the item's source: an accepted message of the calls, which made the item for the railway and concerned it
 pub record HasSource (calls : List Call) (r : Railway) (i : ItemBody) : Type 0 where

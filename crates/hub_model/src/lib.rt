@@ -12,6 +12,7 @@
 //!   is known after a history, and the histories whose replies are these;
 //! - `AcceptedMessages`: the accepted messages, and the lists that the look-ups are of;
 //! - `Changes`, `Responsibility`, `Consent`, `Laws`, `Bounds`: what holds of them at every moment;
+//! - `Senders`: which railway may send a message;
 //! - `NeedToKnow`: who is shown records, and who gets items;
 //! - `Overtaking`: the messages that may come in either order.
 //!
@@ -36,5 +37,6 @@ pub use laws::{
     estimates_fit, first_sends_stand_in_the_history, histories_are_runs,
     items_and_events_are_bounded, last_receiver_answers, lookups_are_the_lists,
     messages_are_taken_once, messages_may_overtake, offers_are_in_order,
-    railways_see_what_concerns_them, responsibility_passes_by_consent, wagons_are_on_their_legs,
+    railways_see_what_concerns_them, responsibility_passes_by_consent, senders_may_send,
+    wagons_are_on_their_legs,
 };

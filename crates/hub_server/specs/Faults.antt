@@ -18,4 +18,4 @@ fault_of_shift of_shift.Memory = Memory
 
 abbrev pub fault_of_settling : SettleFault → ServerFault
 fault_of_settling of_settling.Memory = Memory
-fault_of_settling _ = NotSettled
+fault_of_settling fault = NotSettled fault

@@ -18,9 +18,9 @@ pub enum ServerFault {
     Thread,
     #[error("memory was refused")]
     Memory,
-    /// The history is not told by the sessions' tallies.
-    #[error("the shift did not settle")]
-    NotSettled,
+    /// The history is not told by the sessions' tallies: in this respect.
+    #[error("the shift did not settle: {0}")]
+    NotSettled(SettleFault),
 }
 
 impl From<AcceptFault> for ServerFault {
@@ -51,7 +51,7 @@ impl From<SettleFault> for ServerFault {
     fn from(fault: SettleFault) -> ServerFault {
         match fault {
             SettleFault::Memory => ServerFault::Memory,
-            _ => ServerFault::NotSettled,
+            fault => ServerFault::NotSettled(fault),
         }
     }
 }

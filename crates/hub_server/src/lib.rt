@@ -6,9 +6,11 @@
 //!
 //! # What is promised
 //!
-//! Where it gives a shift, that is a shift of so many sessions and workers, and its history is told by the sessions' tallies:
-//! what `hub_shifts` says of settled shifts holds of it. Each fault has its kind ([`ServerFault`]). Nothing is promised of what
-//! a connection carries, nor that a client reads or sends.
+//! Where it gives a shift, that is a shift of so many sessions and workers, and its history is told by the sessions' tallies.
+//! `specs/Settled.antt` says the rest of it: the history has the answers of each session's jobs and is an interleaving of what the
+//! sessions were told, and each lane has its sessions' jobs in order, as the laws of `hub_shifts` define both. Each fault has its
+//! kind ([`ServerFault`]); that the shift did not settle is answered only of one that did not. Nothing is promised of what a
+//! connection carries, nor that a client reads or sends.
 //!
 //! | part | what it has |
 //! |---|---|
@@ -20,5 +22,5 @@ mod fault;
 mod server;
 
 pub use fault::ServerFault;
-pub use hub_shifts::SettledShift;
+pub use hub_shifts::{SessionEnd, SettledShift};
 pub use server::serve_connections;

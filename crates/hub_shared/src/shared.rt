@@ -5,6 +5,7 @@ ghost use Rattle.hub_shared.specs.Seats.{IsRun, IsAnswerInRun, IsFaultInRun, new
 use crate::booked::{Booked, serve_one};
 use crate::seat::Seat;
 use hub_core::{Hub, HubFault};
+use seeded_state::SeededState;
 use std::alloc::Global;
 use std::sync::ledger::{Blank, Ledger};
 use std::sync::{Mutex, Wait};
@@ -17,15 +18,25 @@ pub struct SharedHub<L: Ledger> {
 }
 
 impl<L: Ledger> SharedHub<L> {
-    /// A hub that has taken no call, and the first seat, with all parts of the blank. Takes no memory.
+    /// A hub that has taken no call, whose tables hash from the fixed seed, and the first seat, with all parts of the blank. Takes
+    /// no memory.
     pub fn new(alloc: Global, blank: Blank) -> (SharedHub<L>, Seat<L>)
+        requires name { blank.name ≡ L.name }
+        requires parts { (blank.parts ≡ L.parts) × (0 < blank.parts) }
+        ensures { result.1 ≡ new_seat L.parts }
+    {
+        SharedHub::with_hasher(alloc, SeededState::fixed(), blank)
+    }
+
+    /// A hub that has taken no call, whose tables hash so, and the first seat, with all parts of the blank. Takes no memory.
+    pub fn with_hasher(alloc: Global, hasher: SeededState, blank: Blank) -> (SharedHub<L>, Seat<L>)
         requires name { blank.name ≡ L.name }
         requires parts { (blank.parts ≡ L.parts) × (0 < blank.parts) }
         ensures { result.1 ≡ new_seat L.parts }
     {
         let (book, mut share) = blank.open::<L>();
         let no_part = share.empty();
-        let hub = Hub::new(alloc);
+        let hub = Hub::with_hasher(alloc, hasher);
         let seat = Seat {
             share,
             count: 0,

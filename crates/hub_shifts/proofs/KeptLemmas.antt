@@ -77,13 +77,13 @@ pub record Came (k lanes : ℕ) (ps : List PassState) (own : PassState) (before 
   pub id : after.id ≡ before.id
   pub pass : after.pass ≡ before.pass
   pub back : after.back ≡ of_lane k lanes 0 ps ++ own ∷ []
-  pub out : HandsOut (new_lane before.id) before (1 + length (of_lane k lanes 0 ps))
+  pub out : HandsOut (new_lane before.id before.capacity) before (1 + length (of_lane k lanes 0 ps))
   pub hands : All (λ (t : PassState). t ≡ thread_pass before.id t.put []) (of_lane k lanes 0 ps)
   pub own_is : own ≡ thread_pass before.id [] own.taken
 
 pub all_came : {W : Type 0} (pass_of : W → PassState) (items ts tw : List LaneState) (ps : List PassState) (worked : List W)
     → length ts ≡ length items → length worked ≡ length items
-    → EachAt (λ k l. HandsOut (new_lane l.id) l (1 + length (of_lane k (length items) 0 ps))) items
+    → EachAt (λ k l. HandsOut (new_lane l.id l.capacity) l (1 + length (of_lane k (length items) 0 ps))) items
     → EachAt (λ i (t : PassState). (d : LaneState) → t ≡ thread_pass (get_or items (i % length items) d).id t.put []) ps
     → EachAt (λ k w. (d : LaneState) → pass_of w ≡ thread_pass (get_or items k d).id [] (pass_of w).taken) worked
     → EachLane (λ k a b. TakesBack a b (of_lane k (length items) 0 ps)) items ts

@@ -9,8 +9,8 @@
 //! `specs/Shifts.antt` says what a shift leaves. Its hub is one that a single thread could have made, and its sum is the
 //! length of that hub's history. It has a tally for each session, in their order, which is what the lines of the session's
 //! reader make of it; how each session ended; and what each lane still held. [`settle_shift`] compares the tallies with the
-//! history. [`shift_in_order`] says what follows once they settle, and [`lanes_in_order`] what was taken of a session's jobs
-//! and what was left.
+//! history. [`shift_in_order`] says what a session was told of its own jobs, and what follows of the history once the tallies
+//! settle, and [`lanes_in_order`] what was taken of a session's jobs and what was left.
 //!
 //! No contract says that a call returns, or that two workers run at once.
 //!

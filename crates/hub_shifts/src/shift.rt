@@ -13,11 +13,13 @@ use hub_core::Hub;
 use hub_shared::{Seat, SharedHub, Tally};
 use hub_workers::{Gate, Places, add_refused, make_places, take_workers};
 use inbox::Left;
+use seeded_state::SeededState;
 use session_lanes::{
     AnswerQueue, Lane, Opening, Outcomes, SessionEnd, SessionStart, close_lanes, take_sessions,
 };
 use std::alloc::Global;
 use std::marker::Brand;
+use std::random::RandomSource;
 use std::snapshot::Snapshot;
 use std::sync::Wait;
 use std::sync::ledger::{Blank, Ledger};
@@ -66,6 +68,9 @@ impl From<Memory> for ShiftFault {
 /// can't be started the others end at once, and the answer is [`ShiftFault::Thread`]. After either fault no thread is left,
 /// there is no hub, and after [`ShiftFault::Memory`] lines may have been answered. A session that ends by a fault gives its
 /// tally all the same.
+///
+/// A session that has no answer to write sleeps until all its jobs that are out are answered. So a gate that holds one of them
+/// until the reply to another of the same session was written holds both for ever.
 pub fn run_shift<S, K, G, R>(
     rt: &R,
     alloc: Global,
@@ -77,7 +82,7 @@ where
     S: Source + Send + Drop,
     K: Sink + Send + Drop,
     G: Gate + Sync,
-    R: Threads + Wait + Sync,
+    R: Threads + Wait + Sync + RandomSource,
     requires sessions { (1 ≤ vec_len sessions) × (vec_len sessions ≤ 64) }
     requires workers { (1 ≤ workers) × (workers ≤ 8) }
     ensures { IfOk result (λ s. IsShift
@@ -111,7 +116,7 @@ where
     S: Source + Send + Drop,
     K: Sink + Send + Drop,
     G: Gate + Sync,
-    R: Threads + Wait + Sync,
+    R: Threads + Wait + Sync + RandomSource,
     requires sessions { (1 ≤ vec_len setup.sessions) × (vec_len setup.sessions ≤ 64) }
     requires workers { (1 ≤ setup.workers) × (setup.workers ≤ 8) }
     requires blank { (setup.blank.name ≡ L.name) × (setup.blank.parts ≡ L.parts)
@@ -125,7 +130,7 @@ where
         workers,
         blank,
     } = setup;
-    let (hub, mut seat) = SharedHub::<L>::new(alloc, blank);
+    let (hub, mut seat) = SharedHub::<L>::with_hasher(alloc, SeededState::drawn(rt), blank);
     let Places {
         lanes,
         sessions,
@@ -169,7 +174,8 @@ fn end_shift<L: Ledger, S: Source, K: Sink>(
     back: Back<L>,
 ) -> Result<Shift, Memory>
     requires some { (1 ≤ length to_close.lanes.items) × (length to_close.lanes.items ≤ 8) }
-    requires lanes { let lanes = to_close.lanes.items in EachAt (λ k l. HandsOut (new_lane l.id) l
+    requires lanes { let lanes = to_close.lanes.items in EachAt (λ k l.
+        HandsOut (new_lane l.id l.capacity) l
         (1 + length (of_lane k (length lanes) 0 back.served.items))) lanes }
     requires starts { let lanes = to_close.lanes.items in EachAt (λ i s. (d : _)
         → s.pass ≡ new_pass (slice_index_or lanes (i % length lanes) d).id 1)

@@ -13,6 +13,7 @@ ghost use Rattle.hub_tables.specs.Acceptance.{HasAccepted};
 use crate::tables::Tables;
 use indexmap::IndexMap;
 use interchange::{Offer, Offers};
+use seeded_state::SeededState;
 use std::alloc::Global;
 use std::hash::Hash;
 use taf_codes::{Memory, UnitCode};
@@ -65,7 +66,10 @@ pub(crate) fn accept_offer(
 }
 
 // Enters each value under its key, in turn. There has to be room for all.
-fn enter<K: Eq + Hash + Drop, V: Drop>(table: &mut IndexMap<K, V>, entries: Vec<(K, V)>)
+fn enter<K: Eq + Hash + Drop, V: Drop>(
+    table: &mut IndexMap<K, V, SeededState>,
+    entries: Vec<(K, V)>,
+)
     requires { length entries.items ≤ spare table.old }
     ensures entries { table.new.entries ≡ insert_all K.eq table.old.entries entries.items }
     ensures values { (key : K) → get K.eq table.new key

@@ -7,6 +7,7 @@ ghost use Rattle.hub_tables.specs.TableStates.{table_state};
 use crate::wagon::Wagon;
 use indexmap::IndexMap;
 use interchange::{Offer, Offers};
+use seeded_state::SeededState;
 use std::alloc::Global;
 use std::marker::Model;
 use taf_codes::{ConsignmentId, Railway, UnitCode};
@@ -18,9 +19,9 @@ use wagon_number::WagonNumber;
 #[derive(Drop)]
 pub struct Tables {
     /// In the order of their first plans.
-    pub(crate) wagons: IndexMap<WagonNumber, Wagon>,
-    pub(crate) plans: IndexMap<ConsignmentId, Plan>,
-    pub(crate) units: IndexMap<UnitCode, Plan>,
+    pub(crate) wagons: IndexMap<WagonNumber, Wagon, SeededState>,
+    pub(crate) plans: IndexMap<ConsignmentId, Plan, SeededState>,
+    pub(crate) units: IndexMap<UnitCode, Plan, SeededState>,
     pub(crate) offers: Offers,
 }
 
@@ -40,15 +41,15 @@ impl Model for Tables {
 }
 
 impl Tables {
-    /// No wagon, no plan and no offer. Takes no memory.
-    pub fn new(alloc: Global) -> Tables
+    /// No wagon, no plan and no offer, in tables that hash so. Takes no memory.
+    pub fn with_hasher(alloc: Global, hasher: SeededState) -> Tables
         ensures { table_state result ≡ new_state }
     {
         Tables {
-            wagons: IndexMap::new(alloc),
-            plans: IndexMap::new(alloc),
-            units: IndexMap::new(alloc),
-            offers: Offers::new(alloc),
+            wagons: IndexMap::with_hasher(alloc, hasher),
+            plans: IndexMap::with_hasher(alloc, hasher),
+            units: IndexMap::with_hasher(alloc, hasher),
+            offers: Offers::with_hasher(alloc, hasher),
         }
     }
 

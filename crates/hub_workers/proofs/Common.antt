@@ -5,7 +5,7 @@ pub use Rattle.std.proofs.lemmas.Iterator.Consumers.{YieldsList-turn, YieldsList
 pub use Rattle.std.proofs.lemmas.List.{drop_all, take_all, get_or_read, get_or_append_left, get_or_push, get_or-set_same, get_or-set_other, length_push, map-id, map-append}
 pub use Rattle.inbox.specs.Rules.{ALL_PARTS}
 pub use Rattle.inbox.specs.States.{PassState, new_pass}
-pub use Rattle.session_lanes.specs.Lanes.{LaneState, new_lane, EachAt, of_lane, HandsOut, EachLane, TakesBack, IsPassOf}
+pub use Rattle.session_lanes.specs.Lanes.{LaneState, new_lane, lane_capacity, EachAt, of_lane, HandsOut, EachLane, TakesBack, IsPassOf}
 pub use Rattle.session_lanes.specs.declared.ends.SessionStart.{SessionStart}
 pub use Rattle.hub_shared.specs.Seats.{SeatState, new_seat}
 pub use Rattle.hub_workers.specs.declared.worker.Worker.{Worker}

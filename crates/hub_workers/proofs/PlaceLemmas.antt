@@ -8,33 +8,33 @@ whole_slice n new old same is =
     ap (λ l. take n (new ++ l)) none ∙ (ap (λ l. take n l) (append-nil new) ∙ take_all n new (omega (arith, same, is)))
 
 -- the lanes when they were made, once the workers had their passes, and once the sessions had theirs
-pub record AreHandedOut {A : Type 0} (made first last : List LaneState) (sessions : List A) : Type 0 where
-  pub new : EachAt (λ k l. l ≡ new_lane l.id) made
+pub record AreHandedOut {A : Type 0} (capacity : ℕ → ℕ) (made first last : List LaneState) (sessions : List A) : Type 0 where
+  pub new : EachAt (λ k l. l ≡ new_lane l.id (capacity k)) made
   pub to_workers : EachLane (λ k a b. HandsOut a b 1) made first
   pub to_sessions : EachLane (λ k a b. HandsOut a b (length (of_lane k (length first) 0 sessions))) first last
   pub first_fit : length first ≡ length made
   pub last_fit : length last ≡ length first
 
-pub first_id : {A : Type 0} (made first last : List LaneState) (sessions : List A) → AreHandedOut made first last sessions → (k : ℕ) (d : LaneState) → k < length made → (get_or last k d).id ≡ (get_or made k d).id
-first_id made first last sessions h k d low =
+pub first_id : {A : Type 0} (capacity : ℕ → ℕ) (made first last : List LaneState) (sessions : List A) → AreHandedOut capacity made first last sessions → (k : ℕ) (d : LaneState) → k < length made → (get_or last k d).id ≡ (get_or made k d).id
+first_id capacity made first last sessions h k d low =
     let fit = h.first_fit in
     (h.to_sessions k d (omega (arith, fit, low))).id ∙ (h.to_workers k d low).id
 
-pub last_id : {A : Type 0} (made first last : List LaneState) (sessions : List A) → AreHandedOut made first last sessions → (k : ℕ) (d : LaneState) → k < length made → (get_or last k d).id ≡ (get_or first k d).id
-last_id made first last sessions h k d low =
+pub last_id : {A : Type 0} (capacity : ℕ → ℕ) (made first last : List LaneState) (sessions : List A) → AreHandedOut capacity made first last sessions → (k : ℕ) (d : LaneState) → k < length made → (get_or last k d).id ≡ (get_or first k d).id
+last_id capacity made first last sessions h k d low =
     let fit = h.first_fit in
     (h.to_sessions k d (omega (arith, fit, low))).id
 
 -- a list of lanes that is lent whole twice
-pub lent_twice : {A : Type 0} (len : ℕ) (made first_old first last_old last : List LaneState) (sessions : List A)
+pub lent_twice : {A : Type 0} (capacity : ℕ → ℕ) (len : ℕ) (made first_old first last_old last : List LaneState) (sessions : List A)
     → len ≡ length made → first_old ≡ made → last_old ≡ take len (first ++ drop (length first) made)
     → length first ≡ length first_old → length last ≡ length last_old
-    → EachAt (λ k l. l ≡ new_lane l.id) made
+    → EachAt (λ k l. l ≡ new_lane l.id (capacity k)) made
     → EachLane (λ k a b. HandsOut a b 1) first_old first
     → EachLane (λ k a b. HandsOut a b (length (of_lane k (length last_old) 0 sessions))) last_old last
-    → AreHandedOut made first last sessions × (last_old ≡ first)
+    → AreHandedOut capacity made first last sessions × (last_old ≡ first)
     × (take len (last ++ drop (length last) (take len (first ++ drop (length first) made))) ≡ last)
-lent_twice len made first_old first last_old last sessions long is then fits fit new workers others =
+lent_twice capacity len made first_old first last_old last sessions long is then fits fit new workers others =
     let in_made : length first ≡ length made = fits ∙ ap (λ (l : List LaneState). length l) is in
     let whole : take len (first ++ drop (length first) made) ≡ first = whole_slice len first made in_made long in
     let same : last_old ≡ first = then ∙ whole in
@@ -51,9 +51,9 @@ lent_twice len made first_old first last_old last sessions long is then fits fit
     )
 
 -- what each lane handed out since it was made
-pub handed_out : {A : Type 0} (n : ℕ) (made first last : List LaneState) (sessions : List A) → AreHandedOut made first last sessions → length made ≡ n
-    → EachAt (λ k l. HandsOut (new_lane l.id) l (1 + length (of_lane k n 0 sessions))) last
-handed_out n made first last sessions h is k d low =
+pub handed_out : {A : Type 0} (capacity : ℕ → ℕ) (n : ℕ) (made first last : List LaneState) (sessions : List A) → AreHandedOut capacity made first last sessions → length made ≡ n
+    → EachAt (λ k l. HandsOut (new_lane l.id (capacity k)) l (1 + length (of_lane k n 0 sessions))) last
+handed_out capacity n made first last sessions h is k d low =
     let fit = h.first_fit in
     let fits = h.last_fit in
     let in_first : k < length first = omega (arith, low, fits) in
@@ -68,6 +68,7 @@ handed_out n made first last sessions h is k d low =
     let whole : a.pass.parts ≡ ALL_PARTS = ap (λ (l : LaneState). l.pass.parts) new in
     record {
       id = refl;
+      capacity = others.capacity ∙ (workers.capacity ∙ ap (λ (l : LaneState). l.capacity) new);
       back = others.back ∙ (workers.back ∙ ap (λ (l : LaneState). l.back) new);
       put = others.put ∙ (workers.put ∙ ap (λ (l : LaneState). l.pass.put) new);
       taken = others.taken ∙ (workers.taken ∙ ap (λ (l : LaneState). l.pass.taken) new);

@@ -9,10 +9,11 @@
 //! # What is promised
 //!
 //! `specs/Work.antt` says what a worker gives back: that it put nothing, and that it counted a call or a fault for each job
-//! that it took.
+//! that it took. [`make_call`] makes the call of one job: its Done has the session and the index of the job, and the answer to
+//! the job's own call.
 //!
-//! No contract says that a worker that waits is woken, nor what it answers: an `AnswerQueue` promises nothing of what it
-//! holds. No worker spins: one whose lane stays empty sleeps until it is woken.
+//! No contract says that a worker that waits is woken, nor that a Done reaches its session: an `AnswerQueue` promises nothing of
+//! what it holds. A worker whose lane stays empty sleeps until it is woken.
 //!
 //! | part | what it has |
 //! |---|---|
@@ -29,4 +30,4 @@ mod worker;
 pub use closing::{add_refused, take_workers};
 pub use gate::{Gate, OpenGate};
 pub use places::{Places, make_places};
-pub use worker::{Worker, WorkerContext, work};
+pub use worker::{Worker, WorkerContext, make_call, work};

@@ -1,6 +1,6 @@
 //! What the threads of sessions and workers begin with: everything is handed out before the first one starts.
 ghost use Rattle.std.specs.Prelude.{◌≡◌, ◌+◌, ◌%◌, ◌≤◌, length, map, vec_len, IfOk};
-ghost use Rattle.session_lanes.specs.Lanes.{new_lane, IsPassOf, EachAt, of_lane, HandsOut, EachLane};
+ghost use Rattle.session_lanes.specs.Lanes.{new_lane, lane_capacity, IsPassOf, EachAt, of_lane, HandsOut, EachLane};
 ghost use Rattle.hub_shared.specs.Seats.{new_seat};
 
 use crate::worker::Worker;
@@ -39,7 +39,8 @@ pub fn make_places<L: Ledger, S: Drop, K: Drop>(
         × (vec_len p.sessions ≡ vec_len sessions)) }
     ensures ends { IfOk result (λ p. map (λ s. (s.reader, s.writer)) p.sessions.items
         ≡ sessions.items) }
-    ensures lanes { IfOk result (λ p. EachAt (λ k l. HandsOut (new_lane l.id) l
+    ensures lanes { IfOk result (λ p. EachAt (λ k l.
+        HandsOut (new_lane l.id (lane_capacity k workers (vec_len sessions))) l
         (1 + length (of_lane k workers 0 p.sessions.items))) p.lanes.items) }
     ensures sessions { IfOk result (λ p. EachAt (λ i s. (s.session ≡ i)
         × IsPassOf p.lanes.items (i % workers) s.pass) p.sessions.items) }

@@ -1,5 +1,6 @@
 //! What a worker does.
-ghost use Rattle.std.specs.Prelude.{◌≡◌, ◌+◌, ◌<◌, ◌^◌, length};
+ghost use Rattle.std.specs.Prelude.{◌≡◌, ◌+◌, ◌<◌, ◌^◌, length, IfOk, IfErr};
+ghost use Rattle.hub_shared.specs.Seats.{IsAnswerInRun, IsFaultInRun};
 
 use crate::gate::Gate;
 use hub_shared::{Seat, SharedHub};
@@ -65,18 +66,39 @@ fn answer<L: Ledger, G: Gate, R: Wait>(
     ensures before { seat.new.refused < 2 ^ 60 → seat.old.refused < 2 ^ 60 }
 {
     context.gate.before(&job);
+    let done = make_call(rt, context.hub, seat, job);
+    if let Some(queue) = context.answers.get(done.session as usize) {
+        queue.push(rt, done);
+    }
+}
+
+/// Makes the call of a job on the hub, and gives the Done of this job.
+///
+/// Its answer is that of the job's own call, after some history that one thread could have made. The seat counts one call or one
+/// fault, while its faults are below 2^60. It takes the hub's lock, which may wait.
+pub fn make_call<L: Ledger, R: Wait>(
+    rt: &R,
+    hub: &SharedHub<L>,
+    seat: &mut Seat<L>,
+    job: Job,
+) -> Done
+    ensures whose { (result.session ≡ job.session) × (result.index ≡ job.index) }
+    ensures ok { IfOk result.answer (λ r. IsAnswerInRun r.0 r.1 job.call) }
+    ensures fault { IfErr result.answer (λ f. IsFaultInRun f job.call) }
+    ensures parts { seat.new.parts ≡ seat.old.parts }
+    ensures one { seat.new.refused < 2 ^ 60
+        → seat.new.count + seat.new.refused ≡ seat.old.count + seat.old.refused + 1 }
+    ensures before { seat.new.refused < 2 ^ 60 → seat.old.refused < 2 ^ 60 }
+{
     let Job {
         session,
         index,
         call,
     } = job;
-    let answer = context.hub.submit(rt, seat, call);
-    let done = Done {
+    let answer = hub.submit(rt, seat, call);
+    Done {
         session,
         index,
         answer,
-    };
-    if let Some(queue) = context.answers.get(session as usize) {
-        queue.push(rt, done);
     }
 }

@@ -8,12 +8,13 @@ ghost use Rattle.interchange.specs.OfferTable.{entry_of, closed_entry, with_clos
 
 use crate::offer::OfferEntry;
 use indexmap::IndexMap;
+use seeded_state::SeededState;
 use taf_codes::Railway;
 use taf_messages::MessageNumber;
 
 /// Closes the offer of a name.
 pub(crate) fn close(
-    table: &mut IndexMap<(Railway, MessageNumber), OfferEntry>,
+    table: &mut IndexMap<(Railway, MessageNumber), OfferEntry, SeededState>,
     by: Railway,
     number: MessageNumber,
 )

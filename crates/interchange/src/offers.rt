@@ -7,6 +7,7 @@ ghost use Rattle.interchange.specs.OfferTable.{offer_of, is_standing, with_close
 use crate::closing::close;
 use crate::offer::{Offer, OfferEntry};
 use indexmap::IndexMap;
+use seeded_state::SeededState;
 use std::alloc::Global;
 use std::marker::Model;
 use taf_codes::{Memory, Railway};
@@ -15,7 +16,7 @@ use taf_messages::MessageNumber;
 /// The offers that were made, by their names.
 #[derive(Drop)]
 pub struct Offers {
-    table: IndexMap<(Railway, MessageNumber), OfferEntry>,
+    table: IndexMap<(Railway, MessageNumber), OfferEntry, SeededState>,
 }
 
 impl Model for Offers {
@@ -28,12 +29,19 @@ impl Model for Offers {
 }
 
 impl Offers {
-    /// No offer. Takes no memory.
+    /// No offer, in a table that hashes from the fixed seed. Takes no memory.
     pub fn new(alloc: Global) -> Offers
         ensures { result.offers ≡ [] }
     {
+        Offers::with_hasher(alloc, SeededState::fixed())
+    }
+
+    /// No offer, in a table that hashes so. Takes no memory.
+    pub fn with_hasher(alloc: Global, hasher: SeededState) -> Offers
+        ensures { result.offers ≡ [] }
+    {
         Offers {
-            table: IndexMap::new(alloc),
+            table: IndexMap::with_hasher(alloc, hasher),
         }
     }
 

@@ -2,6 +2,7 @@ pub mod Common
 pub mod NewestLemmas
 pub mod LegPositionLemmas
 pub mod LegTimeLemmas
+pub mod JourneyLemmas
 pub mod SoundStateLemmas
 pub mod OfferStageLemmas
 pub mod OnItsWayLemmas

@@ -131,6 +131,10 @@ lawful : (events : List Event) → IsJourney events → IsLawful events
 lawful [] h = absurd h
 lawful (e ∷ events) h = lawful_all (e ∷ []) events (lawful_plan e h.0) h.1
 
+-- a wagon is on a leg through its whole journey
+pub sound_journey : (events : List Event) → IsJourney events → IsSound (journey_state events)
+sound_journey events h = (lawful events h).sound
+
 pub legs_are_the_newest : LegsAreTheNewest
 legs_are_the_newest events h i = (lawful events h).agree.each i
 

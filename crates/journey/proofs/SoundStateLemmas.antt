@@ -4,6 +4,7 @@ use Rattle.taf_messages.specs.declared.record.Stage.TheVariants as stage_is
 use Rattle.journey.proofs.NewestLemmas.{newest-push}
 use Rattle.journey.proofs.LegPositionLemmas.{stage-push, plan-push, leg_index-push, legs-push, timed_length, rerouted_length}
 use Rattle.journey.proofs.OnItsWayLemmas.{some_right}
+use Rattle.journey.proofs.JourneyLemmas.{journey-push}
 
 or-false : (a b : Bool) → (a || (b || false)) ≡ (a || b)
 or-false a true = refl
@@ -131,6 +132,7 @@ kept-push events s next e k r is =
       planned = ap is_some first ∙ k.planned;
       one_plan = plan-kept events e r ∙ k.one_plan ∙ sym first;
       no_later_plan = has_later_plan-push events e k.planned ∙ ap (λ b. has_later_plan events || b) no_plan_here ∙ ap (λ b. b || false) k.no_later_plan;
+      is_journey = journey-push events e k.is_journey r;
       have_room = have_room_from 0 events e k.have_room (has_room (journey_state events) e.by e.body r);
       state_is = is ∙ ap (λ t. journey_state_after t e) k.state_is ∙ sym (journey_state-push events e);
       sound = rw is (sound-after s e k.sound admitted);

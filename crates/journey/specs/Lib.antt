@@ -4,5 +4,5 @@ pub mod Legs
 pub mod JourneyStates
 pub mod Checks
 pub mod Journey
-pub mod TrackStates
 pub mod NewestLegs
+pub mod TrackStates

@@ -6,6 +6,7 @@ use Rattle.journey.specs.declared.event.Event.{Event}
 use Rattle.journey.specs.declared.journey_state.JourneyState.{JourneyState}
 use Rattle.journey.specs.Stages.{plan, plan_in, has_later_plan}
 use Rattle.journey.specs.Legs.{HaveRoom}
+use Rattle.journey.specs.NewestLegs.{IsJourney}
 use Rattle.journey.specs.JourneyStates.{journey_state}
 
 -- the wagon is on one of its legs, of which there are at most eight, and is offered only where there is a next one
@@ -20,11 +21,12 @@ abbrev pub first_plan : List Event → Option Trip
 first_plan [] = None
 first_plan (e ∷ events) = plan_in e.body
 
--- the first event is the only plan of the journey, and the kept state is that of the events
+-- the first event is the only plan of the journey, each further one could come next, and the kept state is that of the events
 pub record IsTrackState (events : List Event) (s : JourneyState) : Type 0 where
   pub planned : is_some (first_plan events) ≡ true
   pub one_plan : plan events ≡ first_plan events
   pub no_later_plan : has_later_plan events ≡ false
+  pub is_journey : IsJourney events
   pub have_room : HaveRoom 0 events
   pub state_is : s ≡ journey_state events
   pub sound : IsSound s

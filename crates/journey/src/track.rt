@@ -43,6 +43,7 @@ impl Track {
     ghost use Rattle.journey.specs.JourneyStates.{journey_state, earlier_state};
     ghost use Rattle.journey.specs.TrackStates.{IsTrackState, without_newest};
     ghost use Rattle.journey.specs.Checks.{refusal};
+    ghost use Rattle.journey.specs.NewestLegs.{IsJourney, events_on_legs, leg_by_newest};
 
     /// A journey that begins with this plan.
     pub fn open(alloc: Global, wagon: WagonNumber, event: Event) -> Result<Track, Memory>
@@ -113,6 +114,7 @@ impl Track {
     pub fn events(&self) -> &[Event]
         ensures value { result.now ≡ self.now.events }
         ensures have_room { legs_of.HaveRoom 0 result.now }
+        ensures is_journey { IsJourney result.now }
     {
         self.events.as_slice()
     }
@@ -161,9 +163,11 @@ impl Track {
         self.journey_state.legs.as_slice()
     }
 
-    /// The leg at this place, from 0 on.
+    /// The leg at this place, from 0 on: what the newest event that sets it says, with the minutes of the newest event
+    /// that says them.
     pub fn leg(&self, i: usize) -> Option<Leg>
-        ensures { result ≡ legs_of.leg self.now.events i }
+        ensures value { result ≡ legs_of.leg self.now.events i }
+        ensures newest { result ≡ leg_by_newest (events_on_legs self.now.events) i }
     {
         self.journey_state.legs.leg(i)
     }

@@ -7,10 +7,11 @@ ghost use Rattle.outbox.specs.OutboxStates.{IsAt, outbox_state_of, has_box, room
 use crate::outbox::Outbox;
 use indexmap::IndexMap;
 use railway_places::RailwayPlaces;
+use seeded_state::SeededState;
 use taf_codes::{Memory, Railway};
 use taf_messages::ItemBody;
 
-pub(crate) type Boxes = IndexMap<Railway, Outbox>;
+pub(crate) type Boxes = IndexMap<Railway, Outbox, SeededState>;
 
 /// Makes room for so many items in the box of a railway, and the box where there is none. The box is looked for at its place among
 /// these first.

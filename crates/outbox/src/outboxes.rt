@@ -7,6 +7,7 @@ use crate::fault::AckAhead;
 use crate::outbox::Outbox;
 use indexmap::IndexMap;
 use railway_places::RailwayPlaces;
+use seeded_state::SeededState;
 use std::alloc::Global;
 use std::marker::Model;
 use taf_codes::{Memory, Railway};
@@ -32,12 +33,19 @@ impl Model for Outboxes {
 }
 
 impl Outboxes {
-    /// No box. Takes no memory.
+    /// No box, in a table that hashes from the fixed seed. Takes no memory.
     pub fn new(alloc: Global) -> Outboxes
         ensures { result ≡ [] }
     {
+        Outboxes::with_hasher(alloc, SeededState::fixed())
+    }
+
+    /// No box, in a table that hashes so. Takes no memory.
+    pub fn with_hasher(alloc: Global, hasher: SeededState) -> Outboxes
+        ensures { result ≡ [] }
+    {
         Outboxes {
-            boxes: IndexMap::new(alloc),
+            boxes: IndexMap::with_hasher(alloc, hasher),
             places: RailwayPlaces::new(),
         }
     }

@@ -8,9 +8,10 @@ ghost use Rattle.replay_numbers.specs.SentPositions.{IsAt, has_railway, position
 use crate::sent::Sent;
 use indexmap::IndexMap;
 use railway_places::RailwayPlaces;
+use seeded_state::SeededState;
 use taf_codes::{Memory, Railway};
 
-pub(crate) type Railways = IndexMap<Railway, Sent>;
+pub(crate) type Railways = IndexMap<Railway, Sent, SeededState>;
 
 /// The position that was noted for a name, if there is one.
 pub(crate) fn find(railways: &Railways, by: Railway, number: u64) -> Option<u32>
@@ -120,7 +121,7 @@ fn add(railways: &mut Railways, by: Railway, number: u64) -> Result<(), Memory>
         → has_room railways.new.entries also n ≡ true }
     ensures room { OnOk result (has_room railways.new.entries by number ≡ true) }
 {
-    let mut sent = Sent::new(*railways.allocator(), number);
+    let mut sent = Sent::new(*railways.allocator(), *railways.hasher(), number);
     sent.reserve(number)?;
     railways.insert(by, sent)?;
     Ok(())

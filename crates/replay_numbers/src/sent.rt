@@ -4,6 +4,7 @@ ghost use Rattle.std.specs.Option.{option_flatten};
 ghost use Rattle.replay_numbers.specs.SentPositions.{in_row, position_in, has_place, has_room_in};
 
 use indexmap::IndexMap;
+use seeded_state::SeededState;
 use std::alloc::Global;
 use std::marker::Model;
 use taf_codes::Memory;
@@ -19,7 +20,7 @@ pub(crate) struct Sent {
     // At each number its position.
     row: Vec<Option<u32>>,
     // The positions of numbers that came before the row began or were far behind it.
-    aside: IndexMap<u64, u32>,
+    aside: IndexMap<u64, u32, SeededState>,
 }
 
 impl Model for Sent {
@@ -38,13 +39,13 @@ impl Model for Sent {
 
 impl Sent {
     /// No number, and a row that begins at this one. Takes no memory.
-    pub(crate) fn new(alloc: Global, first: u64) -> Sent
+    pub(crate) fn new(alloc: Global, hasher: SeededState, first: u64) -> Sent
         ensures { (n : ℕ) → position_in result n ≡ None }
     {
         Sent {
             first,
             row: Vec::new(alloc),
-            aside: IndexMap::new(alloc),
+            aside: IndexMap::with_hasher(alloc, hasher),
         }
     }
 

@@ -1,5 +1,5 @@
 -- Which items fall to a lane, and what a lane keeps count of.
-use Rattle.session_lanes.proofs.Common.{◌≡◌, ℕ, ◌+◌, ◌%◌, ◌<◌, ◌≤◌, eqb, eq-eqb, ne_eqb, cond, Bool, true, false, List, [], ◌∷◌, ◌++◌, length, map, get_or, set, refl, sym, ap, ◌∙◌, subst, arith, append_assoc, append-nil, get_or_append_left, get_or_push, get_or-set_same, get_or-set_other, length_push, PassState, LaneState, EachAt, EachPair, of_lane, HandsOut, TakesBack, EachLane}
+use Rattle.session_lanes.proofs.Common.{◌≡◌, ℕ, ◌+◌, ◌%◌, ◌<◌, ◌≤◌, ◌/◌, zero, suc, ltb, eqb, eq-eqb, ne_eqb, cond, Bool, true, false, List, [], ◌∷◌, ◌++◌, length, map, get_or, set, refl, sym, ap, ◌∙◌, subst, arith, append_assoc, append-nil, get_or_append_left, get_or_push, get_or-set_same, get_or-set_other, length_push, PassState, LaneState, EachAt, EachPair, of_lane, sessions_of, HandsOut, TakesBack, EachLane, lt-ltb, le-ltb, mod-eq_of_lt, mod-lt, mod_self, suc-mod, mod-add-div', zero-div, div-eq_of_lt-le, add-mul, dec_lt}
 use mathlib.Core.Logic.{dite}
 use native.Mathlib.Decide.{ℕ_discrete}
 
@@ -86,6 +86,7 @@ hands_more a b c l x first then =
     let p = first.parts in
     let q = then.parts in record {
       id = then.id ∙ first.id;
+      capacity = then.capacity ∙ first.capacity;
       back = then.back ∙ first.back;
       put = then.put ∙ first.put;
       taken = then.taken ∙ first.taken;
@@ -95,6 +96,7 @@ hands_more a b c l x first then =
 pub back_more : (a b c : LaneState) (l : List PassState) (x : PassState) → TakesBack a b l → TakesBack b c (x ∷ []) → TakesBack a c (l ++ x ∷ [])
 back_more a b c l x first then = record {
   id = then.id ∙ first.id;
+  capacity = then.capacity ∙ first.capacity;
   pass = then.pass ∙ first.pass;
   back = then.back ∙ (ap (λ m. m ++ x ∷ []) first.back ∙ append_assoc a.back l (x ∷ []));
 }
@@ -115,3 +117,84 @@ EachPair-push P xs ys x y each last =
           let within : k < length ys = omega (arith, alike, inside) in
           rw (get_or_append_left xs (x ∷ []) d k inside, get_or_append_left ys (y ∷ []) e k within) (each.1 k d e inside)),
     )
+
+-- ---- how many sessions fall to a lane
+
+-- a quotient and a remainder, of one more
+next_quotient : (n m : ℕ) → 0 < n → (m % n + 1 < n → (suc m / n ≡ m / n) × (suc m % n ≡ m % n + 1)) × (m % n + 1 ≡ n → (suc m / n ≡ m / n + 1) × (suc m % n ≡ 0))
+next_quotient n m some =
+    let parts = mod-add-div' m n in
+    let rest = suc-mod m n in
+    let more = add-mul (m / n) 1 n in
+    let two = add-mul (m / n + 1) 1 n in (
+      (λ low. (
+        div-eq_of_lt-le n (omega (arith, parts)) (omega (arith, parts, more, low)),
+        rest ∙ (mod-eq_of_lt (omega (arith, low)) ∙ omega arith),
+      )),
+      (λ full. (
+        div-eq_of_lt-le n (omega (arith, parts, more, full)) (omega (arith, parts, more, two, full, some)),
+        rest ∙ (ap (λ r. r % n) (let z : suc (m % n) ≡ n = omega (arith, full) in z) ∙ mod_self n),
+      )),
+    )
+
+abbrev one_if : Bool → ℕ
+one_if b = cond b 1 0
+
+one_more_session : (k n m : ℕ) → k < n → suc m / n + one_if (ltb k (suc m % n)) ≡ m / n + one_if (ltb k (m % n)) + one_if (eqb (m % n) k)
+one_more_session k n m low =
+    let some : 0 < n = omega (arith, low) in
+    let next = next_quotient n m some in
+    let within : m % n < n = mod-lt m some in
+    dite (ℕ_discrete (m % n + 1) n)
+    (λ full.
+    let q = (next.1 full).0 in
+    let r = ap (λ x. one_if (ltb k x)) (next.1 full).1 ∙ ap one_if (le-ltb k 0 (omega arith)) in
+    dite (ℕ_discrete (m % n) k)
+    (λ last.
+    let hit = ap one_if (eq-eqb (m % n) k last) in
+    let not_yet = ap one_if (le-ltb k (m % n) (omega (arith, last))) in
+    omega (arith, q, r, hit, not_yet))
+    (λ other.
+    let miss = ap one_if (ne_eqb (m % n) k other) in
+    let before = ap one_if (lt-ltb k (m % n) (omega (arith, full, low, other))) in
+    omega (arith, q, r, miss, before)))
+    (λ more.
+    let room : m % n + 1 < n = omega (arith, within, more) in
+    let q = (next.0 room).0 in
+    let here = (next.0 room).1 in
+    dite (ℕ_discrete (m % n) k)
+    (λ last.
+    let r = ap (λ x. one_if (ltb k x)) here ∙ ap one_if (lt-ltb k (m % n + 1) (omega (arith, last))) in
+    let hit = ap one_if (eq-eqb (m % n) k last) in
+    let not_yet = ap one_if (le-ltb k (m % n) (omega (arith, last))) in
+    omega (arith, q, r, hit, not_yet))
+    (λ other.
+    let miss = ap one_if (ne_eqb (m % n) k other) in
+    dite (dec_lt k (m % n))
+    (λ before.
+    let r = ap (λ x. one_if (ltb k x)) here ∙ ap one_if (lt-ltb k (m % n + 1) (omega (arith, before))) in
+    let was = ap one_if (lt-ltb k (m % n) before) in
+    omega (arith, q, r, miss, was))
+    (λ after.
+    let high : m % n + 1 ≤ k = omega (arith, after, other) in
+    let r = ap (λ x. one_if (ltb k x)) here ∙ ap one_if (le-ltb k (m % n + 1) high) in
+    let was = ap one_if (le-ltb k (m % n) (omega (arith, high))) in
+    omega (arith, q, r, miss, was))))
+
+pub sessions_of-is : (k n m : ℕ) → k < n → sessions_of k n m ≡ m / n + one_if (ltb k (m % n))
+sessions_of-is k n zero low =
+    let q = zero-div n in
+    let r = ap (λ x. one_if (ltb k x)) (mod-eq_of_lt (let z : 0 < n = omega (arith, low) in z)) ∙ ap one_if (le-ltb k 0 (omega arith)) in
+    omega (arith, q, r)
+sessions_of-is k n (suc m) low =
+    let before = sessions_of-is k n m low in
+    let more = one_more_session k n m low in
+    omega (arith, before, more)
+
+pub sessions_of-within : (k n m : ℕ) → sessions_of k n m ≤ m
+sessions_of-within k n zero = omega arith
+sessions_of-within k n (suc m) = out (eqb (m % n) k) (sessions_of-within k n m)
+  where
+    out : (b : Bool) → sessions_of k n m ≤ m → sessions_of k n m + cond b 1 0 ≤ suc m
+    out true h = omega (arith, h)
+    out false h = omega (arith, h)

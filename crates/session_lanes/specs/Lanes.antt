@@ -1,19 +1,34 @@
 -- The lanes of a shift, and the sessions that put into each.
-use Rattle.std.specs.Prelude.{◌≡◌, ℕ, ◌+◌, ◌%◌, ◌<◌, ◌==◌, if◌then◌else◌, List, [], ◌∷◌, ◌++◌, length, slice_index_or}
+use Rattle.std.specs.Prelude.{◌≡◌, ℕ, ◌+◌, ◌*◌, ◌%◌, ◌<◌, ◌==◌, max, zero, suc, if◌then◌else◌, List, [], ◌∷◌, ◌++◌, length, slice_index_or}
 use Rattle.atomic_table.specs.Seated.{TableId}
 use Rattle.inbox.specs.declared.rule.Job.{Job}
 use Rattle.inbox.specs.Rules.{ALL_PARTS}
 use Rattle.inbox.specs.States.{PassState, new_pass}
 
--- which inbox a lane has, the pass that the shift keeps, and the passes that came back
+-- which inbox a lane has, how many jobs that holds at most, the pass that the shift keeps, and the passes that came back
 pub record LaneState : Type 0 where
   pub id : TableId
+  pub capacity : ℕ
   pub pass : PassState
   pub back : List PassState
 
 -- a lane as it is made
-abbrev pub new_lane : TableId → LaneState
-new_lane id = record { id = id; pass = new_pass id ALL_PARTS; back = [] }
+abbrev pub new_lane : TableId → ℕ → LaneState
+new_lane id capacity = record {
+  id = id;
+  capacity = capacity;
+  pass = new_pass id ALL_PARTS;
+  back = [];
+}
+
+-- how many of so many sessions fall to lane k: session i falls to lane i mod lanes
+abbrev pub sessions_of : ℕ → ℕ → ℕ → ℕ
+sessions_of k lanes zero = 0
+sessions_of k lanes (suc i) = sessions_of k lanes i + (if i % lanes == k then 1 else 0)
+
+-- sixteen jobs for each session that falls to lane k, and one at least
+abbrev pub lane_capacity : ℕ → ℕ → ℕ → ℕ
+lane_capacity k lanes sessions = max 1 (16 * sessions_of k lanes sessions)
 
 -- the pass of a thread, which has one part, with the jobs that it put and took
 abbrev pub thread_pass : TableId → List Job → List Job → PassState
@@ -49,6 +64,7 @@ of_lane k lanes i (x ∷ xs) =
 -- the lane handed out so many passes
 pub record HandsOut (old new : LaneState) (count : ℕ) : Type 0 where
   pub id : new.id ≡ old.id
+  pub capacity : new.capacity ≡ old.capacity
   pub back : new.back ≡ old.back
   pub put : new.pass.put ≡ old.pass.put
   pub taken : new.pass.taken ≡ old.pass.taken
@@ -57,6 +73,7 @@ pub record HandsOut (old new : LaneState) (count : ℕ) : Type 0 where
 -- the lane took these passes back
 pub record TakesBack (old new : LaneState) (passes : List PassState) : Type 0 where
   pub id : new.id ≡ old.id
+  pub capacity : new.capacity ≡ old.capacity
   pub pass : new.pass ≡ old.pass
   pub back : new.back ≡ old.back ++ passes
 

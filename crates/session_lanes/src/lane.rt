@@ -1,9 +1,9 @@
 //! The lanes: a queue of jobs for each worker.
-ghost use Rattle.std.specs.Prelude.{◌≡◌, ◌+◌, ◌%◌, ◌≤◌, [], ◌∷◌, ◌++◌, length, map, vec_len, sum_by, OnOk, OnErr, IfOk};
+ghost use Rattle.std.specs.Prelude.{◌≡◌, ◌+◌, ◌%◌, ◌<◌, ◌≤◌, [], ◌∷◌, ◌++◌, length, map, vec_len, sum_by, OnOk, OnErr, IfOk};
 ghost use Rattle.std.specs.List.{All};
 ghost use Rattle.inbox.specs.Rules.{ALL_PARTS};
 ghost use Rattle.inbox.specs.States.{new_pass, IsKeptBy};
-ghost use Rattle.session_lanes.specs.Lanes.{new_lane, IsPassOf, EachAt, of_lane, HandsOut, TakesBack, EachLane};
+ghost use Rattle.session_lanes.specs.Lanes.{new_lane, lane_capacity, IsPassOf, EachAt, of_lane, HandsOut, TakesBack, EachLane};
 
 use crate::ends::SessionStart;
 use crate::queues::JobQueue;
@@ -14,12 +14,9 @@ use std::marker::Model;
 use std::sync::Wait;
 use taf_codes::Memory;
 
-// How many jobs a lane holds at most.
-const MAX_JOBS: usize = 1024;
-
 /// A lane: its queue, the pass that the shift keeps, and the passes that came back.
 ///
-/// Contracts see it as its inbox and these passes.
+/// Contracts see it as its inbox, how many jobs that holds at most, and these passes.
 #[derive(Drop)]
 pub struct Lane {
     jobs: JobQueue,
@@ -33,7 +30,12 @@ impl Model for Lane {
 
     ghost Value = { LaneState };
 
-    ghost view = { λ l. record { id = l.jobs.id; pass = l.pass; back = l.back.items } };
+    ghost view = { λ l. record {
+      id = l.jobs.id;
+      capacity = l.jobs.capacity;
+      pass = l.pass;
+      back = l.back.items;
+    } };
 
     ghost invariant = { λ l. l.pass.inbox ≡ l.jobs.id };
 }
@@ -42,7 +44,7 @@ impl Lane {
     // A lane for so many jobs, whose pass has every part.
     pub(crate) fn new(rt: &impl Wait, alloc: Global, capacity: usize) -> Result<Lane, Memory>
         requires { (1 ≤ capacity) × (capacity ≤ 1024) }
-        ensures { IfOk result (λ l. l ≡ new_lane l.id) }
+        ensures { IfOk result (λ l. l ≡ new_lane l.id capacity) }
     {
         let (jobs, pass) = JobQueue::new(rt, alloc, capacity)?;
         Ok(Lane {
@@ -102,16 +104,27 @@ pub fn make_lanes(
 ) -> Result<Vec<Lane>, Memory>
     requires workers { (1 ≤ workers) × (workers ≤ 8) }
     requires sessions { sessions ≤ 64 }
-    ensures { IfOk result (λ v. (vec_len v ≡ workers) × EachAt (λ k l. l ≡ new_lane l.id) v.items) }
+    ensures { IfOk result (λ v. (vec_len v ≡ workers)
+        × EachAt (λ k l. l ≡ new_lane l.id (lane_capacity k workers sessions)) v.items) }
 {
     let mut lanes = Vec::new(alloc);
     for lane in 0..workers {
-        let own_sessions = sessions / workers + usize::from(lane < sessions % workers);
-        let capacity = (WINDOW * own_sessions).clamp(1, MAX_JOBS);
+        let capacity = capacity_of(lane, workers, sessions);
         let lane = Lane::new(rt, alloc, capacity)?;
         lanes.push(lane).map_err(|_| Memory)?;
     }
     Ok(lanes)
+}
+
+// How many jobs the sessions of a lane may have out, and one at least.
+fn capacity_of(lane: usize, workers: usize, sessions: usize) -> usize
+    requires lane { (lane < workers) × (workers ≤ 8) }
+    requires sessions { sessions ≤ 64 }
+    ensures value { result ≡ lane_capacity lane workers sessions }
+    ensures within { (1 ≤ result) × (result ≤ 1024) }
+{
+    let own_sessions = sessions / workers + usize::from(lane < sessions % workers);
+    (WINDOW * own_sessions).max(1)
 }
 
 /// Gives up to 64 sessions their numbers, in their order from 0, and session `i` a pass of lane `i mod n`, of one part, where `n`

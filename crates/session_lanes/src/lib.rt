@@ -12,11 +12,11 @@
 //!
 //! `specs/Ends.antt` says what the thread of a session gives back: how the session ended, by the lines that its reader had, the
 //! jobs that it gave out and what was put of them, with its tally. `specs/Lanes.antt` says which sessions fall to a lane, and what
-//! it handed out and took back.
+//! it handed out and took back, and how many jobs it holds at most.
 //!
-//! No contract says that a thread that waits is woken, nor what an [`AnswerQueue`] or an [`Opening`] holds. No thread spins:
-//! a worker whose lane is empty and a session that waits for answers let others run a few times, and then sleep until they are
-//! woken: a worker by the first job, and a session once all the answers that it waits for are there.
+//! No contract says that a thread that waits is woken, nor what an [`AnswerQueue`] or an [`Opening`] holds. A worker whose lane
+//! is empty and a session that waits for answers let others run a few times, and then sleep until they are woken: a worker by the
+//! first job, and a session once all the answers that it waits for are there.
 //!
 //! | part | what it has |
 //! |---|---|

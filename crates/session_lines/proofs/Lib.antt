@@ -1,4 +1,6 @@
+pub mod AnswerLemmas
 pub mod Common
+pub mod EndedLemmas
 pub mod EventLemmas
 pub mod JsonLemmas
 pub mod LockStepLemmas

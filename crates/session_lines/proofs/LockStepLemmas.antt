@@ -131,7 +131,7 @@ lock_step-line id answers lines line t e =
     fold-append (λ t line. transcript_after id answers t (meaning t.railway line)) new_transcript lines (line ∷ [])
     ∙ ap (λ u. transcript_after id answers u (meaning u.railway line)) e
 
-IsLockStep-line : (id : ℕ) (answers : Answers) (r : Run) (line : List ℕ) → IsLockStep id answers r → IsLockStep id answers (after_event r (LineRead line))
+pub IsLockStep-line : (id : ℕ) (answers : Answers) (r : Run) (line : List ℕ) → IsLockStep id answers r → IsLockStep id answers (after_event r (LineRead line))
 IsLockStep-line id answers r line l =
     let m = meaning r.state.railway line in
     let next : Run = stepped r line (sound_step r.state m) (after_sound r.state m) in
@@ -163,7 +163,7 @@ completed-front answers r (HeldLine line ∷ slots) e =
     ((λ i. r.output ++ slot_lines answers (r.state.job_count - jobs_out (e i)) (e i)) ∙ sym (append_assoc r.output (line ∷ []) (slot_lines answers (r.state.job_count - jobs_out slots) slots)))
     (λ i. tally_with_slots answers (r.state.job_count - jobs_out (e i)) r.state.tally (e i))
 
-IsLockStep-front : (id : ℕ) (answers : Answers) (r : Run) → IsLockStep id answers r → IsLockStep id answers (after_event r HeldLineTaken)
+pub IsLockStep-front : (id : ℕ) (answers : Answers) (r : Run) → IsLockStep id answers r → IsLockStep id answers (after_event r HeldLineTaken)
 IsLockStep-front id answers r l = record {
   named = l.named;
   same = l.same ∙ completed-front answers r r.state.slots refl;
@@ -219,7 +219,7 @@ with_answer-jobs_out s [] d e = omega arith
 with_answer-jobs_out s (JobOut call ∷ slots) d e = omega (arith, ap jobs_out e)
 with_answer-jobs_out s (HeldLine line ∷ slots) d e = omega arith
 
-IsLockStep-done : (id : ℕ) (answers : Answers) (r : Run) (d : Done) → IsLockStep id answers r → is_job_in_front r.state.slots ≡ true → is_own r.state d ≡ true → d.answer ≡ answers d.index → IsLockStep id answers (after_event r (DoneTaken d))
+pub IsLockStep-done : (id : ℕ) (answers : Answers) (r : Run) (d : Done) → IsLockStep id answers r → is_job_in_front r.state.slots ≡ true → is_own r.state d ≡ true → d.answer ≡ answers d.index → IsLockStep id answers (after_event r (DoneTaken d))
 IsLockStep-done id answers r d l out own answer =
     let s = r.state in
     let index : d.index + jobs_out s.slots ≡ s.job_count = search (tests, rules, and-right (d.session == s.id) (d.index + jobs_out s.slots == s.job_count) own) in

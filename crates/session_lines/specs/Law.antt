@@ -1,7 +1,8 @@
 -- The laws of sessions.
-use Rattle.std.specs.Prelude.{◌≡◌, ℕ, ◌+◌, false, List, length}
+use Rattle.std.specs.Prelude.{◌≡◌, ℕ, ◌+◌, false, List, length, count_by}
 use Rattle.session_lines.specs.States.{new_state, jobs_out}
 use Rattle.session_lines.specs.LockStep.{Answers, lock_step}
+use Rattle.session_lines.specs.Meanings.{is_answered}
 use Rattle.session_lines.specs.Runs.{Event, new_run, run_of, HasOwnDones, completed_transcript}
 use Rattle.session_lines.specs.Tallies.{own_dones, IsOwnTally}
 
@@ -23,3 +24,10 @@ TalliesAreOwn =
     × ((run_of id events).state.has_failed ≡ false
     → length (own_dones (new_run (new_state id)) events) + jobs_out (run_of id events).state.slots
     ≡ length (run_of id events).jobs)
+
+-- Whatever memory is refused, each line that is answered has one line that was said or one slot, unless a stranger came.
+abbrev pub EachLineIsAnswered : Type 0
+EachLineIsAnswered =
+    (id : ℕ) (events : List Event) → (run_of id events).state.has_failed ≡ false
+    → length (run_of id events).output + length (run_of id events).state.slots
+    ≡ count_by is_answered (run_of id events).input

@@ -1,5 +1,5 @@
 -- What a line means to a session.
-use Rattle.std.specs.Prelude.{ℕ, nat_lt, Bool, false, List, length, Option, Some, None, Result, Ok, Err, bytes_eq, codes, option_and_then, if◌then◌else◌}
+use Rattle.std.specs.Prelude.{ℕ, nat_lt, ◌||◌, not, Bool, false, List, length, Option, Some, None, Result, Ok, Err, bytes_eq, codes, option_and_then, if◌then◌else◌}
 use Rattle.std.specs.Str.{is_utf8}
 use Rattle.serde_json.specs.Data.{Data}
 use Rattle.serde_json.specs.Find.{get, as_str}
@@ -88,3 +88,7 @@ meaning railway line = meaning_by_length line (text_meaning railway line)
 -- what it means where memory is refused: a line that is too long, or blank, takes none
 abbrev pub meaning_without_memory : List ℕ → Meaning
 meaning_without_memory line = meaning_by_length line (Wrong (line_fault_text NoMemory))
+
+-- a line that is answered: each but a blank one that is not too long
+abbrev pub is_answered : List ℕ → Bool
+is_answered line = nat_lt 65536 (length line) || not (is_blank line)

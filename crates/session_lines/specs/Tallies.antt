@@ -1,8 +1,12 @@
 -- What the tally of a session has.
-use Rattle.std.specs.Prelude.{◌≡◌, ℕ, ◌+◌, if◌then◌else◌, List, [], ◌∷◌, ◌++◌}
+use Rattle.std.specs.Prelude.{◌≡◌, ℕ, ◌+◌, if◌then◌else◌, List, [], ◌∷◌, ◌++◌, Option, Some, None, Result, Err, slice_get}
+use Rattle.taf_messages.specs.declared.reply.Reply.{Reply}
+use Rattle.tallies.specs.declared.fault.HubFault.{HubFault}
+use Rattle.tallies.specs.declared.fault.HubFault.TheVariants.{Memory}
 use Rattle.tallies.specs.declared.tally.Told.{Told}
 use Rattle.inbox.specs.declared.rule.Job.{Job}
 use Rattle.session_lines.specs.declared.session.Done.{Done}
+use Rattle.session_lines.specs.LockStep.{Answers}
 use Rattle.session_lines.specs.States.{State}
 use Rattle.session_lines.specs.Steps.{is_job_in_front, is_own, with_entry}
 use Rattle.session_lines.specs.Runs.{Event, LineRead, LineReadWithoutMemory, DoneTaken, DoneTakenWithoutMemory, HeldLineTaken, Run, after_event}
@@ -22,6 +26,15 @@ own_done_in s HeldLineTaken = []
 abbrev pub own_dones : Run → List Event → List Done
 own_dones r [] = []
 own_dones r (e ∷ events) = own_done_in r.state e ++ own_dones (after_event r e) events
+
+-- the answer of a Done; where there is none, want of memory stands for it
+abbrev pub answer_of : Option Done → Result (ℕ × Reply) HubFault
+answer_of None = Err Memory
+answer_of (Some d) = d.answer
+
+-- the answers of Dones, by their places
+abbrev pub answers_of : List Done → Answers
+answers_of dones index = answer_of (slice_get dones index)
 
 -- a tally with the entries of jobs whose answers these Dones are, one after another
 abbrev pub tally_with : List Told → List Job → List Done → List Told

@@ -9,8 +9,8 @@
 //!
 //! What a line means is defined in `specs/Meanings.antt`, and what a session means in `specs/LockStep.antt`: there
 //! each job is answered before the next line. [`windows_are_lock_step`] says that lines and Dones may come mixed in
-//! any order and mean the same, and [`tallies_are_own`] that the tally of a session has exactly the answers to its
-//! own jobs.
+//! any order and mean the same, [`tallies_are_own`] that the tally of a session has exactly the answers to its own jobs, and
+//! [`each_line_is_answered`] that each line that is not blank has one answer.
 //!
 //! A session takes memory to read a line, for its slots before its first job, to keep a copy of each call whose job
 //! is out, for the tally, and for the lines that it says, but for those of a fault without a field. Where memory is
@@ -22,7 +22,7 @@
 //! | `fault`, `line` | the lines that are said |
 //! | `meaning` | what a line means to a session |
 //! | `session` | the session with its slots |
-//! | `law` | the laws of windows and of tallies |
+//! | `law` | the laws of windows, of tallies and of answers |
 #![tactic(auto)]
 
 mod fault;
@@ -32,6 +32,6 @@ mod meaning;
 mod session;
 
 pub use fault::LineFault;
-pub use law::{tallies_are_own, windows_are_lock_step};
+pub use law::{each_line_is_answered, tallies_are_own, windows_are_lock_step};
 pub use line::Line;
 pub use session::{Done, Session, Slot, Step, WINDOW};

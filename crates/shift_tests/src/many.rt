@@ -5,6 +5,7 @@ use crate::streams::{Reader, Writer, Written};
 use hub_shared::{Settled, settle};
 use hub_shifts::{OpenGate, SessionEnd, Shift, run_shift};
 use std::alloc::Global;
+use std::random::RandomSource;
 use std::sync::Wait;
 use std::test::*;
 use std::thread::Threads;
@@ -40,7 +41,7 @@ fn new_written(alloc: Global) -> Result<Vec<Written>, Fail> {
 }
 
 // Runs a session for each of these.
-fn run_all<R: Threads + Wait + Sync>(
+fn run_all<R: Threads + Wait + Sync + RandomSource>(
     rt: &R,
     alloc: Global,
     lines: &[u8],

@@ -6,6 +6,7 @@ use crate::streams::{Reader, Writer, Written};
 use hub_shifts::{OpenGate, SessionEnd, ShiftFault, run_shift};
 use memory_limit::MemoryLimit;
 use std::alloc::Global;
+use std::random::RandomSource;
 use std::sync::Wait;
 use std::test::*;
 use std::thread::Threads;
@@ -15,7 +16,7 @@ use test_scripts::Script;
 const STEP: usize = 64;
 
 // Why a shift of this session is refused with so much memory left. None where it is not.
-fn refusal<R: Threads + Wait + Sync>(
+fn refusal<R: Threads + Wait + Sync + RandomSource>(
     rt: &R,
     alloc: Global,
     memory_limit: &mut MemoryLimit,
@@ -30,7 +31,10 @@ fn refusal<R: Threads + Wait + Sync>(
 }
 
 // How many budgets are refused memory, before one is enough for all but the threads. No line is said.
-fn count_refused<R: Threads + Wait + Sync>(rt: &R, alloc: Global) -> Result<u32, Fail> {
+fn count_refused<R: Threads + Wait + Sync + RandomSource>(
+    rt: &R,
+    alloc: Global,
+) -> Result<u32, Fail> {
     let lines = Script::of(alloc, OF_FIRST)?.input;
     let written = Written::new(alloc);
     let mut memory_limit = MemoryLimit::new(alloc)?;
@@ -49,7 +53,7 @@ fn count_refused<R: Threads + Wait + Sync>(rt: &R, alloc: Global) -> Result<u32,
 }
 
 // Runs the session with ample memory. Fails unless it comes to its end and is said its lines.
-fn run_amply<R: Threads + Wait + Sync>(rt: &R, alloc: Global) -> Result<(), Fail> {
+fn run_amply<R: Threads + Wait + Sync + RandomSource>(rt: &R, alloc: Global) -> Result<(), Fail> {
     let Script { input, wanted } = Script::of(alloc, OF_FIRST)?;
     let written = Written::new(alloc);
     let reader = Reader::new(input.as_slice(), false);

@@ -8,6 +8,7 @@ use hub_shared::{Settled, settle};
 use hub_shifts::{Gate, OpenGate, SessionEnd, Shift, ShiftFault, run_shift};
 use session_serving::SessionFault;
 use std::alloc::Global;
+use std::random::RandomSource;
 use std::sync::Wait;
 use std::test::*;
 use std::thread::Threads;
@@ -73,7 +74,7 @@ struct Alone {
 }
 
 // Runs one session.
-fn run_one<G: Gate + Sync, R: Threads + Wait + Sync>(
+fn run_one<G: Gate + Sync, R: Threads + Wait + Sync + RandomSource>(
     rt: &R,
     alloc: Global,
     gate: &G,
@@ -117,7 +118,7 @@ const FAILING_AFTER_ITS_HELLO: Manner = Manner {
 };
 
 // Runs the two sessions.
-fn run_two<G: Gate + Sync, R: Threads + Wait + Sync>(
+fn run_two<G: Gate + Sync, R: Threads + Wait + Sync + RandomSource>(
     rt: &R,
     alloc: Global,
     gate: &G,

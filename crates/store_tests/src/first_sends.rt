@@ -17,11 +17,11 @@ fn note_new(seen: &mut Seen, by: Railway, number: u64, position: u32) -> Result<
     if seen.find(by, number).is_some() {
         return Ok(());
     }
-    seen.note(by, number, position)
+    seen.note(by, number, u64::from(position))
 }
 
 // Whether the name is found at this position, or nowhere.
-fn is_found(seen: &Seen, code: &str, number: u64, position: Option<u32>) -> Result<bool, Memory> {
+fn is_found(seen: &Seen, code: &str, number: u64, position: Option<u64>) -> Result<bool, Memory> {
     Ok(seen.find(railway(code)?, number_of(number)?) == position)
 }
 
@@ -30,13 +30,13 @@ fn note_reserved(seen: &mut Seen, by: Railway, number: u64, position: u32) -> Re
     let number = number_of(number)?;
     match seen.find_or_make_room(by, number)? {
         Some(_) => {}
-        None => seen.note_reserved(by, number, position),
+        None => seen.note_reserved(by, number, u64::from(position)),
     }
     Ok(())
 }
 
 // Whether the first number of R100 is found at this position, and that of R101 at the other.
-fn are_found(seen: &Seen, first: Option<u32>, other: Option<u32>) -> Result<bool, Memory> {
+fn are_found(seen: &Seen, first: Option<u64>, other: Option<u64>) -> Result<bool, Memory> {
     Ok(is_found(seen, "R100", 1, first)? && is_found(seen, "R101", 1, other)?)
 }
 
@@ -56,9 +56,9 @@ fn first_sends_are_found(rt: HostRuntime) -> Result<(), Fail> {
 static SENT: [u64; 10] = [5, 2, 6, 9, 7, 70, 1000, 999_999_999_999, 71, 1];
 
 // Where a number is first found among those that were sent.
-fn position_of(number: u64) -> Option<u32> {
+fn position_of(number: u64) -> Option<u64> {
     let position = SENT.iter().position(|one| *one == number)?;
-    Some(position as u32)
+    Some(position as u64)
 }
 
 // Notes the numbers that were sent at their positions.
@@ -106,8 +106,8 @@ fn fill(
 
 // Whether the numbers up to 100 are noted at their positions, and 101 is not.
 fn is_filled(seen: &Seen, by: Railway) -> Result<bool, Memory> {
-    for position in 0..100u32 {
-        if seen.find(by, number_of(u64::from(position) + 1)?) != Some(position) {
+    for position in 0..100u64 {
+        if seen.find(by, number_of(position + 1)?) != Some(position) {
             return Ok(false);
         }
     }

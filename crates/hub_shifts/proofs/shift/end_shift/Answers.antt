@@ -46,7 +46,7 @@ seat_sums worker_of seat_of f same (w ∷ ws) =
 -- the lanes at the end
 came_of : {W : Type 0} (own_of : W → PassState) (seat_of : W → SeatState) (items ts tw first mid : List LaneState) (served : List Served) (worked : List W)
     → first ≡ items → mid ≡ ts → length ts ≡ length items → length worked ≡ length items
-    → EachAt (λ k l. HandsOut (new_lane l.id) l (1 + length (of_lane k (length items) 0 served))) items
+    → EachAt (λ k l. HandsOut (new_lane l.id l.capacity) l (1 + length (of_lane k (length items) 0 served))) items
     → EachAt (λ i (r : Served). (d : LaneState) → r.pass ≡ thread_pass (get_or items (i % length items) d).id r.pass.put []) served
     → EachAt (λ k w. (d : LaneState) → IsWorked (new_pass (get_or items k d).id 1) (own_of w) (seat_of w)) worked
     → EachLane (λ k a b. TakesBack a b (of_lane k (length first) 0 (map pass_of served))) first ts
@@ -56,7 +56,7 @@ came_of own_of seat_of items ts tw first mid served worked start middle same man
     all_came own_of items ts tw (map pass_of served) worked same many
     (λ k d low.
     let alike = of_lane-alike k (length items) 0 served (map pass_of served) (sym (length-map served pass_of)) in
-    subst (λ m. HandsOut (new_lane (get_or items k d).id) (get_or items k d) (1 + m)) alike (outs k d low))
+    subst (λ m. HandsOut (new_lane (get_or items k d).id (get_or items k d).capacity) (get_or items k d) (1 + m)) alike (outs k d low))
     (EachAt-map pass_of (λ i (t : PassState). (d : LaneState) → t ≡ thread_pass (get_or items (i % length items) d).id t.put []) served hands)
     (λ k e low d. (owns k e low d).took_only)
     (subst (λ l. EachLane (λ k a b. TakesBack a b (of_lane k (length l) 0 (map pass_of served))) l ts) start sessions)
@@ -68,7 +68,7 @@ close-hub-requires g c =
     let parts : SeatState → ℕ = λ s. s.parts in
     let worked = c.args.back.worked.items in
     let seats : c.push.new.self.items ≡ map seat_of worked ++ c.args.to_close.seat ∷ [] = (let a : c.push.new.self.items ≡ c.in_ok-seats.seats.items ++ c.args.to_close.seat ∷ [] = search rules in a ∙ ap (λ l. l ++ c.args.to_close.seat ∷ []) c.in_ok-seats.ensures.seats) in
-    let each : All (λ s. parts s ≡ 1) (map seat_of worked) = All-map (λ s. parts s ≡ 1) seat_of worked (λ k e low. (c.requires.worked.1 k e low (new_lane no_inbox)).one) in
+    let each : All (λ s. parts s ≡ 1) (map seat_of worked) = All-map (λ s. parts s ≡ 1) seat_of worked (λ k e low. (c.requires.worked.1 k e low (new_lane no_inbox 0)).one) in
     let sums = ones parts (map seat_of worked) each in
     let long = length-map worked seat_of in
     let split = sum_by-append parts (map seat_of worked) (c.args.to_close.seat ∷ []) in
@@ -163,7 +163,7 @@ returns g c =
           let inside : i < length starts = omega (arith, long, low) in
           let s = c.requires.served.1 i p.0 p.1 inside in
           subst (λ q. IsOfSession i (kept_of q)) (sym (get_or-zip starts served i p inside (omega (arith, inside, same)))) (record { ended = s.ended; own_jobs = s.own_jobs }));
-      makes_calls = EachAt-map worker_of (λ k w. MakesCalls w) worked (λ k w low few. let made = (c.requires.worked.1 k w low (new_lane no_inbox)).made few in omega (arith, made));
+      makes_calls = EachAt-map worker_of (λ k w. MakesCalls w) worked (λ k w low few. let made = (c.requires.worked.1 k w low (new_lane no_inbox 0)).made few in omega (arith, made));
       calls =
           let sum = c.close-hub.ensures.sum in
           let all : sum_by count c.push.new.self.items ≡ sum_by count (map seat_of worked ++ c.args.to_close.seat ∷ []) = ap (λ l. sum_by count l) seats in
@@ -185,7 +185,7 @@ returns g c =
           let at : k < length worked = (let a = length-map worked worker_of in omega (arith, a, low)) in
           let in_items : k < length items = omega (arith, at, many) in
           let e = some_item worked (omega (arith, at)) in
-          let l = new_lane no_inbox in
+          let l = new_lane no_inbox 0 in
           let own = own_of (get_or worked k e) in
           let all = came_kept k (length items) (map pass_of served) own (get_or items k l) (get_or tw k l) (get_or left k []) (came k l e in_items) (closed.1 k l [] (omega (arith, in_items, len_tw, len_ts))) in
           let puts : map put_of (map pass_of served) ≡ put_lists (map kept_of both) = map-map put_of pass_of served ∙ (of_back (λ (r : Served). r.pass.put) starts served same ∙ sym (map-map (λ (x : SessionState). x.put) kept_of both)) in

@@ -51,7 +51,9 @@ end_shift-requires-clause-lanes g c =
     λ k l low.
     let known = c.in_ok-lanes.ensures.lanes k l low in
     let alike = of_lane-alike k c.args.setup.workers 0 sessions served (sym c.in_ok-back.ensures.served.0) in
-    subst (λ m. HandsOut (new_lane (get_or lanes.items k l).id) (get_or lanes.items k l) (1 + m)) (alike ∙ ap (λ n. length (of_lane k n 0 served)) (sym size)) known
+    let lane = get_or lanes.items k l in
+    subst (λ m. HandsOut (new_lane lane.id lane.capacity) lane (1 + m)) (alike ∙ ap (λ n. length (of_lane k n 0 served)) (sym size))
+    (subst (λ n. HandsOut (new_lane lane.id n) lane (1 + length (of_lane k c.args.setup.workers 0 sessions))) (sym known.capacity) known)
 
 pub end_shift-requires-clause-starts : goal.end_shift-requires-clause-starts
 end_shift-requires-clause-starts g c =

@@ -3,7 +3,7 @@ use Rattle.replay_numbers.proofs.seen.Seen.note.Goals as goal
 
 pub note_reserved-requires-clause-new : goal.note_reserved-requires-clause-new
 note_reserved-requires-clause-new c =
-    ap (λ (found : Railway → ℕ → Option ℕ). found c.args.by c.args.number) c.find_or_make_room.ensures.positions ∙ c.requires
+    ap (λ (found : Railway → ℕ → Option ℕ). found c.args.by c.args.number) c.find_or_make_room.ensures.positions ∙ c.requires.new
 
 pub returns-clause-finds : goal.returns-clause-finds
 returns-clause-finds c = λ also other.
