@@ -203,14 +203,25 @@ def free_port():
         return server.getsockname()[1]
 
 
+def start_server():
+    """The program, which serves a session, and the port: the first of ten free ones that nobody else takes meanwhile."""
+    for _ in range(10):
+        port = free_port()
+        arguments = [TOP / "taf", "serve", "--port", str(port), "--sessions", "1"]
+        server = subprocess.Popen(arguments, stdout=subprocess.DEVNULL, stderr=subprocess.PIPE)
+        said = server.stderr.readline()
+        if said.startswith(b"listening"):
+            return server, port
+        server.communicate()
+    sys.exit(f"schema: the program does not listen: {said}")
+
+
 def serve(lines):
     """The program's answers to the lines of a session."""
-    port = free_port()
-    arguments = [TOP / "taf", "serve", "--port", str(port), "--sessions", "1"]
-    with subprocess.Popen(arguments, stdout=subprocess.DEVNULL, stderr=subprocess.PIPE) as server:
+    server, port = start_server()
+    with server:
         limit = threading.Timer(SECONDS, server.kill)
         limit.start()
-        need(server.stderr.readline().startswith(b"listening"), "the program does not listen")
         with socket.create_connection(("127.0.0.1", port)) as session:
             session.sendall(b"".join(line + b"\n" for line in lines))
             session.shutdown(socket.SHUT_WR)
