@@ -1,5 +1,5 @@
 -- What the lanes have once all passes came back.
-use Rattle.hub_shifts.proofs.Common.{◌≡◌, ℕ, suc, zero, ◌+◌, ◌%◌, ◌<◌, eq-eqb, ne_eqb, cond, List, [], ◌∷◌, ◌++◌, length, map, get_or, sum_by, refl, sym, ap, ◌∙◌, subst, arith, append_assoc, All, map-append, length-map, All-nil, All-cons, All-head, All-tail, All-push, All-weaker, sum_by-append, sum_by-cons, Job, ALL_PARTS, IsKept, PassState, IsKeptBy, LaneState, new_lane, thread_pass, EachAt, of_lane, HandsOut, TakesBack, EachLane, of_lane-map, LaneIsKept}
+use Rattle.hub_shifts.proofs.Common.{◌≡◌, ℕ, suc, zero, ◌+◌, ◌%◌, ◌<◌, ◌≤◌, eq-eqb, ne_eqb, cond, List, [], ◌∷◌, ◌++◌, length, map, get_or, sum_by, refl, sym, ap, ◌∙◌, subst, arith, append_assoc, length-append, All, map-append, length-map, All-nil, All-cons, All-head, All-tail, All-push, All-weaker, sum_by-append, sum_by-cons, Job, ALL_PARTS, IsKept, PassState, IsKeptBy, LaneState, new_lane, thread_pass, EachAt, of_lane, HandsOut, TakesBack, EachLane, of_lane-map, of_lane-fits, LaneIsKept}
 use mathlib.Core.Logic.{dite}
 use native.Mathlib.Decide.{ℕ_discrete}
 
@@ -131,3 +131,11 @@ came_kept k lanes ps own before after left c kept =
     let idle = All-weaker (λ (t : PassState). t ≡ thread_pass before.id t.put []) (λ (t : PassState). t.taken ≡ []) (λ t is. ap (λ (u : PassState). u.taken) is) hands c.hands in
     lane_kept k lanes ps own after.pass after.back left c.back idle (ap (λ (u : PassState). u.put) c.own_is)
     (ap (λ (t : PassState). t.put) c.pass ∙ c.out.put) (ap (λ (t : PassState). t.taken) c.pass ∙ c.out.taken) kept
+
+-- so few came back to a lane
+pub came_few : (k lanes : ℕ) (ps : List PassState) (own : PassState) (before after : LaneState) → Came k lanes ps own before after → length after.back ≤ length ps + 1
+came_few k lanes ps own before after c =
+    let size = ap (λ (l : List PassState). length l) c.back in
+    let long = length-append (of_lane k lanes 0 ps) (own ∷ []) in
+    let fits = of_lane-fits k lanes 0 ps in
+    omega (arith, size, long, fits)

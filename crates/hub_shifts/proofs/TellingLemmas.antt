@@ -1,5 +1,5 @@
 -- What the tally of a session tells, and what follows where the tallies tell the history.
-use Rattle.hub_shifts.proofs.Common.{◌≡◌, ◌≢◌, ℕ, zero, suc, ◌+◌, ◌<◌, Bool, true, false, List, [], ◌∷◌, ◌++◌, map, length, get_or, slice_get, Option, Some, None, Result, Ok, Err, is_ok, refl, sym, ap, ◌∙◌, subst, rules, tests, arith, append-nil, length-append, length-map, get_or_append_left, get_or_push, count_by, All, All-head, All-tail, Call, Job, Done, State, new_state, jobs_out, Slot, Run, new_run, run, own_dones, lock_step, answers_of, line_fault_text, NoMemory, with_entry, tally_with, IsOwnTally, IsOwnTally-run, all_answered, each_line_is_answered, ended_in_step, is_answered, Told, TallyState, StandsIn, IsTold, told_in_order, HubFault, Reply, Entry, SessionFault, sends_all, Complete, end_of, Streams, Shift, SessionState, IsOfSession, IsShift, TellsOwnJobs, TellsHistory, IsInOrder}
+use Rattle.hub_shifts.proofs.Common.{◌≡◌, ◌≢◌, ℕ, zero, suc, Bool, true, false, List, [], ◌∷◌, ◌++◌, length, get_or, slice_get, Option, Some, None, Result, Ok, Err, is_ok, refl, sym, ap, ◌∙◌, subst, rules, tests, arith, append-nil, length-append, length-map, get_or_append_left, get_or_push, count_by, All, All-head, All-tail, Call, Job, Done, State, new_state, jobs_out, Slot, Run, new_run, run, own_dones, lock_step, answers_of, line_fault_text, NoMemory, with_entry, tally_with, IsOwnTally, IsOwnTally-run, all_answered, each_line_is_answered, ended_in_step, is_answered, Told, TallyState, StandsIn, IsTold, told_in_order, HubFault, Reply, Entry, SessionFault, sends_all, Complete, end_of, Streams, Shift, SessionState, IsOfSession, IsShift, TellsOwnJobs, TellsHistory, IsInOrder}
 use Rattle.hub_shifts.proofs.KeptLemmas.{read_map}
 
 record WasWhole (served : Result (Unit {0}) SessionFault) (has_failed : Bool) : Type 0 where

@@ -1,6 +1,10 @@
 -- What the threads give back, by what they began with.
-use Rattle.hub_shifts.proofs.Common.{Result, Ok, Err, IfOk, ◌≡◌, ℕ, ◌<◌, List, [], ◌∷◌, ◌++◌, length, get_or, ◌∙◌, subst, sym, arith, PassState, EachAt, EachPair, EachPair-push}
+use Rattle.hub_shifts.proofs.Common.{tests, Bool, true, false, ◌≡◌, ℕ, ◌<◌, List, [], ◌∷◌, ◌++◌, length, get_or, ◌∙◌, subst, sym, arith, PassState, EachAt, EachPair, EachPair-push}
 use Rattle.hub_shifts.proofs.KeptLemmas.{some_item}
+
+pub never_both : {A : Type 0} (b : Bool) → b ≡ true → b ≡ false → A
+never_both true is other = absurd (search (tests, other))
+never_both false is other = absurd (search (tests, is))
 
 -- from what the threads began with, by their handles, to what they gave back
 pub through : {X H R : Type 0} (A : ℕ → X → Type 0) (P : ℕ → X → H → Type 0) (Q : ℕ → H → R → Type 0) (S : ℕ → X → R → Type 0)
@@ -18,11 +22,6 @@ through A P Q S f xs (h ∷ hs) rs a p q = (
 -- one more thread, whose handle comes last
 pub another_handle : {X H : Type 0} (P : ℕ → X → H → Type 0) (xs : List X) (x : X) (old new : List H) → EachPair P xs old → (h : H) × (new ≡ old ++ h ∷ []) × P (length xs) x h → EachPair P (xs ++ x ∷ []) new
 another_handle P xs x old new each last = subst (EachPair P (xs ++ x ∷ [])) (sym last.1) (EachPair-push P xs old x last.0 each last.2)
-
--- of two facts of an Ok a third
-pub if_ok_two : {T E : Type 0} (A B C : T → Type 0) → ((b : T) → A b → B b → C b) → (r : Result T E) → IfOk r A → IfOk r B → IfOk r C
-if_ok_two A B C f (Ok b) x y = f b x y
-if_ok_two A B C f (Err e) x y = tt
 
 -- what the threads gave back, by the passes that they began with
 pub each_given : {A B C : Type 0} (S : ℕ → PassState → B → Type 0) (pass_of : A → PassState) (began : ℕ → C → PassState) (starts : List A) (back : List B)

@@ -1,3 +1,4 @@
 pub mod Laws
+pub mod Room
 pub mod Shifts
 pub mod Starts

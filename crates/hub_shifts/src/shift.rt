@@ -5,6 +5,7 @@ ghost use Rattle.session_lanes.specs.Lanes.{new_lane, EachAt, EachPair, of_lane,
 ghost use Rattle.session_lanes.specs.Ends.{IsServed, streams_of};
 ghost use Rattle.hub_shared.specs.Seats.{new_seat};
 ghost use Rattle.hub_workers.specs.Work.{IsWorked};
+ghost use Rattle.hub_shifts.specs.Room.{HasRoomFor};
 ghost use Rattle.hub_shifts.specs.Shifts.{IsShift};
 ghost use Rattle.hub_shifts.specs.declared.shift.ShiftFault.TheVariants as faults;
 
@@ -16,6 +17,7 @@ use inbox::Left;
 use seeded_state::SeededState;
 use session_lanes::{
     AnswerQueue, Lane, Opening, Outcomes, SessionEnd, SessionStart, close_lanes, take_sessions,
+    with_room,
 };
 use std::alloc::Global;
 use std::marker::Brand;
@@ -64,10 +66,10 @@ impl From<Memory> for ShiftFault {
 /// own.
 ///
 /// Session `i` is served by worker `i mod workers`. It returns once each session has come to its end and the workers have
-/// made all calls that were left, so it waits for the readers. No session begins before all threads are there: where one
-/// can't be started the others end at once, and the answer is [`ShiftFault::Thread`]. After either fault no thread is left,
-/// there is no hub, and after [`ShiftFault::Memory`] lines may have been answered. A session that ends by a fault gives its
-/// tally all the same.
+/// made all calls that were left, so it waits for the readers. All memory that the shift takes for itself is taken before the
+/// first thread starts: where it is refused, the answer is [`ShiftFault::Memory`]. No session begins before all threads are there:
+/// where one can't be started the others end at once, and the answer is [`ShiftFault::Thread`]. After either fault no line was read,
+/// no thread is left, and there is no hub. A session that ends by a fault gives its tally all the same.
 ///
 /// A session that has no answer to write sleeps until all its jobs that are out are answered. So a gate that holds one of them
 /// until the reply to another of the same session was written holds both for ever.
@@ -146,33 +148,59 @@ where
         opening: &opening,
     };
     let starts = Snapshot::of(&sessions);
+    let room = Room::new(alloc, sessions.len(), workers.len())?;
     let back = run_threads::<L, S, K, G, R>(rt, alloc, context, sessions, workers)?;
     let to_close = ToClose {
         starts,
         lanes,
         hub,
         seat,
+        room,
     };
-    let shift = end_shift(rt, alloc, to_close, back)?;
-    Ok(shift)
+    Ok(end_shift(rt, to_close, back))
 }
 
-// What a shift closes at its end: its lanes, and the hub, by the seat that it kept. Only contracts read what its sessions began
-// with.
+// The lists that a shift fills at its end.
+#[derive(Drop)]
+struct Room<L: Ledger> {
+    outcomes: Outcomes,
+    seats: Vec<Seat<L>>,
+    left: Vec<Left>,
+}
+
+impl<L: Ledger> Room<L> {
+    // Empty lists with room for so many sessions and workers, and for the seat that the shift kept.
+    fn new(alloc: Global, sessions: usize, workers: usize) -> Result<Room<L>, Memory>
+        requires few { workers ≤ 8 }
+        ensures { IfOk result (HasRoomFor sessions workers) }
+    {
+        let outcomes = Outcomes::with_room(alloc, sessions)?;
+        let seats = with_room(alloc, workers + 1)?;
+        let left = with_room(alloc, workers)?;
+        Ok(Room {
+            outcomes,
+            seats,
+            left,
+        })
+    }
+}
+
+// What a shift closes at its end: its lanes, and the hub, by the seat that it kept; and the lists for what comes of it. Only
+// contracts read what its sessions began with.
 struct ToClose<L: Ledger, S, K> {
     starts: Snapshot<Vec<SessionStart<S, K>>>,
     lanes: Vec<Lane>,
     hub: SharedHub<L>,
     seat: Seat<L>,
+    room: Room<L>,
 }
 
-// Closes the hub and the lanes, once all threads have ended.
+// Closes the hub and the lanes, once all threads have ended. It takes no memory.
 fn end_shift<L: Ledger, S: Source, K: Sink>(
     rt: &impl Wait,
-    alloc: Global,
     to_close: ToClose<L, S, K>,
     back: Back<L>,
-) -> Result<Shift, Memory>
+) -> Shift
     requires some { (1 ≤ length to_close.lanes.items) × (length to_close.lanes.items ≤ 8) }
     requires lanes { let lanes = to_close.lanes.items in EachAt (λ k l.
         HandsOut (new_lane l.id l.capacity) l
@@ -187,33 +215,39 @@ fn end_shift<L: Ledger, S: Source, K: Sink>(
         r.pass r.seat) back.worked.items }
     requires seat { (to_close.seat ≡ new_seat 1)
         × (L.parts ≡ length to_close.lanes.items + 1) }
-    ensures { IfOk result (λ s. IsShift (map (λ s. streams_of (S.remaining s.reader)
-        (K.contents s.writer)) to_close.starts.value.items) (length to_close.lanes.items) s) }
+    requires few { vec_len back.served ≤ 64 }
+    requires room { HasRoomFor (vec_len back.served) (vec_len to_close.lanes) to_close.room }
+    ensures { IsShift (map (λ s. streams_of (S.remaining s.reader) (K.contents s.writer))
+        to_close.starts.value.items) (length to_close.lanes.items) result }
 {
     let ToClose {
         starts: _,
         lanes,
         hub,
         seat,
+        room,
     } = to_close;
+    let Room {
+        outcomes,
+        seats,
+        left,
+    } = room;
     let Back { served, worked } = back;
     let mut lanes = lanes;
-    let Outcomes { ends, tallies } = take_sessions(alloc, lanes.as_mut_slice(), served)?;
-    let mut seats = take_workers(alloc, lanes.as_mut_slice(), worked)?;
-    if seats.push(seat).is_err() {
-        return Err(Memory);
-    }
+    let Outcomes { ends, tallies } = take_sessions(lanes.as_mut_slice(), served, outcomes);
+    let mut seats = take_workers(lanes.as_mut_slice(), worked, seats);
+    seats.push_reserved(seat);
     let refused = add_refused(seats.as_slice());
     let (hub, sum) = hub.close(seats);
-    let left = close_lanes(rt, alloc, lanes)?;
-    Ok(Shift {
+    let left = close_lanes(rt, lanes, left);
+    Shift {
         hub,
         sum,
         refused,
         ends,
         tallies,
         left,
-    })
+    }
 }
 
 // A queue of answers for each session.

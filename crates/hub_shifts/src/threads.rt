@@ -1,7 +1,8 @@
 //! The threads of a shift.
-ghost use Rattle.std.specs.Prelude.{◌≡◌, ◌≤◌, [], length, vec_len, vec_capacity, IfOk};
+ghost use Rattle.std.specs.Prelude.{◌≡◌, [], length, vec_len, IfOk};
 ghost use Rattle.session_lanes.specs.Lanes.{EachPair};
 ghost use Rattle.session_lanes.specs.Ends.{IsServed};
+ghost use Rattle.session_lanes.specs.Room.{IsEmptyWithRoom};
 ghost use Rattle.hub_shared.specs.Seats.{new_seat};
 ghost use Rattle.hub_workers.specs.Work.{IsWorked};
 ghost use Rattle.hub_shifts.specs.Starts.{CanBegin};
@@ -10,13 +11,15 @@ use crate::promises::{ServedBy, WorkedBy};
 use crate::shift::ShiftFault;
 use hub_shared::SharedHub;
 use hub_workers::{Gate, Worker, WorkerContext, work};
-use session_lanes::{AnswerQueue, Lane, Opening, Served, SessionContext, SessionStart, serve};
+use session_lanes::{
+    AnswerQueue, Lane, Opening, Served, SessionContext, SessionStart, serve, with_room,
+};
 use std::alloc::Global;
 use std::snapshot::Snapshot;
 use std::sync::Wait;
 use std::sync::ledger::Ledger;
 use std::thread;
-use std::thread::{PromisedHandle, Threads};
+use std::thread::{Promise, PromisedHandle, Threads};
 use taf_codes::{Memory, Sink, Source};
 
 // What the threads of a shift are lent.
@@ -36,8 +39,21 @@ pub(crate) struct Back<L: Ledger> {
     pub worked: Vec<Worker<L>>,
 }
 
+impl<L: Ledger> Back<L> {
+    // Empty lists with room for so many sessions and workers.
+    fn with_room(alloc: Global, sessions: usize, workers: usize) -> Result<Back<L>, Memory>
+        ensures served { IfOk result (λ b. IsEmptyWithRoom b.served sessions) }
+        ensures worked { IfOk result (λ b. IsEmptyWithRoom b.worked workers) }
+    {
+        let served = with_room(alloc, sessions)?;
+        let worked = with_room(alloc, workers)?;
+        Ok(Back { served, worked })
+    }
+}
+
 // Runs a thread for each worker and each session, and joins them. Once a thread is started nothing returns before all are
-// joined. The closure captures all of it at one lifetime, so its two loops stand in one function.
+// joined, and memory is refused before the first one starts or not at all. The closure captures all of it at one lifetime, so
+// its two loops stand in one function.
 pub(crate) fn run_threads<'x, L, S, K, G, R>(
     rt: &'x R,
     alloc: Global,
@@ -72,13 +88,14 @@ where
         rt,
         move |scope| -> Result<Back<L>, ShiftFault>
             requires { CanBegin lanes.now (length answers.now) sessions.items workers.items
-                × (serving.items ≡ []) × (vec_len sessions ≤ vec_capacity serving)
-                × (working.items ≡ []) × (vec_len workers ≤ vec_capacity working) }
+                × IsEmptyWithRoom serving (vec_len sessions)
+                × IsEmptyWithRoom working (vec_len workers) }
             ensures { IfOk result
                 (λ b. EachPair (IsServed S.remaining K.contents) sessions.items b.served.items
                 × EachPair (λ k s r. IsWorked s.pass r.pass r.seat) workers.items b.worked.items) }
         {
             let (mut serving, mut working) = (serving, working);
+            let room = Back::with_room(alloc, sessions.len(), workers.len())?;
             let mut all_started = true;
             let mut lane = 0;
             for start in workers {
@@ -133,9 +150,9 @@ where
                 place += 1;
             }
             opening.decide(all_started);
-            let back = join_all(rt, serving, working, lanes, answers);
+            let back = join_all(rt, serving, working, lanes, room);
             if all_started {
-                back
+                Ok(back)
             } else {
                 Err(ShiftFault::Thread)
             }
@@ -143,52 +160,48 @@ where
     )
 }
 
-// Joins the sessions, ends the workers, and joins them. Want of memory is the only error.
+// Joins the sessions, ends the workers, and joins them, into lists with room for them. It takes no memory.
 fn join_all<L: Ledger, S: Source, K: Sink, R: Threads>(
     rt: &R,
     serving: Vec<PromisedHandle<Served, ServedBy<S, K>>>,
     working: Vec<PromisedHandle<Worker<L>, WorkedBy>>,
     lanes: &[Lane],
-    answers: &[AnswerQueue],
-) -> Result<Back<L>, ShiftFault>
-    ensures served { IfOk result (λ b. EachPair (λ i h r. IsServed S.remaining K.contents
-        h.promise.start.value.session h.promise.start.value r) serving.items b.served.items) }
-    ensures worked { IfOk result (λ b. EachPair
-        (λ k h r. IsWorked h.promise.began.value r.pass r.seat) working.items b.worked.items) }
+    room: Back<L>,
+) -> Back<L>
+    requires served { IsEmptyWithRoom room.served (vec_len serving) }
+    requires worked { IsEmptyWithRoom room.worked (vec_len working) }
+    ensures served { EachPair (λ i h r. IsServed S.remaining K.contents
+        h.promise.start.value.session h.promise.start.value r) serving.items result.served.items }
+    ensures worked { EachPair (λ k h r. IsWorked h.promise.began.value r.pass r.seat)
+        working.items result.worked.items }
 {
-    let served = thread::join_promised(rt, serving).ok();
-    if served.is_none() {
-        end_answers(answers);
-    }
+    let Back { served, worked } = room;
+    let served = join_each(rt, serving, served);
     end_jobs(lanes);
-    let worked = thread::join_promised(rt, working).ok();
-    match (served, worked) {
-        (Some(served), Some(worked)) => Ok(Back { served, worked }),
-        _ => Err(ShiftFault::Memory),
-    }
+    let worked = join_each(rt, working, worked);
+    Back { served, worked }
 }
 
-// No answer comes any more: a session that waits for one ends.
-fn end_answers(answers: &[AnswerQueue]) {
-    for queue in answers {
-        queue.end();
+// Joins each thread, in their order, and puts what it gives into a list with room for all.
+fn join_each<T: Drop, P: Promise<T>, R: Threads>(
+    rt: &R,
+    handles: Vec<PromisedHandle<T, P>>,
+    joined: Vec<T>,
+) -> Vec<T>
+    requires { IsEmptyWithRoom joined (vec_len handles) }
+    ensures { EachPair (λ k h r. P.kept_by h.promise r) handles.items result.items }
+{
+    let mut joined = joined;
+    for handle in handles {
+        joined.push_reserved(handle.join(rt));
     }
+    joined
 }
 
 // No job comes any more: a worker that finds its lane empty ends.
 fn end_jobs(lanes: &[Lane]) {
     for lane in lanes {
         lane.jobs().end();
-    }
-}
-
-// A list with room for so many items.
-fn with_room<T>(alloc: Global, count: usize) -> Result<Vec<T>, Memory>
-    ensures { IfOk result (λ v. (v.items ≡ []) × (count ≤ vec_capacity v)) }
-{
-    match Vec::with_capacity(alloc, count) {
-        Ok(room) => Ok(room),
-        Err(_) => Err(Memory),
     }
 }
 

@@ -1,12 +1,14 @@
 //! What the sessions gave back, and the end of the lanes.
-ghost use Rattle.std.specs.Prelude.{◌≡◌, ◌+◌, ◌≤◌, [], ◌∷◌, ◌++◌, length, map, sum_by, IfOk};
+ghost use Rattle.std.specs.Prelude.{◌≡◌, ◌+◌, ◌<◌, ◌≤◌, [], ◌∷◌, ◌++◌, length, map, vec_len, sum_by, IfOk};
 ghost use Rattle.std.specs.List.{All};
 ghost use Rattle.inbox.specs.Rules.{ALL_PARTS};
 ghost use Rattle.inbox.specs.States.{IsKeptBy};
 ghost use Rattle.session_lanes.specs.Lanes.{EachAt, EachPair, of_lane, TakesBack, EachLane};
+ghost use Rattle.session_lanes.specs.Room.{IsEmptyWithRoom};
 
 use crate::ends::{Served, SessionEnd};
 use crate::lane::Lane;
+use crate::room::with_room;
 use inbox::Left;
 use std::alloc::Global;
 use std::sync::Wait;
@@ -20,42 +22,57 @@ pub struct Outcomes {
     pub tallies: Vec<Tally>,
 }
 
-/// Takes the sessions' passes back into their lanes, and gives how they ended and their tallies. Want of memory is the only
-/// error.
-pub fn take_sessions(
-    alloc: Global,
-    lanes: &mut [Lane],
-    served: Vec<Served>,
-) -> Result<Outcomes, Memory>
-    requires { 1 ≤ length lanes.old }
-    ensures ends { IfOk result (λ o. o.ends.items ≡ map (λ s. s.end) served.items) }
-    ensures tallies { IfOk result (λ o. o.tallies.items ≡ map (λ s. s.tally) served.items) }
-    ensures lanes { IfOk result (λ o. EachLane (λ k before after. TakesBack before after
-        (of_lane k (length lanes.old) 0 (map (λ s. s.pass) served.items))) lanes.old lanes.new) }
+impl Outcomes {
+    /// Empty lists with room for so many sessions. Want of memory is the only error.
+    pub fn with_room(alloc: Global, sessions: usize) -> Result<Outcomes, Memory>
+        ensures ends { IfOk result (λ o. IsEmptyWithRoom o.ends sessions) }
+        ensures tallies { IfOk result (λ o. IsEmptyWithRoom o.tallies sessions) }
+    {
+        let ends = with_room(alloc, sessions)?;
+        let tallies = with_room(alloc, sessions)?;
+        Ok(Outcomes { ends, tallies })
+    }
+}
+
+/// Takes the passes of up to 64 sessions back into their lanes, to which none came back yet, and gives how they ended and their
+/// tallies, in the lists that have room for them. It takes no memory.
+pub fn take_sessions(lanes: &mut [Lane], served: Vec<Served>, outcomes: Outcomes) -> Outcomes
+    requires some { 1 ≤ length lanes.old }
+    requires few { vec_len served ≤ 64 }
+    requires none { EachAt (λ k l. l.back ≡ []) lanes.old }
+    requires ends { IsEmptyWithRoom outcomes.ends (vec_len served) }
+    requires tallies { IsEmptyWithRoom outcomes.tallies (vec_len served) }
+    ensures ends { result.ends.items ≡ map (λ s. s.end) served.items }
+    ensures tallies { result.tallies.items ≡ map (λ s. s.tally) served.items }
+    ensures lanes { EachLane (λ k before after. TakesBack before after
+        (of_lane k (length lanes.old) 0 (map (λ s. s.pass) served.items))) lanes.old lanes.new }
 {
-    let (mut ends, mut tallies) = (Vec::new(alloc), Vec::new(alloc));
+    let Outcomes { ends, tallies } = outcomes;
+    let (mut ends, mut tallies) = (ends, tallies);
     for back in served {
         let Served { end, tally, pass } = back;
         let lane = tallies.len() % lanes.len();
-        lanes[lane].take_back(pass)?;
-        ends.push(end).map_err(|_| Memory)?;
-        tallies.push(tally).map_err(|_| Memory)?;
+        lanes[lane].take_back(pass);
+        ends.push_reserved(end);
+        tallies.push_reserved(tally);
     }
-    Ok(Outcomes { ends, tallies })
+    Outcomes { ends, tallies }
 }
 
-/// Closes each lane, once all passes came back, and gives what each still held. Want of memory is the only error.
-pub fn close_lanes(rt: &impl Wait, alloc: Global, lanes: Vec<Lane>) -> Result<Vec<Left>, Memory>
+/// Closes each lane, once all passes came back, and puts what each still held into a list that has room for it. It takes no
+/// memory.
+pub fn close_lanes(rt: &impl Wait, lanes: Vec<Lane>, left: Vec<Left>) -> Vec<Left>
     requires own { EachAt (λ k l. All (λ p. p.inbox ≡ l.id) l.back) lanes.items }
     requires parts { EachAt (λ k l. sum_by (λ p. p.parts) l.back + l.pass.parts ≡ ALL_PARTS)
         lanes.items }
-    ensures { IfOk result (λ v. EachPair (λ k l left. IsKeptBy (l.back ++ l.pass ∷ []) left)
-        lanes.items v.items) }
+    requires few { EachAt (λ k l. length l.back < 66) lanes.items }
+    requires left { IsEmptyWithRoom left (vec_len lanes) }
+    ensures { EachPair (λ k l left. IsKeptBy (l.back ++ l.pass ∷ []) left)
+        lanes.items result.items }
 {
-    let mut all = Vec::new(alloc);
+    let mut all = left;
     for lane in lanes {
-        let left = lane.close(rt)?;
-        all.push(left).map_err(|_| Memory)?;
+        all.push_reserved(lane.close(rt));
     }
-    Ok(all)
+    all
 }

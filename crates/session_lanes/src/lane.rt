@@ -1,5 +1,5 @@
 //! The lanes: a queue of jobs for each worker.
-ghost use Rattle.std.specs.Prelude.{◌≡◌, ◌+◌, ◌%◌, ◌<◌, ◌≤◌, [], ◌∷◌, ◌++◌, length, map, vec_len, sum_by, OnOk, OnErr, IfOk};
+ghost use Rattle.std.specs.Prelude.{◌≡◌, ◌+◌, ◌%◌, ◌<◌, ◌≤◌, [], ◌∷◌, ◌++◌, length, map, vec_len, sum_by, IfOk};
 ghost use Rattle.std.specs.List.{All};
 ghost use Rattle.inbox.specs.Rules.{ALL_PARTS};
 ghost use Rattle.inbox.specs.States.{new_pass, IsKeptBy};
@@ -7,6 +7,7 @@ ghost use Rattle.session_lanes.specs.Lanes.{new_lane, lane_capacity, IsPassOf, E
 
 use crate::ends::SessionStart;
 use crate::queues::JobQueue;
+use crate::room::with_room;
 use inbox::{Left, Pass};
 use session_lines::WINDOW;
 use std::alloc::Global;
@@ -14,9 +15,13 @@ use std::marker::Model;
 use std::sync::Wait;
 use taf_codes::Memory;
 
+// The passes for which a lane has room.
+const PASSES: usize = 66;
+
 /// A lane: its queue, the pass that the shift keeps, and the passes that came back.
 ///
-/// Contracts see it as its inbox, how many jobs that holds at most, and these passes.
+/// Contracts see it as its inbox, how many jobs that holds at most, and these passes. It has room for 66 passes that came back
+/// from the start: those of 64 sessions, the worker's and its own.
 #[derive(Drop)]
 pub struct Lane {
     jobs: JobQueue,
@@ -25,7 +30,7 @@ pub struct Lane {
 }
 
 impl Model for Lane {
-    ghost use Rattle.std.specs.Prelude.{◌≡◌};
+    ghost use Rattle.std.specs.Prelude.{◌≡◌, ◌≤◌, vec_capacity};
     ghost use Rattle.session_lanes.specs.Lanes.{LaneState};
 
     ghost Value = { LaneState };
@@ -37,7 +42,7 @@ impl Model for Lane {
       back = l.back.items;
     } };
 
-    ghost invariant = { λ l. l.pass.inbox ≡ l.jobs.id };
+    ghost invariant = { λ l. (l.pass.inbox ≡ l.jobs.id) × (66 ≤ vec_capacity l.back) };
 }
 
 impl Lane {
@@ -47,11 +52,8 @@ impl Lane {
         ensures { IfOk result (λ l. l ≡ new_lane l.id capacity) }
     {
         let (jobs, pass) = JobQueue::new(rt, alloc, capacity)?;
-        Ok(Lane {
-            jobs,
-            pass,
-            back: Vec::new(alloc),
-        })
+        let back = with_room(alloc, PASSES)?;
+        Ok(Lane { jobs, pass, back })
     }
 
     /// Its queue.
@@ -70,27 +72,25 @@ impl Lane {
         self.jobs.split_pass(rt, &mut self.pass)
     }
 
-    /// Keeps a pass that came back, behind those that it has. Want of memory is the only error: then the pass is lost, and the
-    /// lane is as it was.
-    pub fn take_back(&mut self, pass: Pass) -> Result<(), Memory>
-        ensures ok { OnOk result (TakesBack self.old self.new (pass ∷ [])) }
-        ensures err { OnErr result (self.new ≡ self.old) }
+    /// Keeps a pass that came back, behind those that it has, which are fewer than 66. It takes no memory.
+    pub fn take_back(&mut self, pass: Pass)
+        requires room { length self.old.back < 66 }
+        ensures { TakesBack self.old self.new (pass ∷ []) }
     {
-        self.back.push(pass).map_err(|_| Memory)
+        self.back.push_reserved(pass);
     }
 
-    // What the lane still held.
-    pub(crate) fn close(self, rt: &impl Wait) -> Result<Left, Memory>
+    // What the lane still held. It takes no memory.
+    pub(crate) fn close(self, rt: &impl Wait) -> Left
         requires own { All (λ p. p.inbox ≡ self.id) self.back }
         requires parts { sum_by (λ p. p.parts) self.back + self.pass.parts ≡ ALL_PARTS }
-        ensures { IfOk result (λ left. IsKeptBy (self.back ++ self.pass ∷ []) left) }
+        requires room { length self.back < 66 }
+        ensures { IsKeptBy (self.back ++ self.pass ∷ []) result }
     {
         let Lane { jobs, pass, back } = self;
         let mut passes = back;
-        if passes.push(pass).is_err() {
-            return Err(Memory);
-        }
-        Ok(jobs.close(rt, passes))
+        passes.push_reserved(pass);
+        jobs.close(rt, passes)
     }
 }
 

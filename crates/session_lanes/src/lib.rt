@@ -12,7 +12,8 @@
 //!
 //! `specs/Ends.antt` says what the thread of a session gives back: how the session ended, by the lines that its reader had, the
 //! jobs that it gave out and what was put of them, with its tally. `specs/Lanes.antt` says which sessions fall to a lane, and what
-//! it handed out and took back, and how many jobs it holds at most.
+//! it handed out and took back, and how many jobs it holds at most. Once the first thread may start, nothing here takes memory but
+//! what the sessions themselves take: a lane has room for its passes, and what is taken back goes into lists that have room for it.
 //!
 //! No contract says that a thread that waits is woken, nor what an [`AnswerQueue`] or an [`Opening`] holds. A worker whose lane
 //! is empty and a session that waits for answers let others run a few times, and then sleep until they are woken: a worker by the
@@ -24,6 +25,7 @@
 //! | `port` | a session's way to its worker |
 //! | `ends` | what the thread of a session begins with and gives back |
 //! | `session` | what the thread of a session is lent, and what it does |
+//! | `room` | lists with room, made before the threads start |
 //! | `lane`, `closing` | lanes: how passes are handed out and taken back, and how lanes are closed |
 #![tactic(auto)]
 
@@ -32,10 +34,12 @@ mod ends;
 mod lane;
 mod port;
 mod queues;
+mod room;
 mod session;
 
 pub use closing::{Outcomes, close_lanes, take_sessions};
 pub use ends::{Served, SessionEnd, SessionStart};
 pub use lane::{Lane, make_lanes, start_sessions};
 pub use queues::{AnswerQueue, JobQueue, Opening};
+pub use room::with_room;
 pub use session::{SessionContext, serve};

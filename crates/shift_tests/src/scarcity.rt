@@ -1,13 +1,14 @@
-//! Each growth of a shift before its first thread refused in turn, and then the threads themselves.
+//! Each growth of a shift before its first thread refused in turn, then the threads themselves, and then each growth after the
+//! first read.
 
 use crate::lines::OF_FIRST;
-use crate::shifts::boxed;
-use crate::streams::{Reader, Writer, Written};
+use crate::shifts::{boxed, is_told};
+use crate::streams::{LimitingReader, Reader, Writer, Written};
 use hub_shifts::{OpenGate, SessionEnd, ShiftFault, run_shift};
 use memory_limit::MemoryLimit;
 use std::alloc::Global;
 use std::random::RandomSource;
-use std::sync::Wait;
+use std::sync::{Mutex, Wait};
 use std::test::*;
 use std::thread::Threads;
 use test_scripts::Script;
@@ -72,4 +73,43 @@ fn run_amply<R: Threads + Wait + Sync + RandomSource>(rt: &R, alloc: Global) -> 
 fn each_growth_before_the_threads_is_refused_in_turn(rt: HostRuntime) -> Result<(), Fail> {
     assert!(rt; count_refused(&rt, rt.alloc())? > 4);
     run_amply(&rt, rt.alloc())
+}
+
+// Runs the session with so much memory left from its first read on, and tells whether it was said its lines and came to its
+// end. Fails where the shift does not end well, or where its tally does not tell its history.
+fn is_served_with<R: Threads + Wait + Sync + RandomSource>(
+    rt: &R,
+    alloc: Global,
+    memory_limit: &Mutex<MemoryLimit>,
+    left: usize,
+) -> Result<bool, Fail> {
+    let Script { input, wanted } = Script::of(alloc, OF_FIRST)?;
+    let written = Written::with_room(alloc, wanted.len())?;
+    let reader = Reader::new(input.as_slice(), false);
+    let reader = LimitingReader::new(rt, reader, memory_limit, left);
+    let writer = Writer::new(rt, &written, usize::MAX);
+    let sessions = Vec::from_array(alloc, [(reader, writer)])?;
+    let shift = run_shift(rt, alloc, &OpenGate, sessions, 1);
+    memory_limit.lock(rt).release();
+    let shift = boxed(alloc, shift)?;
+    if !is_told(alloc, &shift) {
+        return Err(Fail::new("not settled"));
+    }
+    let is_complete = shift.ends.as_slice() == [SessionEnd::Complete].as_slice();
+    Ok(is_complete && written.is(rt, wanted.as_slice()))
+}
+
+#[test]
+fn each_growth_after_the_first_read_is_refused_in_turn(rt: HostRuntime) -> Result<(), Fail> {
+    let alloc = rt.alloc();
+    let memory_limit = Mutex::new(MemoryLimit::new(alloc)?);
+    let mut refused = 0u32;
+    for step in 0..10_000usize {
+        if is_served_with(&rt, alloc, &memory_limit, step * STEP)? {
+            assert!(rt; refused > 4);
+            return Ok(());
+        }
+        refused = refused.saturating_add(1);
+    }
+    Err(Fail::new("always refused"))
 }

@@ -23,11 +23,14 @@ pub(crate) fn boxed(alloc: Global, shift: Result<Shift, ShiftFault>) -> Result<B
     }
 }
 
+/// Whether the tallies tell the history of the shift.
+pub(crate) fn is_told(alloc: Global, shift: &Shift) -> bool {
+    settle(alloc, &shift.hub, shift.tallies.as_slice()) == Ok(Settled { calls: shift.sum })
+}
+
 // Whether so many calls were made and settle, and none met a fault.
 fn is_settled(alloc: Global, shift: &Shift, calls: u64) -> bool {
-    shift.sum == calls
-        && shift.refused == 0
-        && settle(alloc, &shift.hub, shift.tallies.as_slice()) == Ok(Settled { calls })
+    shift.sum == calls && shift.refused == 0 && is_told(alloc, shift)
 }
 
 // Whether no lane holds a job.

@@ -2,7 +2,8 @@
 ghost use Rattle.std.specs.Prelude.{None};
 ghost use Rattle.taf_codes.specs.Counting.{count};
 
-use std::alloc::Global;
+use memory_limit::MemoryLimit;
+use std::alloc::{AllocError, Global};
 use std::sync::atomic::{AtomicU64, Ordering};
 use std::sync::{Mutex, Wait};
 use taf_codes::{Failed, Failures, Sink, Source};
@@ -51,6 +52,46 @@ impl Source for Reader<'_> {
     }
 }
 
+/// A reader that limits the memory at its first read.
+#[derive(Drop)]
+pub(crate) struct LimitingReader<'r, 'a, R: Wait> {
+    rt: &'r R,
+    reader: Reader<'a>,
+    memory_limit: &'a Mutex<MemoryLimit>,
+    // How many bytes it leaves, until it has.
+    left: Option<usize>,
+}
+
+impl<'r, 'a, R: Wait> LimitingReader<'r, 'a, R> {
+    pub(crate) fn new(
+        rt: &'r R,
+        reader: Reader<'a>,
+        memory_limit: &'a Mutex<MemoryLimit>,
+        left: usize,
+    ) -> LimitingReader<'r, 'a, R> {
+        LimitingReader {
+            rt,
+            reader,
+            memory_limit,
+            left: Some(left),
+        }
+    }
+}
+
+impl<R: Wait> Source for LimitingReader<'_, '_, R> {
+    ghost remaining = { λ _. None };
+
+    ghost failures = { λ s. count s.reader.failed };
+
+    fn pull(&mut self, buf: &mut [u8]) -> Result<usize, Failed> {
+        if let Some(left) = self.left.take() {
+            // Where it can't leave so little, the session is served, and too few budgets are refused.
+            let _ = self.memory_limit.lock(self.rt).limit_to(left);
+        }
+        self.reader.pull(buf)
+    }
+}
+
 /// What the writer of a session took, for other threads to see.
 #[derive(Drop)]
 pub(crate) struct Written {
@@ -64,6 +105,14 @@ impl Written {
             bytes: Mutex::new(Vec::new(alloc)),
             lines: AtomicU64::new(0),
         }
+    }
+
+    /// The same, with room for so many bytes.
+    pub(crate) fn with_room(alloc: Global, bytes: usize) -> Result<Written, AllocError> {
+        Ok(Written {
+            bytes: Mutex::new(Vec::with_capacity(alloc, bytes)?),
+            lines: AtomicU64::new(0),
+        })
     }
 
     /// How many lines were taken.

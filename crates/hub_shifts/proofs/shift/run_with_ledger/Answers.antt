@@ -1,4 +1,4 @@
-use Rattle.hub_shifts.proofs.Common.{rules, arith, ap, sym, subst, ◌∙◌, ◌≡◌, ◌+◌, ◌%◌, List, length, map, get_or, PassState, new_pass, SessionStart, LaneState, EachAt, EachPair, new_lane, of_lane, HandsOut, Streams, streams_of, IsServed, of_lane-alike, Worker, IsWorked, CanBegin, IsShift}
+use Rattle.hub_shifts.proofs.Common.{rules, arith, ap, sym, subst, ◌∙◌, ◌≡◌, ◌+◌, ◌%◌, List, length, map, vec_len, get_or, PassState, new_pass, SessionStart, LaneState, EachAt, EachPair, new_lane, of_lane, HandsOut, Streams, streams_of, IsServed, of_lane-alike, Worker, IsWorked, CanBegin, IsShift}
 use mathlib.Core.List.{map-map}
 use Rattle.hub_shifts.proofs.ThreadLemmas.{each_given}
 use Rattle.hub_shifts.proofs.shift.run_with_ledger.Goals as goal
@@ -66,6 +66,27 @@ end_shift-requires-clause-starts g c =
     let kept : c.of-starts.result.value.items ≡ starts = search rules in
     subst (λ l. EachAt (λ i (s : SessionStart g.row.S.Denot g.row.K.Denot). (d : LaneState) → s.pass ≡ new_pass (get_or lanes.items (i % length lanes.items) d).id 1) l) (sym kept) known
 
+pub end_shift-requires-clause-few : goal.end_shift-requires-clause-few
+end_shift-requires-clause-few g c =
+    let back = c.in_ok-back.back.served.ok.0 in
+    let same = c.in_ok-back.ensures.served.0 in
+    let starts = c.in_ok-lanes.field-0.sessions.ok.0 in
+    let counted = c.in_ok-lanes.ensures.counts.2 in
+    let few = c.requires.sessions.1 in
+    omega (arith, back, same, starts, counted, few)
+
+pub end_shift-requires-clause-room : goal.end_shift-requires-clause-room
+end_shift-requires-clause-room g c =
+    let room = c.in_ok-room.ensures in
+    let back = c.in_ok-back.back.served.ok.0 in
+    let same = c.in_ok-back.ensures.served.0 in
+    let starts = c.in_ok-lanes.field-0.sessions.ok.0 in
+    let served : vec_len c.in_ok-lanes.field-0.sessions ≡ vec_len c.in_ok-back.back.served = omega (arith, back, same, starts) in
+    let workers = c.in_ok-lanes.ensures.counts.1 in
+    let lanes = c.in_ok-lanes.ensures.counts.0 in
+    let many : vec_len c.in_ok-lanes.field-0.workers ≡ vec_len c.in_ok-lanes.field-0.lanes = omega (arith, workers, lanes) in
+    search (rules, room, served, many)
+
 pub end_shift-requires-clause-served : goal.end_shift-requires-clause-served
 end_shift-requires-clause-served g c =
     let kept : c.of-starts.result.value.items ≡ c.in_ok-lanes.field-0.sessions.items = search rules in
@@ -96,5 +117,5 @@ returns g c =
     let kept : c.of-starts.result.value.items ≡ starts = search rules in
     let given : map of_start c.of-starts.result.value.items ≡ map of_ends c.args.setup.sessions.items =
     ap (λ l. map of_start l) kept ∙ (sym (map-map of_ends ends_of starts) ∙ ap (λ l. map of_ends l) c.in_ok-lanes.ensures.ends) in
-    subst (λ n. IsShift (map of_ends c.args.setup.sessions.items) n c.in_ok-shift.shift) size
-    (subst (λ l. IsShift l (length lanes.items) c.in_ok-shift.shift) given c.in_ok-shift.ensures)
+    subst (λ n. IsShift (map of_ends c.args.setup.sessions.items) n c.end_shift.result) size
+    (subst (λ l. IsShift l (length lanes.items) c.end_shift.result) given c.end_shift.ensures)

@@ -1,11 +1,11 @@
 use Rattle.hub_shifts.proofs.Common.{rules, arith, ap, sym, refl, subst, true, ◌∙◌, ◌≡◌, ℕ, ◌+◌, ◌%◌, ◌≤◌, [], ◌∷◌, ◌++◌, length, length-append, vec_len, vec_capacity, map-id, YieldsList-turn, YieldsList-end, YieldsList-from_vec, PromisedHandle, PassState, SessionStart, Served, IsPassOf, EachPair, IsServed, new_seat, ServedBy, Worker, WorkedBy, IsWorked}
-use Rattle.hub_shifts.proofs.ThreadLemmas.{through, another_handle, if_ok_two}
+use Rattle.hub_shifts.proofs.ThreadLemmas.{through, another_handle, never_both}
 use Rattle.hub_shifts.proofs.threads.fn.run_threads.scope.Goals as goal
 use Rattle.hub_shifts.proofs.threads.fn.run_threads.scope.Goals.{in-Ok, in-Err, in-Ok-spawn_with, in-Err-spawn_with}
 
 pub loop-start-init : goal.loop-start-init
 loop-start-init g c =
-    let none = c.requires.3 in
+    let none = c.requires.2.empty in
     let long = c.captures.working.ok.0 in
     let empty : length c.captures.working.items ≡ 0 = ap length none in
     (refl, omega (arith, empty, long), refl, λ yes. (empty, λ k d e low. absurd (omega (arith, low))))
@@ -43,7 +43,7 @@ push_reserved-requires g c =
     let turn = (YieldsList-turn (YieldsList-from_vec c.captures.workers.items c.into_iter-start-iterator.ensures.into_iter_gives.0 (c.into_iter-start-iterator.ensures.into_iter_gives.1 ∙ c.captures.workers.ok.0)) c.loop-start.yielded c.loop-start.start-iterator c.loop-start.yielded_by c.next.result c.next.new.self c.in-Some.start c.in-Some.is c.next.ensures.steps).0 in
     let short = c.loop-start.invariant.1 in
     let same = c.loop-start.invariant.2 in
-    let room = c.requires.4 in
+    let room = c.requires.2.room in
     let listed = c.captures.workers.ok.0 in
     omega (arith, turn, short, same, room, listed)
 
@@ -65,7 +65,7 @@ loop-start-preserved g c =
     × (c.match-spawn_with.all_started ≡ true → (c.loop-start.all_started ≡ true) × ((h : Handle) × (c.match-spawn_with.working.items ≡ c.loop-start.working.items ++ h ∷ []) × (h.promise.began.value ≡ start.pass))) =
     elim c.match-spawn_with.branch [
       | in-Ok w ↦ (search rules, search rules, λ yes. (search rules, (w.in-Ok.thread, search rules, search rules)))
-      | in-Err w ↦ (search rules, search rules, λ yes. absurd (cc (w.all_started-is, yes)))
+      | in-Err w ↦ (search rules, search rules, λ yes. never_both c.match-spawn_with.all_started yes w.all_started-is)
     ] in
     let at = c.loop-start.invariant.0 in
     let short = c.loop-start.invariant.1 in
@@ -81,7 +81,7 @@ loop-start-preserved g c =
 
 pub loop-start-2-init : goal.loop-start-2-init
 loop-start-2-init g c =
-    let none = c.requires.1 in
+    let none = c.requires.1.empty in
     let long = c.captures.serving.ok.0 in
     let empty : length c.captures.serving.items ≡ 0 = ap length none in
     (refl, omega (arith, empty, long), refl, λ yes. (yes, (empty, λ k d e low. absurd (omega (arith, low)))))
@@ -120,7 +120,7 @@ push_reserved-requires-in-Ok-spawn_with g c =
     let turn = (YieldsList-turn (YieldsList-from_vec c.captures.sessions.items c.into_iter-start-iterator-2.ensures.into_iter_gives.0 (c.into_iter-start-iterator-2.ensures.into_iter_gives.1 ∙ c.captures.sessions.ok.0)) c.loop-start-2.yielded c.loop-start-2.start-iterator c.loop-start-2.yielded_by c.next-in-loop-start-2.result c.next-in-loop-start-2.new.self c.in-Some-start.start c.in-Some-start.is c.next-in-loop-start-2.ensures.steps).0 in
     let short = c.loop-start-2.invariant.1 in
     let same = c.loop-start-2.invariant.2 in
-    let room = c.requires.2 in
+    let room = c.requires.1.room in
     let listed = c.captures.sessions.ok.0 in
     omega (arith, turn, short, same, room, listed)
 
@@ -141,7 +141,7 @@ loop-start-2-preserved g c =
     × (c.match-spawn_with-3.all_started ≡ true → (c.loop-start-2.all_started ≡ true) × ((h : Handle) × (c.match-spawn_with-3.serving.items ≡ c.loop-start-2.serving.items ++ h ∷ []) × (h.promise.start.value ≡ start))) =
     elim c.match-spawn_with-3.branch [
       | in-Ok-spawn_with w ↦ (search rules, search rules, λ yes. (search rules, (w.in-Ok-spawn_with.thread, search rules, search rules)))
-      | in-Err-spawn_with w ↦ (search rules, search rules, λ yes. absurd (cc (w.all_started-is, yes)))
+      | in-Err-spawn_with w ↦ (search rules, search rules, λ yes. never_both c.match-spawn_with-3.all_started yes w.all_started-is)
     ] in
     let at = c.loop-start-2.invariant.0 in
     let short = c.loop-start-2.invariant.1 in
@@ -157,6 +157,24 @@ loop-start-2-preserved g c =
           (old.0, another_handle P yielded start c.loop-start-2.serving.items c.match-spawn_with-3.serving.items old.1 (kept.2 yes).1),
     )
 
+-- so many threads at most are joined as there is room for
+pub join_all-back-requires : goal.join_all-back-requires
+join_all-back-requires g c =
+    let posted : c.loop-start.yielded ≡ c.captures.workers.items = sym (map-id c.loop-start.yielded) ∙ (YieldsList-end (YieldsList-from_vec c.captures.workers.items c.into_iter-start-iterator.ensures.into_iter_gives.0 (c.into_iter-start-iterator.ensures.into_iter_gives.1 ∙ c.captures.workers.ok.0)) c.loop-start.yielded c.loop-start.start-iterator c.loop-start.yielded_by c.next.result c.next.new.self c.in-None.is c.next.ensures.steps).0 in
+    let seated : c.loop-start-2.yielded ≡ c.captures.sessions.items = sym (map-id c.loop-start-2.yielded) ∙ (YieldsList-end (YieldsList-from_vec c.captures.sessions.items c.into_iter-start-iterator-2.ensures.into_iter_gives.0 (c.into_iter-start-iterator-2.ensures.into_iter_gives.1 ∙ c.captures.sessions.ok.0)) c.loop-start-2.yielded c.loop-start-2.start-iterator c.loop-start-2.yielded_by c.next-in-loop-start-2.result c.next-in-loop-start-2.new.self c.in-None-start.is c.next-in-loop-start-2.ensures.steps).0 in
+    let all_workers = ap (λ l. length l) posted in
+    let all_sessions = ap (λ l. length l) seated in
+    let few = c.loop-start.invariant.1 in
+    let served_few = c.loop-start-2.invariant.1 in
+    let workers = c.captures.workers.ok.0 in
+    let sessions = c.captures.sessions.ok.0 in
+    let room = c.in_ok-room.ensures.served.room in
+    let worked_room = c.in_ok-room.ensures.worked.room in
+    record {
+      served = record { empty = c.in_ok-room.ensures.served.empty; room = omega (arith, all_sessions, served_few, sessions, room) };
+      worked = record { empty = c.in_ok-room.ensures.worked.empty; room = omega (arith, all_workers, few, workers, worked_room) };
+    }
+
 -- at the end the handles are those of all workers and all sessions
 pub returns-then-all_started : goal.returns-then-all_started
 returns-then-all_started g c =
@@ -171,8 +189,9 @@ returns-then-all_started g c =
     let Keeps : ℕ → Seat → Served → Type 0 = IsServed g.S.Source.remaining g.K.Sink.contents in
     let AS : ℕ → Seat → Type 0 = λ i s. s.session ≡ i in
     let both = c.loop-start-2.invariant.3 c.if-all_started.true in
-    if_ok_two _ _ _
-    (λ b served worked.
+    let served = c.join_all-back.ensures.served in
+    let worked = c.join_all-back.ensures.worked in
+    let b = c.join_all-back.result in
     let handles : EachPair PS c.captures.sessions.items c.loop-start-2.serving.items = subst (λ l. EachPair PS l c.loop-start-2.serving.items) seated both.1 in
     let hands : EachPair PW c.captures.workers.items c.loop-start.working.items = subst (λ l. EachPair PW l c.loop-start.working.items) posted (c.loop-start.invariant.3 both.0) in (
       through AS PS (λ i h r. Keeps h.promise.start.value.session h.promise.start.value r) Keeps
@@ -181,5 +200,4 @@ returns-then-all_started g c =
       through (λ k s. Unit {0}) PW (λ k h r. IsWorked h.promise.began.value r.pass r.seat) (λ k s r. IsWorked s.pass r.pass r.seat)
           (λ k s h r a p q. subst (λ t. IsWorked t r.pass r.seat) p q)
           c.captures.workers.items c.loop-start.working.items b.worked.items (λ k d low. tt) hands worked,
-    ))
-    c.join_all-back.result c.join_all-back.ensures.served c.join_all-back.ensures.worked
+    )
