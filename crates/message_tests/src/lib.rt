@@ -35,3 +35,5 @@ mod plans;
 mod records;
 #[cfg(test)]
 mod replies;
+#[cfg(test)]
+mod written_calls;

@@ -6,3 +6,4 @@ pub mod FieldLemmas
 pub mod MessageLemmas
 pub mod Utf8Lemmas
 pub mod SpeltLemmas
+mod CallLemmas

@@ -1,4 +1,5 @@
 pub mod Shapes
 pub mod RecordShapes
 pub mod ReplyShapes
+pub mod CallShapes
 pub mod Laws

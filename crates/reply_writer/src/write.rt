@@ -6,6 +6,7 @@ ghost use Rattle.serde_json.specs.Written.{compact_text, outline};
 ghost use Rattle.json_tokens.specs.Texts.{AreSmall};
 ghost use Rattle.reply_writer.specs.ReplyShapes.{reply_data, item_data, fault_data};
 ghost use Rattle.reply_writer.specs.RecordShapes.{record_data};
+ghost use Rattle.reply_writer.specs.CallShapes.{call_data};
 ghost use Rattle.taf_messages.specs.declared.fault.RecordFault.TheVariants.{Memory as NoMemory};
 
 use crate::accepted::append_accepted;
@@ -14,7 +15,7 @@ use json_tokens::{Buffer, Writer};
 use std::alloc::Global;
 use std::mem;
 use taf_codes::Memory;
-use taf_messages::{Item, Record, RecordFault, Reply};
+use taf_messages::{Call, Item, Record, RecordFault, Reply};
 
 /// The text of a reply.
 pub fn write_reply(alloc: Global, reply: &Reply) -> Result<Vec<u8>, Memory>
@@ -61,6 +62,15 @@ pub fn append_reply(alloc: Global, out: &mut Buffer, reply: &Reply) -> Result<()
         Reply::Accepted { no } => append_accepted(out, *no),
         _ => append(alloc, out, reply),
     }
+}
+
+/// Appends the text of a call: the record by which a railway makes it. Where memory is refused, nothing is appended.
+pub fn append_call(alloc: Global, out: &mut Buffer, call: &Call) -> Result<(), Memory>
+    ensures ok { OnOk result (out.new.items ≡ out.old.items
+        ++ compact_text (call_data call.now)) }
+    ensures err { OnErr result (out.new.items ≡ out.old.items) }
+{
+    append(alloc, out, call)
 }
 
 /// Appends the text of a record's fault. Where memory is refused, nothing is appended.
