@@ -55,7 +55,7 @@ call_is_read (calls.Ack by item) h =
     (after _ by _ _ (from d by refl h.0) (after _ item _ _ (good_field (value_of.number 0 999_999_999_999) field.Item d (whole item) item refl (number_read 0 999_999_999_999 item h.1)) refl))
 
 -- its keys are in byte order, and it nests seven deep at most
-call_ordered : (n : ℕ) (call : Call) → is_ordered (call_data call) (suc (suc (suc n))) ≡ true
+pub call_ordered : (n : ℕ) (call : Call) → is_ordered (call_data call) (suc (suc (suc n))) ≡ true
 unfolding call_fields deviation_fields
 call_ordered n (calls.Send m) = message_ordered n m
 call_ordered n (calls.Ask by wagon) = refl
@@ -65,7 +65,7 @@ call_ordered n (calls.Fetch by limit) = refl
 call_ordered n (calls.Ack by item) = refl
 
 -- its texts are UTF-8
-call_spelt : (call : Call) → IsCall call → HasTexts (call_data call)
+pub call_spelt : (call : Call) → IsCall call → HasTexts (call_data call)
 unfolding call_fields deviation_fields
 call_spelt (calls.Send m) h = message_spelt m h
 call_spelt (calls.Ask by wagon) h = (refl, utf8-railway by h.0, (refl, IsUtf8-are_ascii _ refl, (refl, utf8-wagon wagon h.1, tt)))

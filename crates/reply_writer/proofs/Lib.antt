@@ -6,4 +6,5 @@ pub mod FieldLemmas
 pub mod MessageLemmas
 pub mod Utf8Lemmas
 pub mod SpeltLemmas
-mod CallLemmas
+pub mod CallLemmas
+pub mod CallKeptLemmas

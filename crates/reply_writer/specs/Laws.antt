@@ -56,6 +56,10 @@ IsCall (calls.Ack by item) = (is_railway by ≡ true) × IsBetween 0 999_999_999
 abbrev pub CallsAreReadBack : Type 0
 CallsAreReadBack = (call : Call) → IsCall call → IsReadAs (compact_text (call_data call)) call
 
+-- a call that was read keeps the limits of its parts
+abbrev pub CallsReadAreKept : Type 0
+CallsReadAreKept = (text : List ℕ) (call : Call) → call_read (read text) ≡ Ok call → IsCall call
+
 -- a message that was read keeps the limits of its parts
 abbrev pub WhatIsReadIsKept : Type 0
 WhatIsReadIsKept = (text : List ℕ) (m : Message) → call_read (read text) ≡ Ok (calls.Send m) → IsMessage m

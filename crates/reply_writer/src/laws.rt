@@ -1,5 +1,5 @@
 //! Laws of what is written and read. The functions do nothing: what they promise is proved.
-ghost use Rattle.reply_writer.specs.Laws.{RepliesAreReadAsWritten, ItemsAreReadAsWritten, RecordsAreReadAsWritten, FaultsAreReadAsWritten, MessagesAreTheirRecords, MessagesAreReadBack, WhatIsReadIsKept, NoticesAreReadBack, CallsAreReadBack};
+ghost use Rattle.reply_writer.specs.Laws.{RepliesAreReadAsWritten, ItemsAreReadAsWritten, RecordsAreReadAsWritten, FaultsAreReadAsWritten, MessagesAreTheirRecords, MessagesAreReadBack, WhatIsReadIsKept, NoticesAreReadBack, CallsAreReadBack, CallsReadAreKept};
 
 /// The text of a reply, an item, a record or a fault is read by `serde_json` as its tree, where each
 /// number is a whole one of 64 bits. In what [`write_reply`](crate::write_reply) and the others write
@@ -20,7 +20,9 @@ pub fn messages_are_read_back()
     ensures notice { NoticesAreReadBack }
 {}
 
-/// The text that [`append_call`](crate::append_call) writes is read as the call, where its parts keep their limits.
+/// The text that [`append_call`](crate::append_call) writes is read as the call: always where its parts
+/// keep their limits, as those of every call that was read do.
 pub fn calls_are_read_back()
-    ensures { CallsAreReadBack }
+    ensures text { CallsAreReadBack }
+    ensures kept { CallsReadAreKept }
 {}

@@ -1,0 +1,4 @@
+pub mod Sums
+pub mod CallLines
+pub mod LineFaults
+pub mod Laws
