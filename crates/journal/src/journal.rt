@@ -84,6 +84,14 @@ impl<F: RawFile> Journal<F> {
         }
     }
 
+    /// The file of a journal that is given up.
+    pub fn into_file(self) -> LogFile<F>
+        ensures { past_of result ≡ journal_past self }
+    {
+        let Journal { file, .. } = self;
+        file
+    }
+
     /// Whether a call of the file failed.
     pub fn has_failed(&self) -> bool
         ensures { result ≡ has_failed self.now }

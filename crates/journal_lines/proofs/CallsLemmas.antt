@@ -1,5 +1,5 @@
 -- Lines tell of which calls they are.
-use Rattle.journal_lines.proofs.Common.{◌≡◌, ℕ, true, List, [], ◌∷◌, ◌++◌, refl, sym, ap, subst, ◌∙◌, Result, Ok, Err, All, All-head, All-tail}
+use Rattle.journal_lines.proofs.Common.{◌≡◌, ℕ, true, List, [], ◌∷◌, refl, sym, ap, subst, ◌∙◌, Result, Ok, Err, All, All-head, All-tail}
 use Rattle.serde_json.specs.Read.{read}
 use Rattle.taf_messages.specs.declared.fault.RecordFault.{RecordFault}
 use Rattle.taf_messages.specs.declared.call.Call.{Call}
@@ -24,21 +24,6 @@ heads x y xs ys e = cc
 
 tails : (x y : List ℕ) (xs ys : List (List ℕ)) → x ∷ xs ≡ y ∷ ys → xs ≡ ys
 tails x y xs ys e = cc
-
-abbrev GoesOn : List Call → List Call → Type 0
-GoesOn first calls = (later : List Call) × (calls ≡ first ++ later)
-
--- the first lines tell the first calls
-pub first_calls : (before : ℕ) (first calls : List Call) (more : List (List ℕ)) → All IsCall first → All IsCall calls → lines_after before calls ≡ lines_after before first ++ more → GoesOn first calls
-first_calls before [] calls more h g e = (calls, refl)
-first_calls before (x ∷ first) [] more h g e = absurd (cc)
-first_calls before (x ∷ first) (y ∷ calls) more h g e =
-    let one = heads (line_text (call_sum before y) y) (line_text (call_sum before x) x) (lines_after (call_sum before y) calls) (lines_after (call_sum before x) first ++ more) e in
-    let same : y ≡ x = same_line (digits_of (call_sum before y)) (digits_of (call_sum before x)) y x (sum_digits_are (call_sum before y)) (sum_digits_are (call_sum before x)) (All-head IsCall y calls g) (All-head IsCall x first h) one in
-    let rest = tails (line_text (call_sum before y) y) (line_text (call_sum before x) x) (lines_after (call_sum before y) calls) (lines_after (call_sum before x) first ++ more) e in
-    let moved : lines_after (call_sum before x) calls ≡ lines_after (call_sum before x) first ++ more = subst (λ (z : Call). lines_after (call_sum before z) calls ≡ lines_after (call_sum before x) first ++ more) same rest in
-    let p = first_calls (call_sum before x) first calls more (All-tail IsCall x first h) (All-tail IsCall y calls g) moved in
-    (p.0, ap (λ (z : Call). z ∷ calls) same ∙ ap (λ (l : List Call). x ∷ l) p.1)
 
 -- the same lines tell the same calls
 pub same_calls : (before : ℕ) (calls others : List Call) → All IsCall calls → All IsCall others → lines_after before calls ≡ lines_after before others → calls ≡ others

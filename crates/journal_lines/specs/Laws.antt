@@ -13,11 +13,6 @@ LinesAreCalls = (sum : ℕ) (call : Call) → IsCall call → IsReadAs (line_tex
 abbrev pub LinesTellTheCalls : Type 0
 LinesTellTheCalls = (calls others : List Call) → All IsCall calls → All IsCall others → lines_of_calls calls ≡ lines_of_calls others → calls ≡ others
 
--- and where the lines of some calls come first, so do these calls
-abbrev pub FirstLinesTellTheFirstCalls : Type 0
-FirstLinesTellTheFirstCalls = (first calls : List Call) (more : List (List ℕ)) → All IsCall first → All IsCall calls →
-    lines_of_calls calls ≡ lines_of_calls first ++ more → (later : List Call) × (calls ≡ first ++ later)
-
 -- a byte
 abbrev pub IsByte : ℕ → Type 0
 IsByte b = b < 2 ^ 8

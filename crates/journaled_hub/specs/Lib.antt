@@ -1,0 +1,4 @@
+pub mod HistoryLines
+pub mod JournaledHubs
+pub mod OpenFaults
+pub mod Laws

@@ -1,0 +1,27 @@
+//! A hub whose calls are in a journal.
+//!
+//! [`JournaledHub::apply`] gives a call its reply, as the hub does, and notes the call's line. [`JournaledHub::sync`] puts all
+//! lines that were noted on the disk together: only then may their replies be told. [`JournaledHub::open`] makes the hub of
+//! the calls that a journal has.
+//!
+//! | part | what it has |
+//! |---|---|
+//! | `journaled` | the hub and its journal: `apply` and `sync` |
+//! | `recovery` | the hub of a journal |
+//! | `fault` | why a journal gives no hub |
+//! | `laws` | what a hub that is opened after a crash has in common with the one before |
+//!
+//! Promised is, by the model of log_file: after a sync that is Ok, each crash leaves a file that has the line of each call of the
+//! history, in order; a crash at any moment of the sync leaves the lines from before it, or all. A hub that is opened has the calls of
+//! the file's lines and no other, and the replies that these calls get on a new hub. So it has the history that was written, and a
+//! message that had its reply before a crash gets the same one again.
+#![tactic(auto)]
+
+mod fault;
+mod journaled;
+mod laws;
+mod recovery;
+
+pub use fault::OpenFault;
+pub use journaled::JournaledHub;
+pub use laws::reopened_hub;
