@@ -21,7 +21,7 @@ impl<F: RawFile> JournaledHub<F> {
     /// The hub of the calls that the file has, one after another, whose tables hash so. The file was opened and synced, and then
     /// had these bytes. A torn end, which was never acknowledged, is cut off.
     ///
-    /// An `Err` hands the file back, and names the first fault.
+    /// An `Err` hands the file back, and names the first fault. Where that is one of a line, a torn end was cut off before.
     pub fn open(
         alloc: Global,
         hasher: SeededState,
