@@ -42,7 +42,7 @@ one_line (x ∷ line) h lt =
     let same : (x ∷ line) ++ [] ≡ x ∷ line = append-nil (x ∷ line) in
     ap (map parsed_line) (sym (ap lines_of same) ∙ e ∙ ap (λ l. l ∷ []) same)
 
-parsed_long : (line more : List ℕ) → has_no_newline line ≡ true → 65536 < length line → parsed_lines (line ++ more) ≡ TooLong ∷ parsed_lines (after_newline more)
+pub parsed_long : (line more : List ℕ) → has_no_newline line ≡ true → 65536 < length line → parsed_lines (line ++ more) ≡ TooLong ∷ parsed_lines (after_newline more)
 parsed_long [] more h lt = absurd (omega arith)
 parsed_long (x ∷ line) more h lt =
     let long : 65536 < length ((x ∷ line) ++ upto more) = omega (arith, lt, length-append (x ∷ line) (upto more)) in

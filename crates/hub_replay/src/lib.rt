@@ -27,4 +27,5 @@ mod replay;
 
 pub use counts::Counts;
 pub use fault::RunFault;
-pub use replay::{MAX_BYTES, run};
+pub use output::write_all;
+pub use replay::{MAX_BYTES, move_to_front, read_chunk, run};

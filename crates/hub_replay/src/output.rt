@@ -92,7 +92,7 @@ impl Output {
 }
 
 /// Writes all of the bytes. Where the writer fails, it took a front of them.
-pub(crate) fn write_all<W: Sink>(writer: &mut W, bytes: &[u8]) -> Result<(), Failed>
+pub fn write_all<W: Sink>(writer: &mut W, bytes: &[u8]) -> Result<(), Failed>
     ensures ok { OnOk result (Appends (W.contents writer.old) (W.contents writer.new) bytes.now) }
     ensures err { OnErr result ((front rest : List ℕ) × (bytes.now ≡ front ++ rest)
         × Appends (W.contents writer.old) (W.contents writer.new) front) }

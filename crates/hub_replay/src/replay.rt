@@ -111,8 +111,8 @@ pub fn run<R: Source, W: Sink>(
     Err(RunFault::NoEnd)
 }
 
-// Reads some bytes behind the first ones, no more than so many. None is the end.
-fn read_chunk<R: Source>(
+/// Reads some bytes behind the first ones, no more than 2,097,152 and no more than so many. None is the end.
+pub fn read_chunk<R: Source>(
     reader: &mut R,
     buffer: &mut [u8],
     kept_len: usize,
@@ -137,8 +137,8 @@ fn read_chunk<R: Source>(
     }
 }
 
-// Moves what is left to the front.
-fn move_to_front(buffer: &mut [u8], start: usize, end: usize)
+/// Moves what is left to the front.
+pub fn move_to_front(buffer: &mut [u8], start: usize, end: usize)
     requires { (start ≤ end) × (end ≤ length buffer.old) }
     ensures { take (end - start) buffer.new ≡ slice_range buffer.old start end }
 {

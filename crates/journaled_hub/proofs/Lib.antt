@@ -1,3 +1,6 @@
 mod LineLemmas
 mod FaultLemmas
 mod HistoryLemmas
+mod AnsweringLemmas
+mod WholeLineLemmas
+mod DiskLemmas

@@ -2,3 +2,4 @@ pub mod HistoryLines
 pub mod JournaledHubs
 pub mod OpenFaults
 pub mod Laws
+pub mod Answering

@@ -1,4 +1,5 @@
 //! Why a journal gives no hub.
+use hub_replay::RunFault;
 use thiserror::Error;
 
 /// Why a journal gives no hub. Lines are counted from 1, without blank ones.
@@ -22,4 +23,15 @@ pub enum OpenFault {
     /// The journal has more calls than a hub takes.
     #[error("the journal has more calls than a hub takes")]
     Full,
+}
+
+/// Why a run on a hub with a journal ended before its reader did.
+#[derive(Clone, Copy, Debug, PartialEq, Eq, Error)]
+pub enum JournaledRunFault {
+    /// What a run meets without a journal, too.
+    #[error("{0}")]
+    Run(RunFault),
+    /// A call of the journal's file failed.
+    #[error("a call of the journal's file failed")]
+    Journal,
 }

@@ -20,8 +20,11 @@
 mod fault;
 mod journaled;
 mod laws;
+mod lines;
 mod recovery;
+mod replay;
 
-pub use fault::OpenFault;
+pub use fault::{JournaledRunFault, OpenFault};
 pub use journaled::JournaledHub;
 pub use laws::reopened_hub;
+pub use replay::run_journaled;

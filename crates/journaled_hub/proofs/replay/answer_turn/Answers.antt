@@ -1,0 +1,21 @@
+use Rattle.std.proofs.Common.{◌≡◌, ◌++◌, sym, subst, ◌∙◌}
+use Rattle.hub_replay.specs.Lines.{parsed_lines}
+use Rattle.journaled_hub.specs.Answering.{LeadsTo}
+use Rattle.journaled_hub.proofs.AnsweringLemmas.{stopped_in_writing}
+use Rattle.journaled_hub.proofs.replay.answer_turn.Goals as goal
+
+-- all of the calls are on the disk, and a front of the answers was written
+pub returns-clause-err : goal.returns-clause-err
+returns-clause-err g c =
+    let wrote = c.in-Err-write_and_flush.ensures.err in
+    let old = c.args.hub.now.hub in
+    let new = c.answer_lines.new.self.hub in
+    let lines = parsed_lines c.args.lines.now in
+    let all : c.in-Ok.replies.items ≡ wrote.0 ++ wrote.1 = sym c.as_slice.ensures.value ∙ wrote.2 in
+    let leads : LeadsTo old lines new (wrote.0 ++ wrote.1) = subst (λ l. LeadsTo old lines new l) all c.in-Ok.ensures.answers in (
+      wrote.0,
+      new,
+      wrote.3,
+      stopped_in_writing old lines new wrote.0 wrote.1 leads,
+      λ sound. c.in-Ok-sync.ensures.durable,
+    )

@@ -1,0 +1,23 @@
+use Rattle.std.proofs.Common.{◌≡◌, ◌≤◌, ◌-◌, ◌^◌, ℕ, List, length, take, true}
+use Rattle.std.specs.Io.KnownBytes.{Appends, Consumes}
+use Rattle.call_lines.specs.Lines.{has_no_newline}
+use Rattle.call_lines.specs.declared.parsed.ParsedLine.{ParsedLine}
+use Rattle.hub_replay.specs.Lines.{IsTaken}
+use Rattle.journaled_hub.specs.Answering.{LeadsTo}
+use Rattle.journaled_hub.specs.JournaledHubs.{history_of, IsOnDisk}
+use Rattle.journaled_hub.proofs.replay.run_journaled.Given as goal
+
+-- what was read is answered up to the beginning of a line that is kept, and all calls are on the disk
+abbrev pub invariant-chunks : goal.invariant-chunks
+invariant-chunks g l =
+    (l.kept_len ≤ 65537) × (length l.buffer ≡ 2162689) × (l.total ≤ 2 ^ 40)
+    × IsOnDisk l.hub
+    × ((read written : List ℕ) × (lines : List ParsedLine)
+    × Consumes (g.R.Source.remaining l.initial.reader) (g.R.Source.remaining l.reader) read
+    × Appends (g.W.Sink.contents l.initial.writer) (g.W.Sink.contents l.writer) written
+    × IsTaken read lines (take l.kept_len l.buffer)
+    × (has_no_newline (take l.kept_len l.buffer) ≡ true)
+    × LeadsTo (history_of l.initial.hub) lines (history_of l.hub) written)
+
+abbrev pub decreases-chunks : goal.decreases-chunks
+decreases-chunks g l = 2 ^ 40 - l.total
