@@ -13,12 +13,20 @@ Statuses:
   3  reading or writing failed, or the input has no end
   4  memory was refused
   5  a port, a connection or a thread could not be had
-  6  the answers that the sessions got are not those of the history";
+  6  the answers that the sessions got are not those of the history
+  7  a call of the journal's file failed
+  8  the journal is in use, damaged or of another program";
 
 pub(crate) static REPLAY: &str = "Example:
   taf_hub replay < records.jsonl > answers.txt
+  taf_hub replay --journal hub.journal < records.jsonl > answers.txt
 
-Statuses: 0, 2, 3, 4";
+Statuses: 0, 2, 3, 4, 7, 8";
+
+pub(crate) static CHECK: &str = "Example:
+  taf_hub check hub.journal
+
+Statuses: 0, 2, 3, 4, 7, 8";
 
 pub(crate) static NUMBER: &str = "Example:
   taf_hub number 218124712173

@@ -2,7 +2,8 @@
 //!
 //! | arguments | task |
 //! |---|---|
-//! | `replay` | [`Task::Replay`] |
+//! | `replay [--journal FILE]` | [`Task::Replay`] |
+//! | `check JOURNAL` | [`Task::Check`] |
 //! | `number TEXT` | [`Task::Number`] |
 //! | `serve --port P --sessions N [--workers K]` | [`Task::Serve`]: P is 1 to 65,535, N 1 to 64, K 1 to 8, and 2 if left out |
 //!

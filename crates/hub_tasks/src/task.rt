@@ -10,16 +10,37 @@ use std::alloc::{AllocError, Global};
 /// What the program is to do.
 #[derive(Clone, Copy, Debug, PartialEq, Eq)]
 pub enum Task<'a> {
-    Replay,
+    /// With the file of the journal, if one is kept.
+    Replay { journal: Option<&'a str> },
+    /// Of the journal in this file.
+    Check(&'a str),
     Number(&'a str),
     /// The port is not 0.
     Serve { port: u16, size: ShiftSize },
 }
 
-fn replay<'a>(alloc: Global) -> Command<'a> {
+fn replay<'a>(alloc: Global) -> Result<Command<'a>, AllocError> {
+    let journal = option(
+        alloc,
+        "journal",
+        "FILE",
+        "The journal: begins with its calls, and keeps each further one",
+    );
     Command::new(alloc, "replay")
         .about("Answers the records of standard input, one line for each, on a new hub")
         .after_help(help::REPLAY)
+        .arg(journal)
+}
+
+fn check<'a>(alloc: Global) -> Result<Command<'a>, AllocError> {
+    let journal = Arg::new(alloc, "JOURNAL")
+        .required(true)
+        .action(ArgAction::Set)
+        .help("The file of the journal");
+    Command::new(alloc, "check")
+        .about("Reads a journal, and prints how many calls it has")
+        .after_help(help::CHECK)
+        .arg(journal)
 }
 
 fn number<'a>(alloc: Global) -> Result<Command<'a>, AllocError> {
@@ -33,7 +54,7 @@ fn number<'a>(alloc: Global) -> Result<Command<'a>, AllocError> {
         .arg(text)
 }
 
-fn number_of<'a>(alloc: Global, name: &'a str, value: &'a str, help: &'a str) -> Arg<'a> {
+fn option<'a>(alloc: Global, name: &'a str, value: &'a str, help: &'a str) -> Arg<'a> {
     Arg::new(alloc, name)
         .long(name)
         .value_name(value)
@@ -42,10 +63,10 @@ fn number_of<'a>(alloc: Global, name: &'a str, value: &'a str, help: &'a str) ->
 }
 
 fn serve<'a>(alloc: Global) -> Result<Command<'a>, AllocError> {
-    let port = number_of(alloc, "port", "P", "The port of 127.0.0.1 to listen on")
+    let port = option(alloc, "port", "P", "The port of 127.0.0.1 to listen on")
         .required(true)
         .value_parser(value_parser!(u16).range(1..));
-    let sessions = number_of(
+    let sessions = option(
         alloc,
         "sessions",
         "N",
@@ -53,7 +74,7 @@ fn serve<'a>(alloc: Global) -> Result<Command<'a>, AllocError> {
     )
     .required(true)
     .value_parser(value_parser!(u8).range(1..65));
-    let workers = number_of(
+    let workers = option(
         alloc,
         "workers",
         "K",
@@ -75,7 +96,8 @@ fn command<'a>(alloc: Global) -> Result<Command<'a>, AllocError> {
         .version(help::VERSION)
         .after_help(help::PROGRAM)
         .subcommand_required(true)
-        .subcommand(replay(alloc))?
+        .subcommand(replay(alloc)?)?
+        .subcommand(check(alloc)?)?
         .subcommand(number(alloc)?)?
         .subcommand(serve(alloc)?)
 }
@@ -112,7 +134,10 @@ fn task_in<'a>(matches: &ArgMatches<'a>) -> Option<Task<'a>>
 {
     let (name, found) = matches.subcommand()?;
     match name {
-        "replay" => Some(Task::Replay),
+        "replay" => Some(Task::Replay {
+            journal: found.get_str("journal"),
+        }),
+        "check" => Some(Task::Check(found.get_str("JOURNAL")?)),
         "serve" => shift_in(found),
         _ => Some(Task::Number(found.get_str("TEXT")?)),
     }
