@@ -1,6 +1,6 @@
 //! The file.
 use crate::fault::OpenFault;
-use crate::kept_end::{OWNER_ONLY, keep_end, sync_folder};
+use crate::kept_end::{OWNER_ONLY, keep_end, next_copy, sync_folder};
 use log_file::{Failed, RawFile};
 use std::alloc::Global;
 use std::fs::{File, OpenOptions, TryLockError};
@@ -79,6 +79,14 @@ fn drop_unsynced(file: &File) -> Result<(), OpenFault> {
     match libc::posix_fadvise(file.as_raw_fd(), 0, 0, libc::POSIX_FADV_DONTNEED) {
         0 => Ok(()),
         _ => Err(OpenFault::File),
+    }
+}
+
+impl<R: Files<File = File>> DiskFile<R> {
+    /// The path of the copy that the next cut makes of what it drops. `Err` where a call of the system fails, or memory is
+    /// refused.
+    pub fn next_copy(&self) -> Result<String, Failed> {
+        next_copy(&self.rt, self.alloc, self.path.as_str()).map_err(|_| Failed)
     }
 }
 

@@ -27,9 +27,26 @@ pub(crate) fn keep_end<R: Files<File = File>>(
     sync_folder(rt, path)
 }
 
+/// The path of the copy that is made next, as long as no other is made.
+pub(crate) fn next_copy<R: Files>(rt: &R, alloc: Global, path: &str) -> io::Result<String> {
+    for number in 1..=MAX_COPIES {
+        let name = copy_name(alloc, path, number)?;
+        match fs::symlink_metadata(rt, name.as_str()) {
+            Ok(_) => {}
+            Err(error) if error.kind() == io::ErrorKind::NotFound => return Ok(name),
+            Err(error) => return Err(error),
+        }
+    }
+    Err(io::ErrorKind::AlreadyExists.into())
+}
+
+fn copy_name(alloc: Global, path: &str, number: u32) -> io::Result<String> {
+    Ok(format!(in alloc; "{path}.cut-{number}")?)
+}
+
 fn new_copy<R: Files<File = File>>(rt: &R, alloc: Global, path: &str) -> io::Result<File> {
     for number in 1..=MAX_COPIES {
-        let name = format!(in alloc; "{path}.cut-{number}")?;
+        let name = copy_name(alloc, path, number)?;
         let opened = OpenOptions::new()
             .write(true)
             .create_new(true)
