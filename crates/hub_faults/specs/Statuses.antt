@@ -8,11 +8,17 @@ use Rattle.hub_replay.specs.declared.fault.RunFault.{RunFault}
 use Rattle.hub_replay.specs.declared.fault.RunFault.TheVariants as of_run
 use Rattle.hub_server.specs.declared.fault.ServerFault.{ServerFault}
 use Rattle.hub_server.specs.declared.fault.ServerFault.TheVariants as of_server
+use Rattle.disk_file.specs.declared.fault.OpenFault.{OpenFault as FileFault}
+use Rattle.disk_file.specs.declared.fault.OpenFault.TheVariants as of_file
+use Rattle.journaled_hub.specs.declared.fault.OpenFault.{OpenFault}
+use Rattle.journaled_hub.specs.declared.fault.OpenFault.TheVariants as of_journal
+use Rattle.journaled_hub.specs.declared.fault.JournaledRunFault.{JournaledRunFault}
+use Rattle.journaled_hub.specs.declared.fault.JournaledRunFault.TheVariants as of_journaled
 use Rattle.hub_faults.specs.declared.fault.Fault.{Fault}
-use Rattle.hub_faults.specs.declared.fault.Fault.TheVariants.{Arguments, NotTwelveDigits, BadCheckDigit, Read, Write, NoEnd, Memory, Socket, Thread, NotSettled}
+use Rattle.hub_faults.specs.declared.fault.Fault.TheVariants.{Arguments, NotTwelveDigits, BadCheckDigit, Read, Write, NoEnd, Memory, Socket, Thread, NotSettled, JournalFile, JournalBusy, JournalRefused}
 
 -- 1: the text is refused; 2: no arguments; 3: a stream failed or has no end; 4: memory was refused; 5: no socket or no thread; 6: a
--- shift did not settle
+-- shift did not settle; 7: a call of the journal's file failed; 8: the journal is busy or was refused
 abbrev pub status_of : Fault → ℕ
 status_of Arguments = 2
 status_of NotTwelveDigits = 1
@@ -24,6 +30,9 @@ status_of Memory = 4
 status_of Socket = 5
 status_of Thread = 5
 status_of NotSettled = 6
+status_of JournalFile = 7
+status_of JournalBusy = 8
+status_of JournalRefused = 8
 
 -- why the arguments of the command line were not read
 abbrev pub fault_of_arguments : ErrorKind → Fault
@@ -45,3 +54,24 @@ fault_of_server of_server.Socket = Socket
 fault_of_server of_server.Thread = Thread
 fault_of_server of_server.Memory = Memory
 fault_of_server (of_server.NotSettled why) = NotSettled
+
+-- why the file of a journal was not opened
+abbrev pub fault_of_file : FileFault → Fault
+fault_of_file of_file.Memory = Memory
+fault_of_file of_file.File = JournalFile
+fault_of_file of_file.Busy = JournalBusy
+fault_of_file of_file.NotRegular = JournalRefused
+
+-- why it gave no hub
+abbrev pub fault_of_journal : OpenFault → Fault
+fault_of_journal of_journal.Memory = Memory
+fault_of_journal of_journal.Failed = JournalFile
+fault_of_journal (of_journal.Damaged whole) = JournalRefused
+fault_of_journal (of_journal.NoCall line) = JournalRefused
+fault_of_journal (of_journal.OtherSum line) = JournalRefused
+fault_of_journal of_journal.Full = JournalRefused
+
+-- why a run with a journal broke off
+abbrev pub fault_of_journaled_run : JournaledRunFault → Fault
+fault_of_journaled_run (of_journaled.Run run) = fault_of_run run
+fault_of_journaled_run of_journaled.Journal = JournalFile

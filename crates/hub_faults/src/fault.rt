@@ -1,10 +1,12 @@
 ghost use Rattle.std.specs.Prelude.{◌≡◌};
 ghost use Rattle.std.specs.IoError.{error_kind};
-ghost use Rattle.hub_faults.specs.Statuses.{status_of, fault_of_arguments, fault_of_number, fault_of_run, fault_of_server};
+ghost use Rattle.hub_faults.specs.Statuses.{status_of, fault_of_arguments, fault_of_number, fault_of_run, fault_of_server, fault_of_file, fault_of_journal, fault_of_journaled_run};
 ghost use Rattle.hub_faults.specs.declared.fault.Fault.TheVariants as faults;
 
+use disk_file::OpenFault as FileFault;
 use hub_replay::RunFault;
 use hub_server::ServerFault;
+use journaled_hub::{JournaledRunFault, OpenFault};
 use std::alloc::AllocError;
 use std::io;
 use std::io::ErrorKind;
@@ -35,6 +37,15 @@ pub enum Fault {
     Thread,
     #[error("fault: not settled")]
     NotSettled,
+    /// A call of the journal's file failed.
+    #[error("fault: journal file")]
+    JournalFile,
+    /// Another process has the journal.
+    #[error("fault: journal busy")]
+    JournalBusy,
+    /// The journal's file is none, or has what no crash leaves.
+    #[error("fault: journal refused")]
+    JournalRefused,
 }
 
 impl Fault {
@@ -50,7 +61,7 @@ impl Fault {
 
     /// The status that the program ends with: 1 for a text that is no number, 2 where the arguments could not be read, 3 where
     /// reading or writing failed, 4 where memory was refused, 5 where a socket or a thread could not be had, 6 where a shift
-    /// did not settle.
+    /// did not settle, 7 where a call of the journal's file failed, 8 where the journal is busy or was refused.
     pub fn status(self) -> u8
         ensures { result ≡ status_of self }
     {
@@ -61,6 +72,8 @@ impl Fault {
             Fault::Memory => 4,
             Fault::Socket | Fault::Thread => 5,
             Fault::NotSettled => 6,
+            Fault::JournalFile => 7,
+            Fault::JournalBusy | Fault::JournalRefused => 8,
         }
     }
 }
@@ -114,6 +127,43 @@ impl From<ServerFault> for Fault {
             ServerFault::Thread => Fault::Thread,
             ServerFault::Memory => Fault::Memory,
             ServerFault::NotSettled(_) => Fault::NotSettled,
+        }
+    }
+}
+
+impl From<FileFault> for Fault {
+    ghost from_gives = { λ file fault. fault ≡ fault_of_file file };
+
+    fn from(fault: FileFault) -> Fault {
+        match fault {
+            FileFault::Memory => Fault::Memory,
+            FileFault::File => Fault::JournalFile,
+            FileFault::Busy => Fault::JournalBusy,
+            FileFault::NotRegular => Fault::JournalRefused,
+        }
+    }
+}
+
+impl From<OpenFault> for Fault {
+    ghost from_gives = { λ journal fault. fault ≡ fault_of_journal journal };
+
+    fn from(fault: OpenFault) -> Fault {
+        match fault {
+            OpenFault::Memory => Fault::Memory,
+            OpenFault::Failed => Fault::JournalFile,
+            OpenFault::Damaged(_) | OpenFault::NoCall(_) => Fault::JournalRefused,
+            OpenFault::OtherSum(_) | OpenFault::Full => Fault::JournalRefused,
+        }
+    }
+}
+
+impl From<JournaledRunFault> for Fault {
+    ghost from_gives = { λ run fault. fault ≡ fault_of_journaled_run run };
+
+    fn from(fault: JournaledRunFault) -> Fault {
+        match fault {
+            JournaledRunFault::Run(fault) => Fault::from(fault),
+            JournaledRunFault::Journal => Fault::JournalFile,
         }
     }
 }

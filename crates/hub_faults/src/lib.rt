@@ -10,6 +10,8 @@
 //! | 4 | memory was refused |
 //! | 5 | a socket or a thread could not be had |
 //! | 6 | a shift did not settle |
+//! | 7 | a call of the journal's file failed |
+//! | 8 | the journal is busy, damaged, of another program, or has a wrong line |
 //!
 //! What goes wrong in the crates below becomes a fault by [`Fault::of_arguments`] and by `From`. The commands stand on this
 //! crate, so that what is promised of faults is proved without the reader of the command line.
