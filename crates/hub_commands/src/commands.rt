@@ -1,29 +1,37 @@
 ghost use Rattle.std.specs.Prelude.{◌≡◌};
 ghost use Rattle.hub_faults.specs.Statuses.{status_of};
 
-use crate::{number, replay, serve};
+use crate::{check, journaled_replay, number, replay, serve};
 use clap::Error;
 use clap::error::ErrorKind;
 use hub_faults::Fault;
 use hub_tasks::{Task, task_of};
 use shift_size::ShiftSize;
+use std::fs::File;
 use std::io::{Read, Write};
 use std::net::{Net, OpenListener, OpenStream};
 use std::random::RandomSource;
+use std::rt::Files;
 use std::sync::Wait;
 use std::thread::Threads;
 
 /// Does what the arguments name, the program's name first, and gives the status.
 pub fn perform<H, R, W, E>(rt: &H, arguments: &[String], input: R, output: W, errors: &mut E) -> u8
 where
-    H: Net + Threads + Wait + Sync + RandomSource + AllocGlobal,
+    H: Files<File = File> + Net + Threads + Wait + Sync + RandomSource + AllocGlobal,
     H::Stream: Send,
     R: Read + Drop,
     W: Write + Drop,
     E: Write,
 {
     let done = match task_of(rt.alloc(), arguments) {
-        Ok(Task::Replay) => replay::perform(rt, rt.alloc(), input, output),
+        Ok(Task::Replay { journal: None }) => replay::perform(rt, rt.alloc(), input, output),
+        Ok(
+            Task::Replay {
+                journal: Some(path),
+            },
+        ) => journaled_replay::perform(rt, path, input, output, errors),
+        Ok(Task::Check(path)) => check::perform(rt, path, output, errors),
         Ok(Task::Number(text)) => number::perform(output, text),
         Ok(Task::Serve { port, size }) => serve::perform(rt, port, size, output, errors),
         Err(error) => explain(&error, output, errors),

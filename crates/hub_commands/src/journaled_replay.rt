@@ -1,0 +1,147 @@
+//! `replay` with a journal.
+ghost use Rattle.std.specs.Prelude.{IfOk};
+ghost use Rattle.journaled_hub.specs.JournaledHubs.{IsOnDisk};
+
+use crate::journal_file::{NO_JOURNAL, may_be_journal, report_file, torn_len};
+use crate::print::{gathering, print};
+use disk_file::{DiskFile, OpenedFile};
+use hub_faults::Fault;
+use hub_replay::RunFault;
+use journal::{Failed, RawFile};
+use journaled_hub::{JournaledHub, JournaledRunFault, run_journaled};
+use seeded_state::SeededState;
+use std::alloc::Global;
+use std::fs::File;
+use std::io::{Read, Write};
+use std::mem::forget;
+use std::random::RandomSource;
+use std::rt::Files;
+use std::thread::Threads;
+use taf_codes::{Sink, Source, Std};
+use wimo_report::hub_lines;
+
+/// Answers the lines of the input on the output, on the hub of the calls that the journal has, and then prints the report of all
+/// wagons. An answer is written once its call is in the journal, on the disk. What the journal had is a line among the errors.
+pub fn perform<H, R, W, E>(
+    rt: &H,
+    path: &str,
+    input: R,
+    output: W,
+    errors: &mut E,
+) -> Result<u8, Fault>
+where
+    H: Files<File = File> + Threads + Sync + RandomSource + AllocGlobal,
+    R: Read + Drop,
+    W: Write + Drop,
+    E: Write,
+{
+    let alloc = rt.alloc();
+    let mut writer = Std::new(gathering(alloc, output)?);
+    let mut hub = open(rt, alloc, path, errors)?;
+    let report = report_of(rt, alloc, &mut Std::new(input), &mut writer, &mut hub);
+    // The program ends here. To give back the memory of each call would take as long as many calls.
+    forget(hub);
+    match report {
+        Ok(lines) => print(&mut writer.into_inner(), &lines)?,
+        Err(fault) => return Err(explained(path, fault, errors)),
+    }
+    Ok(0)
+}
+
+// Answers the lines on this hub, and gives the lines of its report.
+fn report_of<F: RawFile>(
+    rt: &(impl Threads + Sync),
+    alloc: Global,
+    reader: &mut impl Source,
+    writer: &mut impl Sink,
+    hub: &mut JournaledHub<F>,
+) -> Result<Vec<String>, JournaledRunFault>
+    requires { IsOnDisk hub.old }
+{
+    match run_journaled(rt, reader, writer, hub) {
+        Ok(()) => {}
+        Err(fault) => return Err(fault),
+    }
+    match hub_lines(rt, alloc, hub.hub()) {
+        Ok(lines) => Ok(lines),
+        Err(_refused) => Err(JournaledRunFault::Run(RunFault::Memory)),
+    }
+}
+
+// The fault of the command, once it is told of a call of the journal's file that failed.
+fn explained<E: Write>(path: &str, fault: JournaledRunFault, errors: &mut E) -> Fault {
+    if let JournaledRunFault::Journal = fault {
+        report_file(path, &fault, errors);
+    }
+    Fault::from(fault)
+}
+
+// Opens the journal or makes it, and prints what it had.
+fn open<'a, H, E>(
+    rt: &'a H,
+    alloc: Global,
+    path: &str,
+    errors: &mut E,
+) -> Result<JournaledHub<DiskFile<&'a H>>, Fault>
+where
+    H: Files<File = File> + RandomSource,
+    E: Write,
+    ensures { IfOk result (λ hub. IsOnDisk hub) }
+{
+    let OpenedFile { file, bytes } = match disk_file::open(rt, alloc, path) {
+        Ok(opened) => opened,
+        Err(fault) => {
+            report_file(path, &fault, errors);
+            return Err(Fault::from(fault));
+        }
+    };
+    if !may_be_journal(bytes.as_slice()) {
+        report_file(path, &NO_JOURNAL, errors);
+        return Err(Fault::JournalRefused);
+    }
+    let torn = torn_end(alloc, &file, bytes.as_slice())?;
+    match JournaledHub::open(alloc, SeededState::drawn(rt), file, &bytes) {
+        Ok(hub) => {
+            report_journal(path, hub.len(), &torn, errors);
+            Ok(hub)
+        }
+        Err((fault, _file)) => {
+            report_file(path, &fault, errors);
+            Err(Fault::from(fault))
+        }
+    }
+}
+
+// A torn end: how many bytes it has, and the path of the file that will keep them.
+#[derive(Drop)]
+struct TornEnd {
+    len: usize,
+    copy: String,
+}
+
+// The torn end of the journal, if it has one.
+fn torn_end<R: Files<File = File>>(
+    alloc: Global,
+    file: &DiskFile<R>,
+    bytes: &[u8],
+) -> Result<Option<TornEnd>, Fault> {
+    let len = torn_len(alloc, bytes)?;
+    if len == 0 {
+        return Ok(None);
+    }
+    match file.next_copy() {
+        Ok(copy) => Ok(Some(TornEnd { len, copy })),
+        Err(Failed) => Err(Fault::JournalFile),
+    }
+}
+
+// Prints how many calls the journal had, and what was cut off.
+fn report_journal<E: Write>(path: &str, calls: usize, torn: &Option<TornEnd>, errors: &mut E) {
+    // Where standard error fails, nobody is told; the lines are answered all the same.
+    let _ = match torn {
+        None => errors.write_fmt(format_args!("{path}: {calls} calls\n")),
+        Some(TornEnd { len, copy }) => errors.write_fmt(format_args!(
+            "{path}: {calls} calls; a torn end of {len} bytes was cut off, and is kept in {copy}\n"
+        )),
+    };
+}
