@@ -1,15 +1,17 @@
 use hub_commands::{Fault, perform, report_fault};
 use std::alloc::Global;
+use std::fs::File;
 use std::io;
 use std::io::ErrorKind;
 use std::net::Net;
 use std::random::RandomSource;
+use std::rt::Files;
 use std::sync::Wait;
 use std::test::Fail;
 use std::thread::Threads;
 
 // The arguments of a command line, which stand with `|` between them.
-fn arguments(alloc: Global, line: &str) -> Result<Vec<String>, Fail> {
+pub(crate) fn arguments(alloc: Global, line: &str) -> Result<Vec<String>, Fail> {
     let mut arguments = Vec::new(alloc);
     for argument in line.split('|') {
         arguments.push(argument.to_string(alloc)?)?;
@@ -28,7 +30,7 @@ pub(crate) struct Ended {
 // Does what the line of arguments names.
 pub(crate) fn end_of<H>(rt: &H, line: &str, input: &str) -> Result<Ended, Fail>
 where
-    H: Net + Threads + Wait + Sync + RandomSource + AllocGlobal,
+    H: Files<File = File> + Net + Threads + Wait + Sync + RandomSource + AllocGlobal,
     H::Stream: Send,
 {
     let arguments = arguments(rt.alloc(), line)?;
@@ -100,13 +102,18 @@ fn commands_end_with_their_status(rt: HostRuntime) -> Result<(), Fail> {
 }
 
 // Arguments that are explained, on the output for the status 0 and else among the errors.
-static EXPLAINED: [(&str, u8); 17] = [
+static EXPLAINED: [(&str, u8); 22] = [
     ("taf_hub|--help", 0),
     ("taf_hub|number|--help", 0),
     ("taf_hub", 2),
     ("taf_hub|reply", 2),
     ("taf_hub|number", 2),
     ("taf_hub|replay|again", 2),
+    ("taf_hub|replay|--journal", 2),
+    ("taf_hub|replay|hub.journal", 2),
+    ("taf_hub|check|--help", 0),
+    ("taf_hub|check", 2),
+    ("taf_hub|check|hub.journal|again", 2),
     ("taf_hub|serve|--help", 0),
     ("taf_hub|serve", 2),
     ("taf_hub|serve|--port|7000", 2),
@@ -134,14 +141,18 @@ fn other_arguments_are_explained(rt: HostRuntime) -> Result<(), Fail> {
 }
 
 // The arguments that ask for help, and the last lines of what is printed.
-static ENDS: [(&str, &str); 4] = [
+static ENDS: [(&str, &str); 5] = [
     (
         "taf_hub|--help",
-        "\n  6  the answers that the sessions got are not those of the history\n",
+        "\n  8  the journal is in use, damaged or of another program\n",
     ),
     (
         "taf_hub|replay|--help",
-        "\nExample:\n  taf_hub replay < records.jsonl > answers.txt\n\nStatuses: 0, 2, 3, 4\n",
+        "\n  taf_hub replay --journal hub.journal < records.jsonl > answers.txt\n\nStatuses: 0, 2, 3, 4, 7, 8\n",
+    ),
+    (
+        "taf_hub|check|--help",
+        "\nExample:\n  taf_hub check hub.journal\n\nStatuses: 0, 2, 3, 4, 7, 8\n",
     ),
     (
         "taf_hub|number|--help",

@@ -3,6 +3,7 @@
 //! | part | tests |
 //! |---|---|
 //! | `commands` | the commands of `taf_hub`: their texts, their faults and their statuses |
+//! | `journals` | `replay` with a journal, and `check`, on files of the system |
 //! | `serving` | a shift of two railways over loopback, and a port that is taken |
 //! | `reported` | the lines of faults, and of sessions that could not be served to their end |
 //! | `measurements` | the arguments of `bench`, and how many lines each benchmark prints |
@@ -12,6 +13,8 @@
 
 #[cfg(test)]
 mod commands;
+#[cfg(test)]
+mod journals;
 #[cfg(test)]
 mod measurements;
 #[cfg(test)]

@@ -5,7 +5,7 @@ use session_serving::SessionFault;
 use std::test::Fail;
 
 // Each fault with its status and its line.
-static FAULTS: [(Fault, u8, &str); 10] = [
+static FAULTS: [(Fault, u8, &str); 13] = [
     (Fault::NotTwelveDigits, 1, "fault 1: not twelve digits\n"),
     (Fault::BadCheckDigit, 1, "fault 2: bad check digit\n"),
     (Fault::Arguments, 2, "fault: words\n"),
@@ -16,6 +16,9 @@ static FAULTS: [(Fault, u8, &str); 10] = [
     (Fault::Socket, 5, "fault: socket\n"),
     (Fault::Thread, 5, "fault: thread\n"),
     (Fault::NotSettled, 6, "fault: not settled\n"),
+    (Fault::JournalFile, 7, "fault: journal file\n"),
+    (Fault::JournalBusy, 8, "fault: journal busy\n"),
+    (Fault::JournalRefused, 8, "fault: journal refused\n"),
 ];
 
 #[test]
