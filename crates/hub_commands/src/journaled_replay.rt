@@ -8,7 +8,7 @@ use disk_file::{DiskFile, OpenedFile};
 use hub_faults::Fault;
 use hub_replay::RunFault;
 use journal::{Failed, RawFile};
-use journaled_hub::{JournaledHub, JournaledRunFault, run_journaled};
+use journaled_hub::{JournaledHub, JournaledRunFault, OpenFault, run_journaled};
 use seeded_state::SeededState;
 use std::alloc::Global;
 use std::fs::File;
@@ -99,17 +99,23 @@ where
         report_file(path, &NO_JOURNAL, errors);
         return Err(Fault::JournalRefused);
     }
-    let torn = torn_end(alloc, &file, bytes.as_slice())?;
+    let torn = match torn_end(alloc, &file, bytes.as_slice()) {
+        Ok(torn) => torn,
+        Err(fault) => return Err(refused(path, fault, errors)),
+    };
     match JournaledHub::open(alloc, SeededState::drawn(rt), file, &bytes) {
         Ok(hub) => {
             report_journal(path, hub.len(), &torn, errors);
             Ok(hub)
         }
-        Err((fault, _file)) => {
-            report_file(path, &fault, errors);
-            Err(Fault::from(fault))
-        }
+        Err((fault, _file)) => Err(refused(path, fault, errors)),
     }
+}
+
+// The fault of the command, once it is told why the journal gave no hub.
+fn refused<E: Write>(path: &str, fault: OpenFault, errors: &mut E) -> Fault {
+    report_file(path, &fault, errors);
+    Fault::from(fault)
 }
 
 // A torn end: how many bytes it has, and the path of the file that will keep them.
@@ -124,14 +130,16 @@ fn torn_end<R: Files<File = File>>(
     alloc: Global,
     file: &DiskFile<R>,
     bytes: &[u8],
-) -> Result<Option<TornEnd>, Fault> {
-    let len = torn_len(alloc, bytes)?;
+) -> Result<Option<TornEnd>, OpenFault> {
+    let Ok(len) = torn_len(alloc, bytes) else {
+        return Err(OpenFault::Memory);
+    };
     if len == 0 {
         return Ok(None);
     }
     match file.next_copy() {
         Ok(copy) => Ok(Some(TornEnd { len, copy })),
-        Err(Failed) => Err(Fault::JournalFile),
+        Err(Failed) => Err(OpenFault::Failed),
     }
 }
 
