@@ -1,5 +1,6 @@
 """Runs of the program in which one request for memory is refused, each in turn."""
 import os
+import shutil
 import socket
 import subprocess
 import tempfile
@@ -25,6 +26,35 @@ def refuse_in_replay(preload, story):
         need((status == 4 and whole.startswith(output)) or (status == 0 and output == whole), f"{story.name}: growth {number}: status {status}")
         refusals += status == 4
         since = 0 if status == 4 else since + 1
+    return refusals
+
+
+def replay_kept(journal, lines, more):
+    ran = subprocess.run([PROGRAM, "replay", "--journal", journal], input=b"".join(lines), capture_output=True, env=os.environ | more, timeout=20)
+    return ran.stdout.splitlines(keepends=True), ran.returncode
+
+
+def refuse_in_journal(preload, story, folder):
+    """Refuses each growth alone of a run that goes on with the journal of the first lines, until a hundred runs in a row are whole.
+    What was answered is in the journal: a run that is given the lines without an answer gives the other answers, and the report. How
+    many runs said that memory was refused."""
+    lines = story.read_bytes().splitlines(keepends=True)
+    half, base = len(lines) // 2, f"{folder}/base"
+    replay_kept(base, lines[:half], {})
+    whole, _ = replay_kept(shutil.copy(base, f"{folder}/whole"), lines[half:], {})
+    number = refusals = since = 0
+    while since < 100:
+        number += 1
+        journal = shutil.copy(base, f"{folder}/refused")
+        output, status = replay_kept(journal, lines[half:], {"LD_PRELOAD": preload, "REFUSE": str(number)})
+        need(status in (0, 4, 7), f"a journal: growth {number}: status {status}")
+        if status:
+            output = [it for it in output if it.startswith(b"{")]
+            rest, _ = replay_kept(journal, lines[half + len(output) :], {})
+            output += rest
+        need(output == whole, f"a journal: growth {number}: status {status}: other answers")
+        refusals += status != 0
+        since = 0 if status else since + 1
     return refusals
 
 
@@ -71,4 +101,6 @@ def growths():
         stories = sorted((TOP / "examples").glob("*.jsonl"))
         refusals = [refuse_in_replay(preload, story) for story in stories]
         print(f"growths: replay of {len(stories)} stories: {sum(refusals)} growths refused alone, each told or made up for", flush=True)
+        kept = refuse_in_journal(preload, TOP / "examples/germany_to_italy.jsonl", folder)
+        print(f"growths: a run with a journal: {kept} growths refused alone, each told, and what was answered kept", flush=True)
         print(f"growths: a shift of one railway: {refuse_in_serve(preload)} growths refused alone, each told or settled")
