@@ -11,8 +11,8 @@ use std::io::{ErrorKind, Read, Write};
 use std::random::RandomSource;
 use std::rt::Files;
 
-/// Prints how many calls the journal has, and how many bytes its torn end. It is read as `replay` reads it, and refused for the same
-/// faults; it is not locked, and nothing is written to it.
+/// Prints how many calls the journal has, and how many bytes its torn end. It is read as `replay` reads it, and refused for the
+/// same faults; it is not locked, and nothing is written to it.
 pub fn perform<H, W, E>(rt: &H, path: &str, mut output: W, errors: &mut E) -> Result<u8, Fault>
 where
     H: Files + RandomSource + AllocGlobal,

@@ -9,10 +9,11 @@
 //! | `taf_hub number TEXT` | prints the vehicle number that TEXT shows in the marked form | 0; 1 TEXT shows none; 3 writing failed; 4 memory was refused |
 //!
 //! [`arguments`] gives the arguments of the command line, and [`perform`] does what they name, as `hub_tasks` reads them.
-//! [`serve_on`] is `serve` on a listener; a session that could not be served to its end is a line among the errors ([`report_end`]). `--help` prints clap's help, which ends with an example and the statuses, and `--version`
-//! the version, both with status 0. Where a journal is not taken, the line before that of the fault says why, behind the file's path. Arguments that name no command end with status 2 and clap's text among the errors. A [`Fault`]
-//! is one line there, by [`report_fault`], which gives its status. Where the arguments cannot be read, the status is 4 if memory
-//! was refused and else 2.
+//! [`serve_on`] is `serve` on a listener; a session that could not be served to its end is a line among the errors
+//! ([`report_end`]). `--help` prints clap's help, which ends with an example and the statuses, and `--version` the version, both
+//! with status 0. Arguments that name no command end with status 2 and clap's text among the errors. A [`Fault`] is one line there,
+//! by [`report_fault`], which gives its status; where a journal is not taken, the line before says why, behind the file's path.
+//! Where the arguments cannot be read, the status is 4 if memory was refused and else 2.
 #![tactic(auto)]
 
 mod check;
