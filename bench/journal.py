@@ -1,4 +1,5 @@
 """`taf_hub replay --journal` that is killed, and given torn, damaged and foreign files, and files that cannot be written."""
+import contextlib
 import os
 import pathlib
 import random
@@ -13,9 +14,6 @@ from hub_server import PROGRAM, Wrong, journey, line_of, need
 
 # No run takes as many seconds.
 LIMIT = 60
-
-# How many seconds a batch and its sync take at most, mostly: a process is killed within so many of the last lines that it is sent.
-TURN = 0.004
 
 
 class Ended:
@@ -84,15 +82,16 @@ class Killed:
         words = [PROGRAM, "replay", "--journal", journal]
         self.process = subprocess.Popen(words, stdin=subprocess.PIPE, stdout=subprocess.PIPE, stderr=subprocess.PIPE)
         self.answers = []
-        if draw.random() < 0.1:
-            time.sleep(draw.uniform(0, 2 * TURN))
-        else:
+        if draw.random() < 0.9:
             self.send(draw, journal, lines)
-            time.sleep(draw.uniform(0, TURN))
+        # A batch and its sync take some milliseconds, and the start of a run too.
+        time.sleep(0.001 * 4 ** draw.uniform(-1, 2))
         self.process.kill()
-        written, errors = self.process.communicate(timeout=LIMIT)
-        need(self.process.returncode == -signal.SIGKILL, f"status {self.process.returncode} before it was killed: {errors}")
-        self.answers += [it for it in written.splitlines(keepends=True) if it.endswith(b"\n")]
+        self.answers += [it for it in self.process.stdout if it.endswith(b"\n")]
+        status = self.process.wait(timeout=LIMIT)
+        need(status == -signal.SIGKILL, f"status {status} before it was killed: {self.process.stderr.read()}")
+        with contextlib.suppress(BrokenPipeError):
+            self.process.stdin.close()
 
     def send(self, draw, journal, lines):
         said = self.process.stderr.readline().decode()
