@@ -114,7 +114,8 @@ fn answer_turn<W: Sink, F: RawFile>(
 {
     let replies = match hub.answer_lines(rt, lines) {
         Ok(replies) => replies,
-        Err(fault) => return Err(JournaledRunFault::Run(fault)),
+        // The lines and what is to be written are in memory, so nothing else was refused.
+        Err(_refused) => return Err(JournaledRunFault::Run(RunFault::Memory)),
     };
     let Ok(()) = hub.sync() else {
         return Err(JournaledRunFault::Journal);
