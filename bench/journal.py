@@ -243,7 +243,11 @@ def read_only(folder):
         program = shutil.copy(PROGRAM, f"{folder}/taf_hub")
         os.chmod(folder, 0o755)
         more = {"program": program, "user": 65534}
-    ended = replay(journal, b"{}\n", **more)
+    try:
+        ended = replay(journal, b"{}\n", **more)
+    except PermissionError:
+        print("journal: a file that may only be read is left out, since no other user may run the program")
+        return
     need(ended.status == 7 and ended.errors == f"{journal}: the file could not be opened\nfault: journal file\n", f"status {ended.status}: {ended.errors}")
     check(journal, 2, 0, **more)
     print("journal: a file that may only be read refused", flush=True)
