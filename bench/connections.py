@@ -97,15 +97,20 @@ def send_what_goes(connection, lines):
         pass
 
 
+def answered(connection, asks):
+    """Sends no more: the hello and so many asks are answered. How many asks."""
+    connection.shutdown(socket.SHUT_WR)
+    with connection.makefile("rb") as answers:
+        need(sum(1 for _ in answers) == 1 + asks, "another number of answers")
+    connection.close()
+    return asks
+
+
 def half_close(connection):
     """The whole lines are answered, the piece of one is dropped."""
     first, ask = hello_and_ask("R302")
     connection.sendall(first + ask * 100 + ask[:20])
-    connection.shutdown(socket.SHUT_WR)
-    with connection.makefile("rb") as answers:
-        need(sum(1 for _ in answers) == 101, "another number of answers")
-    connection.close()
-    return 100
+    return answered(connection, 100)
 
 
 def send_slowly(connection):
@@ -113,11 +118,7 @@ def send_slowly(connection):
     for byte in first + ask * 10:
         connection.sendall(bytes([byte]))
         time.sleep(0.001)
-    connection.shutdown(socket.SHUT_WR)
-    with connection.makefile("rb") as answers:
-        need(sum(1 for _ in answers) == 11, "another number of answers")
-    connection.close()
-    return 10
+    return answered(connection, 10)
 
 
 def send_no_newline(connection):
