@@ -117,6 +117,17 @@ impl JobQueue {
         unreachable!()
     }
 
+    /// The job that was put first, if one is there. It does not wait for one; none is there only where the queue was empty, as
+    /// [`Inbox::take`] says.
+    pub fn next_if_there<R: Wait>(&self, rt: &R, pass: &mut Pass) -> Option<Job>
+        requires own { pass.old.inbox ≡ self.now.id }
+        ensures taken { IfSome result (λ job. pass.new ≡ after_take pass.old job) }
+        ensures none { IfNone result (pass.new ≡ pass.old) }
+        ensures empty { IfNone result (HeldSoMany 0 pass.old) }
+    {
+        self.inbox.take(rt, pass)
+    }
+
     /// No job comes any more: the worker that finds the queue empty ends.
     pub fn end(&self) {
         self.ended.store(true, Ordering::SeqCst);
