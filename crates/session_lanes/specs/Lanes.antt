@@ -34,6 +34,10 @@ lane_capacity k lanes sessions = max 1 (16 * sessions_of k lanes sessions)
 abbrev pub thread_pass : TableId → List Job → List Job → PassState
 thread_pass id put taken = record { inbox = id; parts = 1; put = put; taken = taken }
 
+-- the pass took jobs, and put none
+abbrev pub TakesOnly : PassState → PassState → Type 0
+TakesOnly old new = new ≡ record old { taken = new.taken }
+
 -- a pass of lane k of these, as it was handed out
 abbrev pub IsPassOf : List LaneState → ℕ → PassState → Type 0
 IsPassOf lanes k pass = (d : LaneState) → pass ≡ new_pass (slice_index_or lanes k d).id 1

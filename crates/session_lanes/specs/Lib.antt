@@ -1,3 +1,4 @@
 pub mod Ends
 pub mod Lanes
 pub mod Room
+pub mod Work

@@ -3,7 +3,7 @@
 //! A lane has an inbox of jobs for one worker. [`serve`] is what the thread of a session does: it puts the session's jobs
 //! into a lane, by a pass of its own, and takes their answers from a queue of its own. A session puts into one lane alone, so
 //! a worker finds its jobs in the order of its lines. Nothing here depends on the hub: whoever has a lane's taking pass makes
-//! the calls.
+//! the calls. [`Work`] is what the thread of a worker has and does, of whatever kind the worker is.
 //!
 //! [`make_lanes`] makes the lanes, and [`start_sessions`] hands out to the sessions what they begin with. [`take_sessions`]
 //! and [`close_lanes`] take it back.
@@ -12,8 +12,10 @@
 //!
 //! `specs/Ends.antt` says what the thread of a session gives back: how the session ended, by the lines that its reader had, the
 //! jobs that it gave out and what was put of them, with its tally. `specs/Lanes.antt` says which sessions fall to a lane, and what
-//! it handed out and took back, and how many jobs it holds at most. Once the first thread may start, nothing here takes memory but
-//! what the sessions themselves take: a lane has room for its passes, and what is taken back goes into lists that have room for it.
+//! it handed out and took back, and how many jobs it holds at most. `specs/Work.antt` says what the thread of a worker gives
+//! back: its pass put nothing, and the kind of worker says the rest. Once the first thread may start, nothing here takes memory
+//! but what the sessions themselves take: a lane has room for its passes, and what is taken back goes into lists that have room
+//! for it.
 //!
 //! No contract says that a thread that waits is woken, nor what an [`AnswerQueue`] or an [`Opening`] holds. A worker whose lane
 //! is empty and a session that waits for answers let others run a few times, and then sleep until they are woken: a worker by the
@@ -25,6 +27,7 @@
 //! | `port` | a session's way to its worker |
 //! | `ends` | what the thread of a session begins with and gives back |
 //! | `session` | what the thread of a session is lent, and what it does |
+//! | `work` | what the thread of a worker has and does |
 //! | `room` | lists with room, made before the threads start |
 //! | `lane`, `closing` | lanes: how passes are handed out and taken back, and how lanes are closed |
 #![tactic(auto)]
@@ -36,6 +39,7 @@ mod port;
 mod queues;
 mod room;
 mod session;
+mod work;
 
 pub use closing::{Outcomes, close_lanes, take_sessions};
 pub use ends::{Served, SessionEnd, SessionStart};
@@ -43,3 +47,4 @@ pub use lane::{Lane, make_lanes, start_sessions};
 pub use queues::{AnswerQueue, JobQueue, Opening};
 pub use room::with_room;
 pub use session::{SessionContext, serve};
+pub use work::Work;
