@@ -1,8 +1,8 @@
 //! Workers: what the thread of a worker does, and what the threads of sessions and workers begin with.
 //!
-//! A worker has a lane of `session_lanes`, with its one taking pass. [`work`] is what its thread does: it takes the jobs of
-//! its lane, makes their calls on the shared hub, and answers their sessions. A session puts into one lane alone, so its
-//! calls are made in the order of its lines.
+//! A worker has a lane of `session_lanes`, with its one taking pass. [`work`] is what its thread does, as its
+//! `session_lanes::Work` says: it takes the jobs of its lane, makes their calls on the shared hub, and answers their sessions. A
+//! session puts into one lane alone, so its calls are made in the order of its lines.
 //!
 //! [`make_places`] hands out to all threads what they begin with. [`take_workers`] takes back what the workers had.
 //!
@@ -30,4 +30,4 @@ mod worker;
 pub use closing::{add_refused, take_workers};
 pub use gate::{Gate, OpenGate};
 pub use places::{Places, make_places};
-pub use worker::{Worker, WorkerContext, make_call, work};
+pub use worker::{SharedContext, Worker, make_call, work};

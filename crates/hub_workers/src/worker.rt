@@ -1,11 +1,12 @@
 //! What a worker does.
 ghost use Rattle.std.specs.Prelude.{◌≡◌, ◌+◌, ◌<◌, ◌^◌, length, IfOk, IfErr};
-ghost use Rattle.hub_shared.specs.Seats.{IsAnswerInRun, IsFaultInRun};
+ghost use Rattle.hub_shared.specs.Seats.{new_seat, IsAnswerInRun, IsFaultInRun};
+ghost use Rattle.hub_workers.specs.Work.{IsWorked};
 
 use crate::gate::Gate;
 use hub_shared::{Seat, SharedHub};
 use inbox::{Job, Pass};
-use session_lanes::{AnswerQueue, JobQueue};
+use session_lanes::{AnswerQueue, JobQueue, Work};
 use session_lines::Done;
 use std::sync::Wait;
 use std::sync::ledger::Ledger;
@@ -17,25 +18,43 @@ pub struct Worker<L: Ledger> {
     pub seat: Seat<L>,
 }
 
-/// What a worker is lent: the gate, the queue of its lane, the hub, and the queue of each session's answers.
+/// What the workers of a shared hub are lent: the gate, and the hub.
 #[derive(Drop)]
-pub struct WorkerContext<'x, L: Ledger, G> {
+pub struct SharedContext<'x, L: Ledger, G> {
     pub gate: &'x G,
-    pub jobs: &'x JobQueue,
     pub hub: &'x SharedHub<L>,
-    pub answers: &'x [AnswerQueue],
+}
+
+impl<'x, L: Ledger, G: Gate> Work<SharedContext<'x, L, G>> for Worker<L> {
+    ghost pass = { λ w. w.pass };
+
+    ghost can_begin = { λ w. w.seat ≡ new_seat 1 };
+
+    ghost has_worked = { λ began w. IsWorked began.pass w.pass w.seat };
+
+    fn work<R: Wait>(
+        self,
+        rt: &R,
+        context: &SharedContext<'x, L, G>,
+        jobs: &JobQueue,
+        answers: &[AnswerQueue],
+    ) -> Worker<L> {
+        work(rt, context, jobs, answers, self)
+    }
 }
 
 /// Takes jobs, makes their calls and answers their sessions, until the queue was ended and is found empty.
 ///
 /// It put nothing. While the faults of its seat are below 2^60, it took as many jobs as its seat counted calls and faults.
-/// The answer to a job is put into the queue at its session's place in `context.answers`; where there is none it is dropped.
+/// The answer to a job is put into the queue at its session's place in `answers`; where there is none it is dropped.
 pub fn work<L: Ledger, G: Gate, R: Wait>(
     rt: &R,
-    context: &WorkerContext<'_, L, G>,
+    context: &SharedContext<'_, L, G>,
+    jobs: &JobQueue,
+    answers: &[AnswerQueue],
     worker: Worker<L>,
 ) -> Worker<L>
-    requires own { worker.pass.inbox ≡ context.now.jobs.now.id }
+    requires own { worker.pass.inbox ≡ jobs.now.id }
     ensures pass { result.pass ≡ record worker.pass { taken = result.pass.taken } }
     ensures seat { result.seat.parts ≡ worker.seat.parts }
     ensures made { result.seat.refused < 2 ^ 60
@@ -45,8 +64,8 @@ pub fn work<L: Ledger, G: Gate, R: Wait>(
     let Worker { pass, seat } = worker;
     let (mut pass, mut seat) = (pass, seat);
     for _ in rt.forever() {
-        match context.jobs.next(rt, &mut pass) {
-            Some(job) => answer(rt, context, &mut seat, job),
+        match jobs.next(rt, &mut pass) {
+            Some(job) => answer(rt, context, answers, &mut seat, job),
             None => break,
         }
     }
@@ -56,7 +75,8 @@ pub fn work<L: Ledger, G: Gate, R: Wait>(
 // Makes the call of one job, and answers its session.
 fn answer<L: Ledger, G: Gate, R: Wait>(
     rt: &R,
-    context: &WorkerContext<'_, L, G>,
+    context: &SharedContext<'_, L, G>,
+    answers: &[AnswerQueue],
     seat: &mut Seat<L>,
     job: Job,
 )
@@ -67,7 +87,7 @@ fn answer<L: Ledger, G: Gate, R: Wait>(
 {
     context.gate.before(&job);
     let done = make_call(rt, context.hub, seat, job);
-    if let Some(queue) = context.answers.get(done.session as usize) {
+    if let Some(queue) = answers.get(done.session as usize) {
         queue.push(rt, done);
     }
 }
