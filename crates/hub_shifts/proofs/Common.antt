@@ -43,6 +43,7 @@ pub use Rattle.session_lanes.specs.declared.ends.SessionEnd.TheVariants.{Complet
 pub use Rattle.session_lanes.specs.declared.ends.SessionStart.{SessionStart}
 pub use Rattle.session_lanes.proofs.FallLemmas.{of_lane-map, of_lane-fits, EachPair-push, of_lane-alike}
 pub use Rattle.session_lanes.specs.Room.{IsEmptyWithRoom}
+pub use Rattle.session_lanes.specs.Work.{IsWorkOf}
 pub use Rattle.hub_shared.specs.Settling.{StandsIn, IsTold}
 pub use Rattle.hub_shared.specs.Seats.{SeatState, new_seat}
 pub use Rattle.hub_shared.proofs.OrderLemmas.{told_in_order}

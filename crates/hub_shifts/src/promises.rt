@@ -1,12 +1,10 @@
 //! What the threads of a shift promise: what each began with.
 ghost use Rattle.session_lanes.specs.Ends.{IsServed};
-ghost use Rattle.hub_workers.specs.Work.{IsWorked};
+ghost use Rattle.session_lanes.specs.Work.{IsWorkOf};
 
-use hub_workers::Worker;
-use inbox::Pass;
-use session_lanes::{Served, SessionStart};
+use session_lanes::{Served, SessionStart, Work};
+use std::marker::PhantomData;
 use std::snapshot::Snapshot;
-use std::sync::ledger::Ledger;
 use std::thread::Promise;
 use taf_codes::{Sink, Source};
 
@@ -21,12 +19,13 @@ impl<S: Source, K: Sink> Promise<Served> for ServedBy<S, K> {
         IsServed S.remaining K.contents p.start.value.session p.start.value r };
 }
 
-// The pass that a worker's thread began with.
+// What the thread of a worker began with, which was lent a `C`.
 #[derive(Drop)]
-pub(crate) struct WorkedBy {
-    pub began: Snapshot<Pass>,
+pub(crate) struct WorkedBy<W, C> {
+    pub began: Snapshot<W>,
+    pub of: PhantomData<C>,
 }
 
-impl<L: Ledger> Promise<Worker<L>> for WorkedBy {
-    ghost kept_by = { λ p r. IsWorked p.began.value r.pass r.seat };
+impl<W: Work<C>, C> Promise<W> for WorkedBy<W, C> {
+    ghost kept_by = { λ p w. IsWorkOf W.pass W.has_worked p.began.value w };
 }

@@ -12,7 +12,7 @@ ghost use Rattle.hub_shifts.specs.declared.shift.ShiftFault.TheVariants as fault
 use crate::threads::{Back, ShiftContext, run_threads};
 use hub_core::Hub;
 use hub_shared::{Seat, SharedHub, Tally};
-use hub_workers::{Gate, Places, add_refused, make_places, take_workers};
+use hub_workers::{Gate, Places, SharedContext, Worker, add_refused, make_places, take_workers};
 use inbox::Left;
 use seeded_state::SeededState;
 use session_lanes::{
@@ -140,16 +140,16 @@ where
     } = make_places(rt, alloc, sessions, workers, &mut seat)?;
     let answers = make_answers(alloc, sessions.len())?;
     let opening = Opening::new();
+    let shared = SharedContext { gate, hub: &hub };
     let context = ShiftContext {
-        gate,
+        shared: &shared,
         lanes: lanes.as_slice(),
-        hub: &hub,
         answers: answers.as_slice(),
         opening: &opening,
     };
     let starts = Snapshot::of(&sessions);
     let room = Room::new(alloc, sessions.len(), workers.len())?;
-    let back = run_threads::<L, S, K, G, R>(rt, alloc, context, sessions, workers)?;
+    let back = run_threads(rt, alloc, context, sessions, workers)?;
     let to_close = ToClose {
         starts,
         lanes,
@@ -199,7 +199,7 @@ struct ToClose<L: Ledger, S, K> {
 fn end_shift<L: Ledger, S: Source, K: Sink>(
     rt: &impl Wait,
     to_close: ToClose<L, S, K>,
-    back: Back<L>,
+    back: Back<Worker<L>>,
 ) -> Shift
     requires some { (1 ≤ length to_close.lanes.items) × (length to_close.lanes.items ≤ 8) }
     requires lanes { let lanes = to_close.lanes.items in EachAt (λ k l.

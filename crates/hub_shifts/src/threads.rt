@@ -3,45 +3,41 @@ ghost use Rattle.std.specs.Prelude.{◌≡◌, [], length, vec_len, IfOk};
 ghost use Rattle.session_lanes.specs.Lanes.{EachPair};
 ghost use Rattle.session_lanes.specs.Ends.{IsServed};
 ghost use Rattle.session_lanes.specs.Room.{IsEmptyWithRoom};
-ghost use Rattle.hub_shared.specs.Seats.{new_seat};
-ghost use Rattle.hub_workers.specs.Work.{IsWorked};
+ghost use Rattle.session_lanes.specs.Work.{IsWorkOf};
 ghost use Rattle.hub_shifts.specs.Starts.{CanBegin};
 
 use crate::promises::{ServedBy, WorkedBy};
 use crate::shift::ShiftFault;
-use hub_shared::SharedHub;
-use hub_workers::{Gate, Worker, WorkerContext, work};
 use session_lanes::{
-    AnswerQueue, Lane, Opening, Served, SessionContext, SessionStart, serve, with_room,
+    AnswerQueue, Lane, Opening, Served, SessionContext, SessionStart, Work, serve, with_room,
 };
 use std::alloc::Global;
+use std::marker::PhantomData;
 use std::snapshot::Snapshot;
 use std::sync::Wait;
-use std::sync::ledger::Ledger;
 use std::thread;
 use std::thread::{Promise, PromisedHandle, Threads};
 use taf_codes::{Memory, Sink, Source};
 
-// What the threads of a shift are lent.
+// What the threads of a shift are lent. The workers share a `C`.
 #[derive(Drop)]
-pub(crate) struct ShiftContext<'x, L: Ledger, G> {
-    pub gate: &'x G,
+pub(crate) struct ShiftContext<'x, C> {
+    pub shared: &'x C,
     pub lanes: &'x [Lane],
-    pub hub: &'x SharedHub<L>,
     pub answers: &'x [AnswerQueue],
     pub opening: &'x Opening,
 }
 
 // What the threads of a shift gave back.
 #[derive(Drop)]
-pub(crate) struct Back<L: Ledger> {
+pub(crate) struct Back<W> {
     pub served: Vec<Served>,
-    pub worked: Vec<Worker<L>>,
+    pub worked: Vec<W>,
 }
 
-impl<L: Ledger> Back<L> {
+impl<W: Drop> Back<W> {
     // Empty lists with room for so many sessions and workers.
-    fn with_room(alloc: Global, sessions: usize, workers: usize) -> Result<Back<L>, Memory>
+    fn with_room(alloc: Global, sessions: usize, workers: usize) -> Result<Back<W>, Memory>
         ensures served { IfOk result (λ b. IsEmptyWithRoom b.served sessions) }
         ensures worked { IfOk result (λ b. IsEmptyWithRoom b.worked workers) }
     {
@@ -54,30 +50,29 @@ impl<L: Ledger> Back<L> {
 // Runs a thread for each worker and each session, and joins them. Once a thread is started nothing returns before all are
 // joined, and memory is refused before the first one starts or not at all. The closure captures all of it at one lifetime, so
 // its two loops stand in one function.
-pub(crate) fn run_threads<'x, L, S, K, G, R>(
+pub(crate) fn run_threads<'x, W, C, S, K, R>(
     rt: &'x R,
     alloc: Global,
-    context: ShiftContext<'x, L, G>,
+    context: ShiftContext<'x, C>,
     sessions: Vec<SessionStart<S, K>>,
-    workers: Vec<Worker<L>>,
-) -> Result<Back<L>, ShiftFault>
+    workers: Vec<W>,
+) -> Result<Back<W>, ShiftFault>
 where
-    L: Ledger + Send + Sync,
+    W: Work<C> + Send + Drop,
+    C: Sync,
     S: Source + Send + Drop,
     K: Sink + Send + Drop,
-    G: Gate + Sync,
     R: Threads + Wait + Sync,
-    requires { CanBegin context.lanes.now (length context.answers.now) sessions.items
-        workers.items }
+    requires begins { CanBegin W.pass W.can_begin context.lanes.now sessions.items workers.items }
+    requires queues { length context.answers.now ≡ length sessions.items }
     ensures served { IfOk result (λ b. EachPair (IsServed S.remaining K.contents) sessions.items
         b.served.items) }
-    ensures worked { IfOk result (λ b. EachPair (λ k s r. IsWorked s.pass r.pass r.seat)
+    ensures worked { IfOk result (λ b. EachPair (λ k s r. IsWorkOf W.pass W.has_worked s r)
         workers.items b.worked.items) }
 {
     let ShiftContext {
-        gate,
+        shared,
         lanes,
-        hub,
         answers,
         opening,
     } = context;
@@ -86,13 +81,15 @@ where
     thread::scope(
         thread::scope_env(),
         rt,
-        move |scope| -> Result<Back<L>, ShiftFault>
-            requires { CanBegin lanes.now (length answers.now) sessions.items workers.items
+        move |scope| -> Result<Back<W>, ShiftFault>
+            requires { CanBegin W.pass W.can_begin lanes.now sessions.items workers.items
+                × (length answers.now ≡ length sessions.items)
                 × IsEmptyWithRoom serving (vec_len sessions)
                 × IsEmptyWithRoom working (vec_len workers) }
             ensures { IfOk result
                 (λ b. EachPair (IsServed S.remaining K.contents) sessions.items b.served.items
-                × EachPair (λ k s r. IsWorked s.pass r.pass r.seat) workers.items b.worked.items) }
+                × EachPair (λ k s r. IsWorkOf W.pass W.has_worked s r)
+                workers.items b.worked.items) }
         {
             let (mut serving, mut working) = (serving, working);
             let room = Back::with_room(alloc, sessions.len(), workers.len())?;
@@ -101,22 +98,15 @@ where
             for start in workers {
                 let jobs = lanes[lane].jobs();
                 let promise = WorkedBy {
-                    began: Snapshot::of(&start.pass),
+                    began: Snapshot::of(&start),
+                    of: PhantomData,
                 };
                 match scope.spawn_with(
                     promise,
-                    move || -> Worker<L>
-                        requires { (start.seat ≡ new_seat 1) × (start.pass.inbox ≡ jobs.now.id) }
-                        ensures { IsWorked start.pass result.pass result.seat }
-                    {
-                        let context = WorkerContext {
-                            gate,
-                            jobs,
-                            hub,
-                            answers,
-                        };
-                        run_worker::<L, G, R>(rt, context, start)
-                    },
+                    move || -> W
+                        requires { W.can_begin start × ((W.pass start).inbox ≡ jobs.now.id) }
+                        ensures { IsWorkOf W.pass W.has_worked start result }
+                    { start.work(rt, shared, jobs, answers) },
                 ) {
                     Ok(thread) => working.push_reserved(thread),
                     Err(_) => all_started = false,
@@ -161,18 +151,18 @@ where
 }
 
 // Joins the sessions, ends the workers, and joins them, into lists with room for them. It takes no memory.
-fn join_all<L: Ledger, S: Source, K: Sink, R: Threads>(
+fn join_all<W: Work<C> + Drop, C, S: Source, K: Sink, R: Threads>(
     rt: &R,
     serving: Vec<PromisedHandle<Served, ServedBy<S, K>>>,
-    working: Vec<PromisedHandle<Worker<L>, WorkedBy>>,
+    working: Vec<PromisedHandle<W, WorkedBy<W, C>>>,
     lanes: &[Lane],
-    room: Back<L>,
-) -> Back<L>
+    room: Back<W>,
+) -> Back<W>
     requires served { IsEmptyWithRoom room.served (vec_len serving) }
     requires worked { IsEmptyWithRoom room.worked (vec_len working) }
     ensures served { EachPair (λ i h r. IsServed S.remaining K.contents
         h.promise.start.value.session h.promise.start.value r) serving.items result.served.items }
-    ensures worked { EachPair (λ k h r. IsWorked h.promise.began.value r.pass r.seat)
+    ensures worked { EachPair (λ k h r. IsWorkOf W.pass W.has_worked h.promise.began.value r)
         working.items result.worked.items }
 {
     let Back { served, worked } = room;
@@ -203,17 +193,4 @@ fn end_jobs(lanes: &[Lane]) {
     for lane in lanes {
         lane.jobs().end();
     }
-}
-
-// What the thread of a worker does.
-fn run_worker<L: Ledger, G: Gate, R: Wait>(
-    rt: &R,
-    context: WorkerContext<'_, L, G>,
-    start: Worker<L>,
-) -> Worker<L>
-    requires seat { start.seat ≡ new_seat 1 }
-    requires own { start.pass.inbox ≡ context.jobs.now.id }
-    ensures { IsWorked start.pass result.pass result.seat }
-{
-    work(rt, &context, start)
 }

@@ -1,18 +1,15 @@
-use Rattle.hub_shifts.proofs.Common.{rules, arith, ap, sym, subst, ◌∙◌, ◌≡◌, ◌+◌, ◌%◌, List, length, map, vec_len, get_or, PassState, new_pass, SessionStart, LaneState, EachAt, EachPair, new_lane, of_lane, HandsOut, Streams, streams_of, IsServed, of_lane-alike, Worker, IsWorked, CanBegin, IsShift}
+use Rattle.hub_shifts.proofs.Common.{rules, arith, ap, sym, subst, ◌∙◌, ◌≡◌, ◌+◌, ◌%◌, List, length, map, vec_len, get_or, PassState, new_pass, SessionStart, LaneState, EachAt, EachPair, new_lane, of_lane, HandsOut, Streams, streams_of, IsServed, of_lane-alike, Worker, IsWorked, IsShift}
 use mathlib.Core.List.{map-map}
 use Rattle.hub_shifts.proofs.ThreadLemmas.{each_given}
 use Rattle.hub_shifts.proofs.shift.run_with_ledger.Goals as goal
 
-pub run_threads-requires : goal.run_threads-requires
-run_threads-requires g c =
+pub run_threads-requires-clause-begins : goal.run_threads-requires-clause-begins
+run_threads-requires-clause-begins g c =
     let places = c.in_ok-lanes.field-0 in
     let known = c.in_ok-lanes.ensures in
     let now = c.as_slice.result.now in
     let shown : now ≡ places.lanes.items = c.as_slice.ensures.value in
     let size : length now ≡ c.args.setup.workers = c.as_slice.ensures.len ∙ known.counts.0 in
-    let queues = c.as_slice-2.ensures.len in
-    let made = c.in_ok-answers.ensures in
-    let counted = c.len.ensures in
     let worked = places.workers.ok.0 in
     let served = places.sessions.ok.0 in
     let all_workers = known.counts.1 in
@@ -20,13 +17,11 @@ run_threads-requires g c =
     let some = c.requires.workers.0 in
     let few = c.requires.workers.1 in
     let few_sessions = c.requires.sessions.1 in
-    let begin : CanBegin {S = g.row.S.Denot} {K = g.row.K.Denot} {L = g.row.L.Denot} now (length c.as_slice-2.result.now) places.sessions.items places.workers.items =
-    record {
+    λ κs h. record {
       some_lanes = omega (arith, size, some);
       few_lanes = omega (arith, size, few);
       few_sessions = omega (arith, served, all_sessions, few_sessions);
       worker_count = omega (arith, worked, all_workers, size);
-      queue_count = omega (arith, queues, made, counted, served);
       workers_are = λ k w low.
           let each = known.workers k w low in (
             each.0,
@@ -39,8 +34,15 @@ run_threads-requires g c =
                 each.1 d ∙ (ap (λ (l : List LaneState). new_pass (get_or l (i % c.args.setup.workers) d).id 1) (sym shown)
                 ∙ ap (λ n. new_pass (get_or now (i % n) d).id 1) (sym size)),
           );
-    } in
-    search (rules, begin)
+    }
+
+pub run_threads-requires-clause-queues : goal.run_threads-requires-clause-queues
+run_threads-requires-clause-queues g c =
+    let queues = c.as_slice-2.ensures.len in
+    let made = c.in_ok-answers.ensures in
+    let counted = c.len.ensures in
+    let served = c.in_ok-lanes.field-0.sessions.ok.0 in
+    λ κs h. omega (arith, queues, made, counted, served)
 
 pub end_shift-requires-clause-lanes : goal.end_shift-requires-clause-lanes
 end_shift-requires-clause-lanes g c =
@@ -98,12 +100,13 @@ end_shift-requires-clause-worked g c =
     let workers = c.in_ok-lanes.field-0.workers in
     let size : length lanes.items ≡ c.args.setup.workers = sym lanes.ok.0 ∙ c.in_ok-lanes.ensures.counts.0 in
     let many : length workers.items ≡ c.args.setup.workers = sym workers.ok.0 ∙ c.in_ok-lanes.ensures.counts.1 in
-    let pass_of : Worker g.row.L.Denot → PassState = λ w. w.pass in (
-      c.in_ok-back.ensures.worked.0 ∙ (many ∙ sym size),
+    let pass_of : Worker g.row.L.Denot → PassState = λ w. w.pass in
+    let worked = c.in_ok-back.ensures.worked in (
+      worked.0 ∙ (many ∙ sym size),
       each_given (λ k t (r : Worker g.row.L.Denot). IsWorked t r.pass r.seat) pass_of (λ k (d : LaneState). new_pass (get_or lanes.items k d).id 1)
           workers.items c.in_ok-back.back.worked.items
           (λ k w low d. (c.in_ok-lanes.ensures.workers k w low).1 d)
-          c.in_ok-back.ensures.worked,
+          (worked.0, λ k s r low. (worked.1 k s r low).worked),
     )
 
 pub returns : goal.returns

@@ -1,11 +1,11 @@
-use Rattle.hub_shifts.proofs.Common.{rules, arith, ap, sym, refl, subst, true, ◌∙◌, ◌≡◌, ℕ, ◌+◌, ◌%◌, ◌≤◌, [], ◌∷◌, ◌++◌, length, length-append, vec_len, vec_capacity, map-id, YieldsList-turn, YieldsList-end, YieldsList-from_vec, PromisedHandle, PassState, SessionStart, Served, IsPassOf, EachPair, IsServed, new_seat, ServedBy, Worker, WorkedBy, IsWorked}
+use Rattle.hub_shifts.proofs.Common.{rules, arith, ap, sym, refl, subst, true, ◌∙◌, ◌≡◌, ℕ, ◌+◌, ◌%◌, ◌≤◌, [], ◌∷◌, ◌++◌, length, length-append, vec_len, vec_capacity, map-id, YieldsList-turn, YieldsList-end, YieldsList-from_vec, PromisedHandle, PassState, SessionStart, Served, IsPassOf, EachPair, IsServed, ServedBy, WorkedBy, IsWorkOf}
 use Rattle.hub_shifts.proofs.ThreadLemmas.{through, another_handle, never_both}
 use Rattle.hub_shifts.proofs.threads.fn.run_threads.scope.Goals as goal
 use Rattle.hub_shifts.proofs.threads.fn.run_threads.scope.Goals.{in-Ok, in-Err, in-Ok-spawn_with, in-Err-spawn_with}
 
 pub loop-start-init : goal.loop-start-init
 loop-start-init g c =
-    let none = c.requires.2.empty in
+    let none = c.requires.3.empty in
     let long = c.captures.working.ok.0 in
     let empty : length c.captures.working.items ≡ 0 = ap length none in
     (refl, omega (arith, empty, long), refl, λ yes. (empty, λ k d e low. absurd (omega (arith, low))))
@@ -29,7 +29,7 @@ spawn_with-requires-clause-runs g c =
     let n = length c.loop-start.yielded in
     let start = c.in-Some.start in
     let turn = YieldsList-turn (YieldsList-from_vec c.captures.workers.items c.into_iter-start-iterator.ensures.into_iter_gives.0 (c.into_iter-start-iterator.ensures.into_iter_gives.1 ∙ c.captures.workers.ok.0)) c.loop-start.yielded c.loop-start.start-iterator c.loop-start.yielded_by c.next.result c.next.new.self start c.in-Some.is c.next.ensures.steps in
-    let P : Worker g.row.L.Denot → Type 0 = λ s. (s.seat ≡ new_seat 1) × IsPassOf lanes n s.pass in
+    let P : g.row.W.Denot → Type 0 = λ s. g.W.Work.can_begin s × IsPassOf lanes n (g.W.Work.pass s) in
     let known = subst P (sym turn.1) (c.requires.0.workers_are n start turn.0) in
     let r = c.index-lanes-lane.result in
     let a = ap (λ (t : PassState). t.inbox) (known.1 r) in
@@ -43,7 +43,7 @@ push_reserved-requires g c =
     let turn = (YieldsList-turn (YieldsList-from_vec c.captures.workers.items c.into_iter-start-iterator.ensures.into_iter_gives.0 (c.into_iter-start-iterator.ensures.into_iter_gives.1 ∙ c.captures.workers.ok.0)) c.loop-start.yielded c.loop-start.start-iterator c.loop-start.yielded_by c.next.result c.next.new.self c.in-Some.start c.in-Some.is c.next.ensures.steps).0 in
     let short = c.loop-start.invariant.1 in
     let same = c.loop-start.invariant.2 in
-    let room = c.requires.2.room in
+    let room = c.requires.3.room in
     let listed = c.captures.workers.ok.0 in
     omega (arith, turn, short, same, room, listed)
 
@@ -60,9 +60,9 @@ loop-start-preserved g c =
     let start = c.in-Some.start in
     let yielded = c.loop-start.yielded in
     let longer = length-append yielded (start ∷ []) in
-    let Handle : Type 0 = PromisedHandle (Worker g.row.L.Denot) WorkedBy in
+    let Handle : Type 0 = PromisedHandle g.row.W.Denot (WorkedBy g.row.W.Denot g.row.C.Denot) in
     let kept : (vec_len c.match-spawn_with.working ≤ vec_len c.loop-start.working + 1) × (vec_capacity c.match-spawn_with.working ≡ vec_capacity c.loop-start.working)
-    × (c.match-spawn_with.all_started ≡ true → (c.loop-start.all_started ≡ true) × ((h : Handle) × (c.match-spawn_with.working.items ≡ c.loop-start.working.items ++ h ∷ []) × (h.promise.began.value ≡ start.pass))) =
+    × (c.match-spawn_with.all_started ≡ true → (c.loop-start.all_started ≡ true) × ((h : Handle) × (c.match-spawn_with.working.items ≡ c.loop-start.working.items ++ h ∷ []) × (h.promise.began.value ≡ start))) =
     elim c.match-spawn_with.branch [
       | in-Ok w ↦ (search rules, search rules, λ yes. (search rules, (w.in-Ok.thread, search rules, search rules)))
       | in-Err w ↦ (search rules, search rules, λ yes. never_both c.match-spawn_with.all_started yes w.all_started-is)
@@ -72,7 +72,7 @@ loop-start-preserved g c =
     let same = c.loop-start.invariant.2 in
     let a = kept.0 in
     let b = kept.1 in
-    let P : ℕ → Worker g.row.L.Denot → Handle → Type 0 = λ k s h. h.promise.began.value ≡ s.pass in (
+    let P : ℕ → g.row.W.Denot → Handle → Type 0 = λ k s h. h.promise.began.value ≡ s in (
       omega (arith, longer, at),
       omega (arith, longer, short, a),
       omega (arith, same, b),
@@ -81,7 +81,7 @@ loop-start-preserved g c =
 
 pub loop-start-2-init : goal.loop-start-2-init
 loop-start-2-init g c =
-    let none = c.requires.1.empty in
+    let none = c.requires.2.empty in
     let long = c.captures.serving.ok.0 in
     let empty : length c.captures.serving.items ≡ 0 = ap length none in
     (refl, omega (arith, empty, long), refl, λ yes. (yes, (empty, λ k d e low. absurd (omega (arith, low)))))
@@ -90,14 +90,14 @@ pub bounds-answers-place : goal.bounds-answers-place
 bounds-answers-place g c =
     let turn = (YieldsList-turn (YieldsList-from_vec c.captures.sessions.items c.into_iter-start-iterator-2.ensures.into_iter_gives.0 (c.into_iter-start-iterator-2.ensures.into_iter_gives.1 ∙ c.captures.sessions.ok.0)) c.loop-start-2.yielded c.loop-start-2.start-iterator c.loop-start-2.yielded_by c.next-in-loop-start-2.result c.next-in-loop-start-2.new.self c.in-Some-start.start c.in-Some-start.is c.next-in-loop-start-2.ensures.steps).0 in
     let at = c.loop-start-2.invariant.0 in
-    let many = c.requires.0.queue_count in
+    let many = c.requires.1 in
     omega (arith, turn, at, many)
 
 pub offset_bounds-answers-place : goal.offset_bounds-answers-place
 offset_bounds-answers-place g c =
     let inside = bounds-answers-place g c in
     let few = c.requires.0.few_sessions in
-    let many = c.requires.0.queue_count in
+    let many = c.requires.1 in
     omega (arith, inside, few, many)
 
 pub spawn_with-requires-in-loop-start-2-clause-runs : goal.spawn_with-requires-in-loop-start-2-clause-runs
@@ -120,7 +120,7 @@ push_reserved-requires-in-Ok-spawn_with g c =
     let turn = (YieldsList-turn (YieldsList-from_vec c.captures.sessions.items c.into_iter-start-iterator-2.ensures.into_iter_gives.0 (c.into_iter-start-iterator-2.ensures.into_iter_gives.1 ∙ c.captures.sessions.ok.0)) c.loop-start-2.yielded c.loop-start-2.start-iterator c.loop-start-2.yielded_by c.next-in-loop-start-2.result c.next-in-loop-start-2.new.self c.in-Some-start.start c.in-Some-start.is c.next-in-loop-start-2.ensures.steps).0 in
     let short = c.loop-start-2.invariant.1 in
     let same = c.loop-start-2.invariant.2 in
-    let room = c.requires.1.room in
+    let room = c.requires.2.room in
     let listed = c.captures.sessions.ok.0 in
     omega (arith, turn, short, same, room, listed)
 
@@ -178,13 +178,14 @@ join_all-back-requires g c =
 -- at the end the handles are those of all workers and all sessions
 pub returns-then-all_started : goal.returns-then-all_started
 returns-then-all_started g c =
-    let HandleW : Type 0 = PromisedHandle (Worker g.row.L.Denot) WorkedBy in
+    let HandleW : Type 0 = PromisedHandle g.row.W.Denot (WorkedBy g.row.W.Denot g.row.C.Denot) in
     let HandleS : Type 0 = PromisedHandle Served (ServedBy g.row.S.Denot g.row.K.Denot) in
-    let Post : Type 0 = Worker g.row.L.Denot in
+    let Post : Type 0 = g.row.W.Denot in
     let Seat : Type 0 = SessionStart g.row.S.Denot g.row.K.Denot in
     let posted : c.loop-start.yielded ≡ c.captures.workers.items = sym (map-id c.loop-start.yielded) ∙ (YieldsList-end (YieldsList-from_vec c.captures.workers.items c.into_iter-start-iterator.ensures.into_iter_gives.0 (c.into_iter-start-iterator.ensures.into_iter_gives.1 ∙ c.captures.workers.ok.0)) c.loop-start.yielded c.loop-start.start-iterator c.loop-start.yielded_by c.next.result c.next.new.self c.in-None.is c.next.ensures.steps).0 in
     let seated : c.loop-start-2.yielded ≡ c.captures.sessions.items = sym (map-id c.loop-start-2.yielded) ∙ (YieldsList-end (YieldsList-from_vec c.captures.sessions.items c.into_iter-start-iterator-2.ensures.into_iter_gives.0 (c.into_iter-start-iterator-2.ensures.into_iter_gives.1 ∙ c.captures.sessions.ok.0)) c.loop-start-2.yielded c.loop-start-2.start-iterator c.loop-start-2.yielded_by c.next-in-loop-start-2.result c.next-in-loop-start-2.new.self c.in-None-start.is c.next-in-loop-start-2.ensures.steps).0 in
-    let PW : ℕ → Post → HandleW → Type 0 = λ k s h. h.promise.began.value ≡ s.pass in
+    let PW : ℕ → Post → HandleW → Type 0 = λ k s h. h.promise.began.value ≡ s in
+    let Works : Post → Post → Type 0 = IsWorkOf g.W.Work.pass g.W.Work.has_worked in
     let PS : ℕ → Seat → HandleS → Type 0 = λ k s h. h.promise.start.value ≡ s in
     let Keeps : ℕ → Seat → Served → Type 0 = IsServed g.S.Source.remaining g.K.Sink.contents in
     let AS : ℕ → Seat → Type 0 = λ i s. s.session ≡ i in
@@ -197,7 +198,7 @@ returns-then-all_started g c =
       through AS PS (λ i h r. Keeps h.promise.start.value.session h.promise.start.value r) Keeps
           (λ i s h r a p q. subst (λ n. Keeps n s r) a (subst (λ t. Keeps t.session t r) p q))
           c.captures.sessions.items c.loop-start-2.serving.items b.served.items (λ k d low. (c.requires.0.sessions_are k d low).0) handles served,
-      through (λ k s. Unit {0}) PW (λ k h r. IsWorked h.promise.began.value r.pass r.seat) (λ k s r. IsWorked s.pass r.pass r.seat)
-          (λ k s h r a p q. subst (λ t. IsWorked t r.pass r.seat) p q)
+      through (λ k s. Unit {0}) PW (λ k h r. Works h.promise.began.value r) (λ k s r. Works s r)
+          (λ k s h r a p q. subst (λ t. Works t r) p q)
           c.captures.workers.items c.loop-start.working.items b.worked.items (λ k d low. tt) hands worked,
     )

@@ -7,7 +7,7 @@ invariant-loop-start g l =
     (l.lane ≡ length l.yielded)
     × (vec_len l.working ≤ length l.yielded)
     × (vec_capacity l.working ≡ vec_capacity l.initial.working)
-    × (l.all_started ≡ true → EachPair (λ k s h. h.promise.began.value ≡ s.pass) l.yielded l.working.items)
+    × (l.all_started ≡ true → EachPair (λ k s h. h.promise.began.value ≡ s) l.yielded l.working.items)
 
 -- and the same of the sessions
 abbrev pub invariant-loop-start-2 : goal.invariant-loop-start-2
