@@ -38,7 +38,7 @@ where
             return Err(Fault::from(fault));
         }
     };
-    let torn = torn_len(alloc, bytes.as_slice())?;
+    let torn = torn_len(bytes.as_slice());
     match output.write_fmt(format_args!("calls {calls}\ntorn bytes {torn}\n")) {
         Ok(()) => Ok(0),
         Err(_failed) => Err(Fault::Write),

@@ -1,6 +1,5 @@
 //! The file of a journal, as the commands look at it.
 use journal::find_batches;
-use std::alloc::{AllocError, Global};
 use std::fmt::Display;
 use std::io::Write;
 
@@ -20,9 +19,8 @@ pub(crate) fn may_be_journal(bytes: &[u8]) -> bool {
 }
 
 /// How many bytes stand behind the whole batches of a journal: those of its torn end.
-pub(crate) fn torn_len(alloc: Global, bytes: &[u8]) -> Result<usize, AllocError> {
-    let found = find_batches(alloc, bytes)?;
-    Ok(bytes.len().saturating_sub(found.whole))
+pub(crate) fn torn_len(bytes: &[u8]) -> usize {
+    bytes.len().saturating_sub(find_batches(bytes).whole)
 }
 
 /// Prints why the file of this path is not taken.

@@ -99,7 +99,7 @@ where
         report_file(path, &NO_JOURNAL, errors);
         return Err(Fault::JournalRefused);
     }
-    let torn = match torn_end(alloc, &file, bytes.as_slice()) {
+    let torn = match torn_end(&file, bytes.as_slice()) {
         Ok(torn) => torn,
         Err(fault) => return Err(refused(path, fault, errors)),
     };
@@ -127,13 +127,10 @@ struct TornEnd {
 
 // The torn end of the journal, if it has one.
 fn torn_end<R: Files<File = File>>(
-    alloc: Global,
     file: &DiskFile<R>,
     bytes: &[u8],
 ) -> Result<Option<TornEnd>, OpenFault> {
-    let Ok(len) = torn_len(alloc, bytes) else {
-        return Err(OpenFault::Memory);
-    };
+    let len = torn_len(bytes);
     if len == 0 {
         return Ok(None);
     }

@@ -5,7 +5,7 @@ use Rattle.std.proofs.lemmas.Bool.Decides.{nat_tests}
 use Rattle.std.proofs.lemmas.List.{append-nil, length-drop, append_cancel_left, drop_all}
 use Rattle.std.proofs.Math.Seq.{take-add}
 use Rattle.journal.specs.Lines.{is_nil, read_on, recovered_lines, AreWhole, is_torn, StandsFor}
-use Rattle.journal.specs.Reading.{ReadingState, with_byte}
+use Rattle.journal.proofs.Reading.{ReadingState, with_byte}
 use Rattle.journal.proofs.LineLemmas.{nil_is, grown_some, read_none, read_hole, read_end, read_newline, torn_more, torn_newline, torn_end, torn_none}
 use Rattle.journal.proofs.ReadLemmas.{IsReadTo, read_step, drop_one_more, after_byte, after_end, after_line, nil_cases}
 
@@ -48,7 +48,7 @@ never_nil [] x e = cc
 never_nil (y ∷ xs) x e = cc
 
 -- where what follows is read as from the start, no line and no batch has begun
-not_begun : (line : List ℕ) (batch : List (List ℕ)) → ((more : List ℕ) → read_on line batch more ≡ recovered_lines more) → (is_nil line && is_nil batch) ≡ true
+pub not_begun : (line : List ℕ) (batch : List (List ℕ)) → ((more : List ℕ) → read_on line batch more ≡ recovered_lines more) → (is_nil line && is_nil batch) ≡ true
 not_begun [] batch same =
     let end : read_on [] batch (10 ∷ []) ≡ batch = read_end batch [] ∙ ap (λ l. batch ++ l) (read_none [] []) ∙ append-nil batch in
     nil_true batch (sym end ∙ same (10 ∷ []) ∙ read_end [] [] ∙ read_none [] [])
@@ -151,9 +151,12 @@ last_step bytes i s within some read last =
 
 -- ---- behind a byte 0
 
-one_line : recovered_lines (1 ∷ 10 ∷ 10 ∷ []) ≡ (1 ∷ []) ∷ []
+pub one_line : recovered_lines (1 ∷ 10 ∷ 10 ∷ []) ≡ (1 ∷ []) ∷ []
 unfolding read_on
 one_line = refl
+
+pub apart : [] ≡ (let line : List ℕ = 1 ∷ [] in line) ∷ [] → ⊥
+apart e = cc
 
 take_one : (k : ℕ) (b : ℕ) (rest : List ℕ) → take (suc k) (b ∷ rest) ≡ b ∷ take k rest
 take_one k b rest = refl
@@ -175,9 +178,6 @@ not_behind bytes i w s lines read within hole behind are =
     ∙ are.stand_for more in
     let two : [] ≡ (1 ∷ []) ∷ [] = append_cancel_left lines [] ((1 ∷ []) ∷ []) (ap (λ l. lines ++ l) (sym (read_none [] [])) ∙ sym (both []) ∙ both (1 ∷ 10 ∷ 10 ∷ []) ∙ ap (λ l. lines ++ l) one_line) in
     apart two
-  where
-    apart : [] ≡ (let line : List ℕ = 1 ∷ [] in line) ∷ [] → ⊥
-    apart e = cc
 
 -- bytes of which the rest is not torn stand for nothing that a crash may leave
 pub not_left : (bytes : List ℕ) (i : ℕ) (s : ReadingState) (torn : Bool) → i ≤ length bytes → IsReadTo bytes i s → IsLastEnd bytes i s → (i < length bytes → get_or bytes i 0 ≡ 0) → torn ≡ is_torn true (drop s.whole bytes) → torn ≡ false → (lines : List (List ℕ)) → StandsFor bytes lines → ⊥

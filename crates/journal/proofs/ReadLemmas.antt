@@ -4,7 +4,7 @@ use Rattle.std.proofs.lemmas.Bool.{cases_eq}
 use Rattle.std.proofs.lemmas.Bool.Decides.{nat_tests}
 use Rattle.std.proofs.lemmas.List.{take_more}
 use Rattle.journal.specs.Lines.{is_nil, read_on, recovered_lines, AreWhole, is_torn, HasWholeBatches}
-use Rattle.journal.specs.Reading.{ReadingState, with_byte}
+use Rattle.journal.proofs.Reading.{ReadingState, with_byte}
 use Rattle.journal.proofs.LineLemmas.{read_hole, read_end, read_newline, read_byte, torn_more, torn_newline, torn_end, as_newline}
 
 -- from a byte 0 on nothing counts

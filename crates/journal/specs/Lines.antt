@@ -1,5 +1,5 @@
 -- What the bytes of a journal stand for.
-use Rattle.std.specs.Prelude.{◌≡◌, ℕ, ◌+◌, ◌<◌, ◌≤◌, ◌==◌, ◌&&◌, not, Bool, true, false, List, [], ◌∷◌, ◌++◌, length, take, drop, if◌then◌else◌}
+use Rattle.std.specs.Prelude.{◌≡◌, ◌≢◌, ℕ, ◌+◌, ◌<◌, ◌≤◌, ◌==◌, ◌&&◌, not, Bool, true, false, List, [], ◌∷◌, ◌++◌, length, take, drop, slice_index, if◌then◌else◌}
 use Rattle.std.specs.List.{list_all}
 
 -- whether a list is empty
@@ -42,6 +42,29 @@ pub record HasLast (lines : List (List ℕ)) (len : ℕ) : Type 0 where
   pub last : List ℕ
   pub split : lines ≡ front ++ last ∷ []
   pub size : length last ≡ len
+
+-- ---- the lines of a text
+
+-- The lines of a text that are not empty, where `line` has begun. Each ends with a newline, which is no part of it.
+unfoldable pub lines_on : List ℕ → List ℕ → List (List ℕ)
+lines_on line [] = []
+lines_on line (b ∷ text) =
+    if b == 10 then (if is_nil line then lines_on [] text else line ∷ lines_on [] text) else lines_on (line ++ b ∷ []) text
+
+-- the lines of a text that are not empty
+abbrev pub text_lines : List ℕ → List (List ℕ)
+text_lines text = lines_on [] text
+
+-- no newline stands from the index up to the end
+abbrev pub HasNoNewline : List ℕ → ℕ → ℕ → Type 0
+HasNoNewline bytes from end = (k : ℕ) → from ≤ k → k < end → slice_index bytes k ≢ 10
+
+-- a newline stands at the end, and none from the index up to it
+pub record IsNextNewline (bytes : List ℕ) (from end : ℕ) : Type 0 where
+  pub order : from ≤ end
+  pub within : end < length bytes
+  pub newline : slice_index bytes end ≡ 10
+  pub before : HasNoNewline bytes from end
 
 -- ---- what bytes stand for
 

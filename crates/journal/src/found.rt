@@ -1,52 +1,37 @@
 //! What the bytes of a file stand for.
-ghost use Rattle.std.specs.Prelude.{◌≡◌, ◌≢◌, ◌+◌, ◌<◌, ◌≤◌, ℕ, true, false, [], List, length, map, take, drop, slice_index, IfOk, OnOk};
-ghost use Rattle.journal.specs.Lines.{is_torn, read_on, HasWholeBatches, IsNeverLeft};
-ghost use Rattle.journal.specs.Reading.{state_of, with_byte};
+ghost use Rattle.std.specs.Prelude.{◌≡◌, ◌≢◌, ◌<◌, ◌≤◌, ℕ, true, false, [], List, length, drop, slice_index};
+ghost use Rattle.journal.specs.Lines.{recovered_lines, is_torn, read_on, HasWholeBatches, IsNeverLeft};
 
-use std::alloc::{AllocError, Global};
-use std::mem;
+use crate::lines::next_newline;
+use memchr::memchr;
 
 /// What the bytes of a file stand for.
-#[derive(Drop)]
+#[derive(Clone, Copy, Debug, PartialEq, Eq)]
 pub struct FoundBatches {
-    /// The lines of the whole batches.
-    pub lines: Vec<Vec<u8>>,
     /// How many bytes the whole batches have: the index behind the last one.
     pub whole: usize,
     /// Whether what is behind them may be a torn end: no batch ends in it, but at its end.
     pub torn: bool,
 }
 
-// How far the bytes are read: the lines of the whole batches, those of the batch that has begun, the line that has begun, and
-// where the last whole batch ends.
-#[derive(Drop)]
-pub(crate) struct Reading {
-    lines: Vec<Vec<u8>>,
-    batch: Vec<Vec<u8>>,
-    line: Vec<u8>,
-    whole: usize,
-}
-
-/// What the bytes stand for. `Err` where memory is refused for the lines.
-pub fn find_batches(alloc: Global, bytes: &[u8]) -> Result<FoundBatches, AllocError>
-    ensures found { IfOk result (λ f.
-        HasWholeBatches bytes.now (map (λ v. v.items) f.lines.items) f.whole f.torn) }
+/// Where the whole batches of the bytes end. Takes no memory.
+pub fn find_batches(bytes: &[u8]) -> FoundBatches
+    ensures found { HasWholeBatches bytes.now (recovered_lines bytes.now) result.whole result.torn }
     // What a crash may leave is never taken for damage.
-    ensures damaged { IfOk result (λ f. f.torn ≡ false → IsNeverLeft bytes.now) }
+    ensures damaged { result.torn ≡ false → IsNeverLeft bytes.now }
 {
     let end = first_hole(bytes);
-    let mut reading = Reading {
-        lines: Vec::new(alloc),
-        batch: Vec::new(alloc),
-        line: Vec::new(alloc),
-        whole: 0,
-    };
-    for i in 0..end {
-        take_byte(alloc, &mut reading, bytes[i], i + 1)?;
+    let counted = &bytes[..end];
+    let mut from = 0;
+    let mut whole = 0;
+    'lines: while let Some(newline) = next_newline(counted, from) {
+        if newline == from {
+            whole = newline + 1;
+        }
+        from = newline + 1;
     }
-    let Reading { lines, whole, .. } = reading;
     let torn = may_be_torn(&bytes[whole..]);
-    Ok(FoundBatches { lines, whole, torn })
+    FoundBatches { whole, torn }
 }
 
 // Where the first byte 0 stands, or the end: what follows counts for nothing.
@@ -57,30 +42,10 @@ fn first_hole(bytes: &[u8]) -> usize
     ensures nothing { (line : List ℕ) (batch : List (List ℕ))
         → read_on line batch (drop result bytes.now) ≡ [] }
 {
-    for i in 0..bytes.len() {
-        if bytes[i] == 0 {
-            return i;
-        }
+    match memchr(0, bytes) {
+        Some(at) => at,
+        None => bytes.len(),
     }
-    bytes.len()
-}
-
-// Takes one byte more, which is not 0; `next` is the index behind it.
-fn take_byte(alloc: Global, reading: &mut Reading, b: u8, next: usize) -> Result<(), AllocError>
-    ensures { OnOk result (state_of reading.new ≡ with_byte (state_of reading.old) b next) }
-{
-    if b != b'\n' {
-        reading.line.push(b)?;
-        return Ok(());
-    }
-    if reading.line.is_empty() {
-        reading.lines.append(&mut reading.batch)?;
-        reading.whole = next;
-        return Ok(());
-    }
-    let line = mem::replace(&mut reading.line, Vec::new(alloc));
-    reading.batch.push(line)?;
-    Ok(())
 }
 
 // Whether no batch ends within these bytes, but at their end.

@@ -1,20 +1,17 @@
 //! The journal.
-ghost use Rattle.std.specs.Prelude.{◌≡◌, ◌⊎◌, ◌≤◌, ◌++◌, ℕ, List, true, false, length, map, IfOk, IfErr, OnOk, OnErr};
+ghost use Rattle.std.specs.Prelude.{◌≡◌, ◌⊎◌, ◌≤◌, ◌++◌, true, false, length, take, IfOk, IfErr, OnOk, OnErr};
 ghost use Rattle.log_file.specs.Crashes.{content_of, IsSynced, LeavesOnly};
 ghost use Rattle.log_file.specs.Files.{past_of, after_open, after_append, after_cut, after_sync, after_failure};
-ghost use Rattle.journal.specs.Lines.{recovered_lines, AreWhole, HasWholeBatches, StandsFor};
+ghost use Rattle.journal.specs.Lines.{recovered_lines, text_lines, AreWhole, HasWholeBatches, StandsFor};
 ghost use Rattle.journal.specs.Journals.{lines_of, journal_past, has_failed, IsWholeOnDisk, IsDamage};
 
 use crate::batch::Batch;
 use crate::found::{FoundBatches, find_batches};
 use log_file::{Failed, LogFile, RawFile};
-use std::alloc::Global;
 
 /// Why a journal was not opened.
 #[derive(Clone, Copy, Debug, PartialEq, Eq)]
 pub enum JournalFault {
-    /// Memory was refused.
-    Memory,
     /// A call of the file failed.
     Failed,
     /// The whole batches end at this index, in bytes, and behind it a batch ends and more follows: the journal is damaged.
@@ -28,27 +25,28 @@ pub struct Journal<F> {
     has_failed: bool,
 }
 
-/// A journal that was opened, and the lines that it had.
+/// A journal that was opened, and where its lines are among the bytes that the file had.
 #[derive(Drop)]
 pub struct OpenedJournal<F> {
     /// The journal.
     pub journal: Journal<F>,
-    /// Its lines, in order, without their newlines.
-    pub lines: Vec<Vec<u8>>,
+    /// How many bytes its whole batches have. [`next_line`](crate::next_line) gives the lines of these, one after another.
+    pub whole: usize,
 }
 
 impl<F: RawFile> Journal<F> {
     /// Opens the journal of a file that was opened and synced, and then had these bytes. A torn end is cut off, and the file
     /// synced.
     ///
-    /// An `Err` hands the file back: `Memory` where memory was refused for the lines, and `Damaged` where what is behind the
-    /// whole batches is no torn end. No call of the file was made then. `Failed` where the cut or its sync failed.
+    /// An `Err` hands the file back: `Damaged` where what is behind the whole batches is no torn end, and no call of the file was
+    /// made then; `Failed` where the cut or its sync failed. Takes no memory.
     pub fn open(
-        alloc: Global,
         raw: F,
         bytes: &Vec<u8>,
     ) -> Result<OpenedJournal<F>, (JournalFault, LogFile<F>)>
-        ensures lines { IfOk result (λ o. map (λ v. v.items) o.lines.items
+        ensures whole { IfOk result (λ o.
+            HasWholeBatches bytes.now.items (recovered_lines bytes.now.items) o.whole true) }
+        ensures lines { IfOk result (λ o. text_lines (take o.whole bytes.now.items)
             ≡ recovered_lines bytes.now.items) }
         ensures same { IfOk result (λ o. lines_of o.journal ≡ recovered_lines bytes.now.items) }
         ensures on_disk { IfOk result (λ o.
@@ -64,11 +62,7 @@ impl<F: RawFile> Journal<F> {
             (λ c. StandsFor c (recovered_lines bytes.now.items) ⊎ (c ≡ bytes.now.items))) }
     {
         let mut file = LogFile::new(raw, bytes);
-        let found = match find_batches(alloc, bytes.as_slice()) {
-            Ok(found) => found,
-            Err(_) => return Err((JournalFault::Memory, file)),
-        };
-        let FoundBatches { lines, whole, torn } = found;
+        let FoundBatches { whole, torn } = find_batches(bytes.as_slice());
         if !torn {
             return Err((JournalFault::Damaged(whole), file));
         }
@@ -78,7 +72,7 @@ impl<F: RawFile> Journal<F> {
                     file,
                     has_failed: false,
                 };
-                Ok(OpenedJournal { journal, lines })
+                Ok(OpenedJournal { journal, whole })
             }
             Err(Failed) => Err((JournalFault::Failed, file)),
         }

@@ -70,16 +70,17 @@ call_or call (Ok x) = x
 call_or call (Err e) = call
 
 -- a line that is read as a call, and is not its line with the digits that it states
-pub not_its_line : (line digits text expected : List ℕ) (call : Call) → (IsUtf8 line → call_read (read line) ≡ Ok call) → digits ≡ take 16 (drop 9 line) → text ≡ call_text call →
-    expected ≡ digits_in_front digits text → (expected ≡ line → ⊥) → IsNoCall line
-not_its_line line digits text expected call reads stated spelt as_expected differ other_digits other sum limits is =
+pub not_its_line : (line text : List ℕ) (call : Call) → (IsUtf8 line → call_read (read line) ≡ Ok call) → text ≡ call_text call →
+    (line ≡ digits_in_front (take 16 (drop 9 line)) text → ⊥) → IsNoCall line
+not_its_line line text call reads spelt differ other_digits other sum limits is =
     let back : IsReadAs (line_with other_digits other) other = line_is_read other_digits other sum limits in
     let utf8 : IsUtf8 line = subst IsUtf8 (sym is) back.0 in
     let both : Ok call ≡ Ok other = sym (reads utf8) ∙ ap (λ l. call_read (read l)) is ∙ back.1 in
     let same : call ≡ other = ap (call_or call) both in
     let whole : line ≡ digits_in_front other_digits (call_text other) = is ∙ line_with-is other_digits other sum in
-    let as_stated : digits ≡ other_digits = stated ∙ stated_in line other_digits other sum is in
-    differ (as_expected ∙ (λ i. digits_in_front (as_stated i) ((spelt ∙ ap call_text same) i)) ∙ sym whole)
+    let as_stated : take 16 (drop 9 line) ≡ other_digits = stated_in line other_digits other sum is in
+    let as_written : digits_in_front (take 16 (drop 9 line)) text ≡ digits_in_front other_digits (call_text other) = λ i. digits_in_front (as_stated i) ((spelt ∙ ap call_text same) i) in
+    differ (whole ∙ sym as_written)
 
 -- ---- a line that is read as a call
 

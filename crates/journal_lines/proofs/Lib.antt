@@ -5,3 +5,4 @@ mod ByteLemmas
 mod ReadLemmas
 mod CallsLemmas
 mod FaultLemmas
+mod PartLemmas

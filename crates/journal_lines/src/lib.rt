@@ -6,6 +6,9 @@
 //! a byte that turned into another one shows, and so does a line that was lost, added, or put in another place, unless both lines
 //! before happen to have the same sum. It is FNV-1a of 64 bits: it shows mistakes, and not what someone forges.
 //!
+//! [`line_of`] makes the line of a call. A [`LineReader`] reads line after line, as [`read_line`] reads one: it keeps the memory
+//! that reading takes, and looks at the parts of a line where they stand.
+//!
 //! | part | what it has |
 //! |---|---|
 //! | `sum` | the sum |
@@ -20,5 +23,5 @@ mod sum;
 
 pub use fault::LineFault;
 pub use laws::{journal_lines_are_calls, sums_show_changes};
-pub use line::{line_of, read_line};
+pub use line::{LineReader, line_of, read_line};
 pub use sum::{first_sum, sum_after};

@@ -1,5 +1,5 @@
 //! Calls as lines, and lines as calls.
-ghost use Rattle.std.specs.Prelude.{◌≡◌, ◌<◌, true, false, drop, take, length, ◌≢◌, ◌↔◌, IfOk, IfErr, IfSome, IfNone, IsTrue};
+ghost use Rattle.std.specs.Prelude.{◌≡◌, ◌<◌, true, false, drop, take, length, ◌≢◌, ◌↔◌, IfOk, IfErr, IfSome, IfNone, OnOk, IsTrue};
 ghost use Rattle.std.specs.List.{list_all};
 ghost use Rattle.journal.specs.Lines.{is_line};
 ghost use Rattle.reply_writer.specs.Laws.{IsCall};
@@ -9,7 +9,7 @@ ghost use Rattle.journal_lines.specs.LineFaults.{fault_of_record, IsNoCall, IsLi
 
 use crate::fault::LineFault;
 use crate::sum::sum_after;
-use call_reader::read_call;
+use call_reader::{CallReader, FlatRecord};
 use reply_writer::{Buffer, append_call};
 use std::alloc::{AllocError, Global};
 use taf_codes::Memory;
@@ -19,6 +19,9 @@ use taf_messages::{Call, RecordFault};
 const DIGITS: usize = 9;
 
 const DIGITS_END: usize = 25;
+
+// Where the text of the call goes on behind its first brace.
+const REST: usize = 27;
 
 /// The line of a call behind a line of the sum `before`, and its own sum. It is one that a journal takes, without its newline.
 pub fn line_of(alloc: Global, before: u64, call: &Call) -> Result<(Vec<u8>, u64), Memory>
@@ -32,10 +35,7 @@ pub fn line_of(alloc: Global, before: u64, call: &Call) -> Result<(Vec<u8>, u64)
     Ok((line, sum))
 }
 
-/// The call of a line behind a line of the sum `before`, and the sum of the line.
-///
-/// `NoCall` where the line is not just the text of a call with the digits of a sum in front, `OtherSum` where these digits are
-/// not those of the sum that the text and `before` give, `Memory` where memory was refused.
+/// The call of a line behind a line of the sum `before`, and the sum of the line: [`LineReader::read`] for one line.
 pub fn read_line(alloc: Global, before: u64, line: &[u8]) -> Result<(Call, u64), LineFault>
     ensures text { IfOk result (λ r. line.now ≡ line_text r.1 r.0) }
     ensures sum { IfOk result (λ r. r.1 ≡ call_sum before r.0) }
@@ -43,41 +43,90 @@ pub fn read_line(alloc: Global, before: u64, line: &[u8]) -> Result<(Call, u64),
     ensures limits { IfOk result (λ r. IsCall r.0) }
     ensures fault { IfErr result (λ f. IsLineFault f before line.now) }
 {
-    let Some(digits) = stated_digits(line) else {
-        return Err(LineFault::NoCall);
-    };
-    let (call, text) = read_text(alloc, digits, line)?;
-    let sum = sum_after(before, &text);
-    if !are_digits_of(digits, sum) {
-        return Err(LineFault::OtherSum);
-    }
-    Ok((call, sum))
+    LineReader::new(alloc).read(before, line)
 }
 
-// The call of a line that has these digits, and its text.
-fn read_text(alloc: Global, digits: &[u8], line: &[u8]) -> Result<(Call, Vec<u8>), LineFault>
-    requires sum { are_sum_digits digits.now ≡ true }
-    requires stated { digits.now ≡ take 16 (drop 9 line.now) }
-    ensures text { IfOk result (λ r. r.1.items ≡ call_text r.0) }
-    ensures line { IfOk result (λ r. line.now ≡ digits_in_front digits.now r.1.items) }
-    ensures limits { IfOk result (λ r. IsCall r.0) }
-    ensures fault { IfErr result (λ f. f ≡ LineFault.NoCall → IsNoCall line.now) }
-    ensures no_sum { IfErr result (λ f. f ≢ LineFault.OtherSum) }
-{
-    let call = match read_call(alloc, line) {
-        Ok(call) => call,
-        Err(fault) => return Err(line_fault(fault)),
-    };
-    let Ok(text) = text_of(alloc, &call) else {
-        return Err(LineFault::Memory);
-    };
-    let Ok(expected) = put_digits(alloc, digits, text.as_slice()) else {
-        return Err(LineFault::Memory);
-    };
-    if !is_same(expected.as_slice(), line) {
-        return Err(LineFault::NoCall);
+/// Reads the calls of many lines, and keeps the memory that reading takes from line to line.
+#[derive(Drop)]
+pub struct LineReader<'a> {
+    alloc: Global,
+    reader: CallReader,
+    record: FlatRecord<'a>,
+    // The text of the last call.
+    text: Buffer,
+}
+
+impl<'a> LineReader<'a> {
+    /// A reader that has read no line. Takes no memory.
+    pub fn new(alloc: Global) -> LineReader<'a> {
+        LineReader {
+            alloc,
+            reader: CallReader::new(alloc),
+            record: FlatRecord::new(alloc),
+            text: Buffer::new(Vec::new(alloc)),
+        }
     }
-    Ok((call, text))
+
+    /// The call of a line behind a line of the sum `before`, and the sum of the line, whatever was read before.
+    ///
+    /// `NoCall` where the line is not just the text of a call with the digits of a sum in front, `OtherSum` where these digits are
+    /// not those of the sum that the text and `before` give, `Memory` where memory was refused.
+    pub fn read(&mut self, before: u64, line: &'a [u8]) -> Result<(Call, u64), LineFault>
+        ensures text { IfOk result (λ r. line.now ≡ line_text r.1 r.0) }
+        ensures sum { IfOk result (λ r. r.1 ≡ call_sum before r.0) }
+        // The parts of the call keep their limits.
+        ensures limits { IfOk result (λ r. IsCall r.0) }
+        ensures fault { IfErr result (λ f. IsLineFault f before line.now) }
+    {
+        let Some(digits) = stated_digits(line) else {
+            return Err(LineFault::NoCall);
+        };
+        let call = self.read_text(line)?;
+        let sum = sum_after(before, self.text.as_slice());
+        if !are_digits_of(digits, sum) {
+            return Err(LineFault::OtherSum);
+        }
+        Ok((call, sum))
+    }
+
+    // The call of a line that has the digits of a sum. Its text is kept.
+    fn read_text(&mut self, line: &'a [u8]) -> Result<Call, LineFault>
+        requires { are_sum_digits (take 16 (drop 9 line.now)) ≡ true }
+        ensures text { IfOk result (λ call. self.new.text.items ≡ call_text call) }
+        ensures line { OnOk result (line.now
+            ≡ digits_in_front (take 16 (drop 9 line.now)) self.new.text.items) }
+        ensures limits { IfOk result (λ call. IsCall call) }
+        ensures fault { IfErr result (λ f. f ≡ LineFault.NoCall → IsNoCall line.now) }
+        ensures no_sum { IfErr result (λ f. f ≢ LineFault.OtherSum) }
+    {
+        let call = match self.reader.read(&mut self.record, line) {
+            Ok(call) => call,
+            Err(fault) => return Err(line_fault(fault)),
+        };
+        self.text.clear();
+        let Ok(()) = append_call(self.alloc, &mut self.text, &call) else {
+            return Err(LineFault::Memory);
+        };
+        if !has_text(line, self.text.as_slice()) {
+            return Err(LineFault::NoCall);
+        }
+        Ok(call)
+    }
+}
+
+// Whether a line that has the digits of a sum is this text with them in front.
+fn has_text(line: &[u8], text: &[u8]) -> bool
+    requires digits { are_sum_digits (take 16 (drop 9 line.now)) ≡ true }
+    requires text { 0 < length text.now }
+    ensures { IsTrue result
+        ↔ (line.now ≡ digits_in_front (take 16 (drop 9 line.now)) text.now) }
+{
+    if line.len() < REST {
+        return false;
+    }
+    is_same(&line[..DIGITS], b"{\"_sum\":\"")
+        && is_same(&line[DIGITS_END..REST], b"\",")
+        && is_same(&line[REST..], &text[1..])
 }
 
 // Why a line that has this fault is not taken.

@@ -1,5 +1,5 @@
 //! Calls of the file that fail.
-use crate::given::{Failing, Memory, MemoryFile, commit_line, fault_in, open_journal};
+use crate::given::{Failing, Memory, MemoryFile, commit_line, fault_in, has_lines, open_journal};
 use journal::{JournalFault, find_batches};
 use std::alloc::Global;
 use std::test::Fail;
@@ -16,14 +16,17 @@ static COMMITS: [(u32, usize, usize); 7] = [
     (7, 3, 3),
 ];
 
+// The line of each batch.
+static LINES: [&[u8]; 3] = [b"first", b"second", b"third"];
+
 // Commits three batches, and counts those that are acknowledged.
 fn acknowledged(alloc: Global, memory: &mut Memory, failing: Failing) -> Result<usize, Fail> {
     let none = Vec::new(alloc);
     let file = MemoryFile { memory, failing };
-    let mut journal = open_journal(alloc, file, &none)?.journal;
-    let first = commit_line(alloc, &mut journal, b"first")?;
-    let second = commit_line(alloc, &mut journal, b"second")?;
-    let third = commit_line(alloc, &mut journal, b"third")?;
+    let mut journal = open_journal(file, &none)?.journal;
+    let first = commit_line(alloc, &mut journal, LINES[0])?;
+    let second = commit_line(alloc, &mut journal, LINES[1])?;
+    let third = commit_line(alloc, &mut journal, LINES[2])?;
     Ok([first, second, third].iter().filter(|it| **it).count())
 }
 
@@ -31,8 +34,10 @@ fn acknowledged(alloc: Global, memory: &mut Memory, failing: Failing) -> Result<
 fn stops(alloc: Global, failing: Failing, case: &(u32, usize, usize)) -> Result<bool, Fail> {
     let mut memory = Memory::of(alloc, b"")?;
     let count = acknowledged(alloc, &mut memory, failing)?;
-    let found = find_batches(alloc, memory.bytes.as_slice())?;
-    Ok(count == case.1 && found.lines.len() == case.2 && memory.calls == case.0.min(6))
+    let bytes = memory.bytes.as_slice();
+    let whole = &bytes[..find_batches(bytes).whole.min(bytes.len())];
+    let left = has_lines(whole, &LINES[..case.2.min(LINES.len())]);
+    Ok(count == case.1 && left && memory.calls == case.0.min(6))
 }
 
 #[test]

@@ -2,7 +2,7 @@
 ghost use Rattle.std.specs.Prelude.{IfOk};
 ghost use Rattle.journal.specs.Journals.{journal_past, has_failed, IsWholeOnDisk};
 
-use journal::{Batch, Failed, Journal, JournalFault, OpenedJournal, RawFile, is_line};
+use journal::{Batch, Failed, Journal, JournalFault, Line, OpenedJournal, RawFile, is_line, next_line};
 use std::alloc::Global;
 use std::test::Fail;
 
@@ -76,21 +76,20 @@ impl RawFile for MemoryFile<'_> {
 
 /// Opens the journal of a file that has these bytes.
 pub(crate) fn open_journal<F: RawFile + Drop>(
-    alloc: Global,
     file: F,
     bytes: &Vec<u8>,
 ) -> Result<OpenedJournal<F>, Fail>
     ensures { IfOk result (λ o. IsWholeOnDisk (journal_past o.journal) (has_failed o.journal)) }
 {
-    match Journal::open(alloc, file, bytes) {
+    match Journal::open(file, bytes) {
         Ok(opened) => Ok(opened),
         Err(_) => Err(Fail::new("the journal is not opened")),
     }
 }
 
 // Why the journal of a file that has these bytes is not opened, if so.
-fn fault_of<F: RawFile + Drop>(alloc: Global, file: F, bytes: &Vec<u8>) -> Option<JournalFault> {
-    let opened = Journal::open(alloc, file, bytes);
+fn fault_of<F: RawFile + Drop>(file: F, bytes: &Vec<u8>) -> Option<JournalFault> {
+    let opened = Journal::open(file, bytes);
     match &opened {
         Ok(_) => None,
         Err(error) => Some(error.0),
@@ -104,7 +103,19 @@ pub(crate) fn fault_in(
     failing: Failing,
 ) -> Result<Option<JournalFault>, Fail> {
     let bytes = Vec::from_slice(alloc, memory.bytes.as_slice())?;
-    Ok(fault_of(alloc, MemoryFile { memory, failing }, &bytes))
+    Ok(fault_of(MemoryFile { memory, failing }, &bytes))
+}
+
+/// Whether these are the lines of a text, and no others.
+pub(crate) fn has_lines(text: &[u8], lines: &[&[u8]]) -> bool {
+    let mut rest = text;
+    for wanted in lines {
+        match next_line(rest, 0) {
+            Some(Line { line, next }) if line == *wanted => rest = &rest[next..],
+            _ => return false,
+        }
+    }
+    next_line(rest, 0).is_none()
 }
 
 /// Commits a batch of one line. Tells whether it was acknowledged.

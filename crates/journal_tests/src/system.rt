@@ -1,5 +1,5 @@
 //! A journal in a file of the system.
-use crate::given::{commit_line, open_journal};
+use crate::given::{commit_line, has_lines, open_journal};
 use disk_file::{OpenFault, OpenedFile, open};
 use std::alloc::Global;
 use std::fs::OpenOptions;
@@ -11,11 +11,9 @@ use std::{env, fs, process};
 // Opens the journal, and compares the lines that it has; then commits a line, while the file can't be opened a second time.
 fn serve(rt: HostRuntime, path: &str, wanted: &[&[u8]], line: &[u8]) -> Result<bool, Fail> {
     let OpenedFile { file, bytes } = open(rt, rt.alloc(), path)?;
-    let opened = open_journal(rt.alloc(), file, &bytes)?;
-    let found = opened.lines;
+    let opened = open_journal(file, &bytes)?;
+    let same = has_lines(&bytes.as_slice()[..opened.whole.min(bytes.len())], wanted);
     let mut journal = opened.journal;
-    let same = found.len() == wanted.len();
-    let same = same && found.iter().zip(wanted).all(|(f, w)| f.as_slice() == *w);
     let busy = matches!(open(rt, rt.alloc(), path), Err(OpenFault::Busy));
     let taken = commit_line(rt.alloc(), &mut journal, line)?;
     Ok(same && busy && taken)

@@ -1,5 +1,5 @@
 //! Journals with a torn end.
-use crate::given::{Failing, Memory, MemoryFile, commit_line, open_journal};
+use crate::given::{Failing, Memory, MemoryFile, commit_line, has_lines, open_journal};
 use std::alloc::Global;
 use std::test::Fail;
 
@@ -23,20 +23,20 @@ fn whole_of(count: usize) -> (usize, usize) {
 }
 
 // Opens the journal, and tells whether it has the first `count` lines; then commits a batch.
-fn has_lines(alloc: Global, memory: &mut Memory, count: usize) -> Result<bool, Fail> {
+fn has_first(alloc: Global, memory: &mut Memory, count: usize) -> Result<bool, Fail> {
     let bytes = Vec::from_slice(alloc, memory.bytes.as_slice())?;
     let failing = Failing::Never;
-    let opened = open_journal(alloc, MemoryFile { memory, failing }, &bytes)?;
-    let found = opened.lines;
+    let opened = open_journal(MemoryFile { memory, failing }, &bytes)?;
+    let whole = &bytes.as_slice()[..opened.whole.min(bytes.len())];
     let mut journal = opened.journal;
-    let same = found.len() == count && found.iter().zip(&LINES).all(|(f, l)| f.as_slice() == *l);
+    let same = has_lines(whole, &LINES[..count.min(LINES.len())]);
     Ok(commit_line(alloc, &mut journal, b"e")? && same)
 }
 
 // Whether a journal of these bytes has so many lines, and its file has the whole batches and a further one once it is committed.
 fn is_repaired(alloc: Global, torn: &[u8], (len, count): (usize, usize)) -> Result<bool, Fail> {
     let mut memory = Memory::of(alloc, torn)?;
-    let same = has_lines(alloc, &mut memory, count)?;
+    let same = has_first(alloc, &mut memory, count)?;
     let mut wanted = Vec::from_slice(alloc, &TEXT[..len.min(TEXT.len())])?;
     wanted.extend_from_slice(b"e\n\n")?;
     Ok(same && memory.bytes.as_slice() == wanted.as_slice())

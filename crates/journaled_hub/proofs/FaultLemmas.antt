@@ -1,7 +1,8 @@
 -- A fault of one line is a fault of the lines.
-use Rattle.std.proofs.Common.{◌≡◌, ℕ, ◌+◌, ◌<◌, List, take, length, Some, sym, ap, subst, ◌∙◌, arith, inl, inr, ⊎_elim}
+use Rattle.std.proofs.Common.{◌≡◌, ℕ, zero, suc, ◌+◌, ◌<◌, List, [], ◌∷◌, ◌++◌, take, length, length-append, Some, refl, sym, ap, subst, ◌∙◌, arith, inl, inr, ⊎_elim}
 use Rattle.std.specs.Prelude.{slice_get}
-use Rattle.std.proofs.lemmas.List.{length-take-le}
+use Rattle.std.proofs.lemmas.List.{take_at, get_or_at}
+use Rattle.std.proofs.lemmas.Option.{slice_get-get_or}
 use Rattle.hub_model.specs.declared.entry.Entry.{Entry}
 use Rattle.log_file.specs.declared.past.Past.{Past}
 use Rattle.log_file.specs.Crashes.{LeavesOnly}
@@ -10,27 +11,50 @@ use Rattle.journal.specs.Journals.{IsDamage}
 use Rattle.journal.specs.declared.journal.JournalFault.{JournalFault}
 use Rattle.journal.specs.declared.journal.JournalFault.TheVariants as journals
 use Rattle.journal_lines.specs.CallLines.{last_sum}
-use Rattle.journal_lines.specs.LineFaults.{HasOtherSum}
+use Rattle.journal_lines.specs.LineFaults.{HasOtherSum, IsLineFault}
+use Rattle.journal_lines.specs.declared.fault.LineFault.{LineFault}
+use Rattle.journal_lines.specs.declared.fault.LineFault.TheVariants as line_faults
 use Rattle.journaled_hub.specs.HistoryLines.{calls_of, lines_of_history}
-use Rattle.journaled_hub.specs.OpenFaults.{fault_of_journal, IsLineNumber, IsFaultOfLine, IsFaultOfLines, IsOpenFault}
+use Rattle.journaled_hub.specs.OpenFaults.{fault_of_journal, fault_of_line, IsLineNumber, IsFaultOfLine, IsFaultOfLines, IsOpenFault}
 use Rattle.journaled_hub.specs.declared.fault.OpenFault.{OpenFault}
 use Rattle.journaled_hub.specs.declared.fault.OpenFault.TheVariants.{Memory, Failed, Damaged, NoCall, OtherSum, Full}
 use Rattle.journaled_hub.proofs.LineLemmas.{length-lines_of_history}
 
-module _ (history : List Entry) (sum i : ℕ) (line : List ℕ) (lines : List (List ℕ)) (before : lines_of_history history ≡ take i lines) (last : sum ≡ last_sum (calls_of history))
-    (there : slice_get lines i ≡ Some line) (within : i < length lines) where
-  numbered : (at : ℕ) → at ≡ i + 1 → IsLineNumber lines at line (calls_of history)
-  numbered at h = record { index = i; number_is = h; line_is = there; before_are = before }
+slice_get_at : (front : List (List ℕ)) (line : List ℕ) (rest : List (List ℕ)) (n : ℕ) → length front ≡ n → slice_get (front ++ line ∷ rest) n ≡ Some line
+slice_get_at front line rest n e =
+    slice_get-get_or (front ++ line ∷ rest) n line (omega (arith, e, length-append front (line ∷ rest)))
+    ∙ ap Some (get_or_at front line rest line n e)
 
-  pub fault_of_lines : (fault : OpenFault) → IsFaultOfLine fault history sum line (i + 1) → IsFaultOfLines fault lines
+-- the line behind those of a history
+module _ (history : List Entry) (sum : ℕ) (line : List ℕ) (rest lines : List (List ℕ)) (split : lines ≡ lines_of_history history ++ line ∷ rest) (last : sum ≡ last_sum (calls_of history)) where
+  at_index : slice_get lines (length history) ≡ Some line
+  at_index =
+      ap (λ l. slice_get l (length history)) split
+      ∙ slice_get_at (lines_of_history history) line rest (length history) (length-lines_of_history history)
+
+  before : lines_of_history history ≡ take (length history) lines
+  before = sym (ap (take (length history)) split ∙ take_at (lines_of_history history) (line ∷ rest) (length history) (length-lines_of_history history))
+
+  numbered : (at : ℕ) → at ≡ length history + 1 → IsLineNumber lines at line (calls_of history)
+  numbered at h = record { index = length history; number_is = h; line_is = at_index; before_are = before }
+
+  long : length history < length lines
+  long = omega (arith, ap length split, length-append (lines_of_history history) (line ∷ rest), length-lines_of_history history)
+
+  pub fault_of_lines : (fault : OpenFault) → IsFaultOfLine fault history sum line (length history + 1) → IsFaultOfLines fault lines
   fault_of_lines Memory h = tt
   fault_of_lines Failed h = absurd h
   fault_of_lines (Damaged whole) h = absurd h
   fault_of_lines (NoCall at) h = (line, (calls_of history, (numbered at h.0, h.1)))
   fault_of_lines (OtherSum at) h = (line, (calls_of history, (numbered at h.0, subst (λ s. HasOtherSum s line) last h.1)))
-  fault_of_lines Full h =
-      let count = sym (length-lines_of_history history) ∙ ap length before ∙ length-take-le i lines (omega arith) in
-      omega (arith, h, count)
+  fault_of_lines Full h = omega (arith, h, long)
+
+-- ---- faults of a line
+
+pub line_not_taken : (fault : LineFault) (history : List Entry) (sum : ℕ) (line : List ℕ) (number : ℕ) → IsLineFault fault sum line → IsFaultOfLine (fault_of_line fault number) history sum line number
+line_not_taken line_faults.Memory history sum line number h = tt
+line_not_taken line_faults.NoCall history sum line number h = (refl, h)
+line_not_taken line_faults.OtherSum history sum line number h = (refl, h)
 
 -- ---- faults of a file
 
@@ -43,7 +67,6 @@ fault_of_file (OtherSum at) bytes h = h
 fault_of_file Full bytes h = h
 
 pub journal_not_opened : (fault : JournalFault) (bytes : List ℕ) → IsDamage fault bytes → IsOpenFault (fault_of_journal fault) bytes
-journal_not_opened journals.Memory bytes h = tt
 journal_not_opened journals.Failed bytes h = tt
 journal_not_opened (journals.Damaged whole) bytes h = h
 

@@ -10,6 +10,8 @@ use Rattle.journal.specs.declared.journal.JournalFault.{JournalFault}
 use Rattle.journal.specs.declared.journal.JournalFault.TheVariants as journal_fault
 use Rattle.journal_lines.specs.CallLines.{lines_of_calls, last_sum}
 use Rattle.journal_lines.specs.LineFaults.{IsNoCall, HasOtherSum}
+use Rattle.journal_lines.specs.declared.fault.LineFault.{LineFault}
+use Rattle.journal_lines.specs.declared.fault.LineFault.TheVariants as line_fault
 use Rattle.journaled_hub.specs.declared.fault.OpenFault.{OpenFault}
 use Rattle.journaled_hub.specs.declared.fault.OpenFault.TheVariants.{Memory, Failed, Damaged, NoCall, OtherSum, Full}
 
@@ -57,6 +59,11 @@ IsOpenFault fault bytes = IsFaultOfLines fault (recovered_lines bytes)
 
 -- the fault of a journal that is not opened for this one
 abbrev pub fault_of_journal : JournalFault → OpenFault
-fault_of_journal journal_fault.Memory = Memory
 fault_of_journal journal_fault.Failed = Failed
 fault_of_journal (journal_fault.Damaged whole) = Damaged whole
+
+-- that of a journal whose line of this number is not taken for this fault
+abbrev pub fault_of_line : LineFault → ℕ → OpenFault
+fault_of_line line_fault.Memory number = Memory
+fault_of_line line_fault.NoCall number = NoCall number
+fault_of_line line_fault.OtherSum number = OtherSum number

@@ -1,19 +1,19 @@
 //! The hub of a journal.
-ghost use Rattle.std.specs.Prelude.{◌≡◌, ◌⊎◌, ◌++◌, ◌+◌, [], ◌∷◌, map, false, All, IfOk, IfErr, OnOk};
+ghost use Rattle.std.specs.Prelude.{◌≡◌, ◌⊎◌, ◌++◌, ◌+◌, [], ◌∷◌, length, false, All, IfOk, IfErr, OnOk};
 ghost use Rattle.log_file.specs.Crashes.{LeavesOnly};
 ghost use Rattle.log_file.specs.Files.{past_of as file_past, after_open};
-ghost use Rattle.journal.specs.Lines.{recovered_lines, StandsFor};
+ghost use Rattle.journal.specs.Lines.{recovered_lines, text_lines, StandsFor};
 ghost use Rattle.reply_writer.specs.Laws.{IsCall};
 ghost use Rattle.journal_lines.specs.CallLines.{last_sum};
 ghost use Rattle.journaled_hub.specs.HistoryLines.{calls_of, lines_of_history};
 ghost use Rattle.journaled_hub.specs.JournaledHubs.{history_of, pending_of, past_of, has_failed, durable_lines, IsJournaled};
-ghost use Rattle.journaled_hub.specs.OpenFaults.{fault_of_journal, IsFaultOfLine, IsFaultOfLines, IsOpenFault};
+ghost use Rattle.journaled_hub.specs.OpenFaults.{fault_of_journal, fault_of_line, IsFaultOfLine, IsFaultOfLines, IsOpenFault};
 
 use crate::fault::OpenFault;
 use crate::journaled::JournaledHub;
 use hub_core::{Hub, HubFault};
-use journal::{Batch, Journal, JournalFault, LogFile, OpenedJournal, RawFile};
-use journal_lines::{LineFault, first_sum, read_line};
+use journal::{Batch, Journal, JournalFault, LogFile, OpenedJournal, RawFile, next_line};
+use journal_lines::{LineFault, LineReader, first_sum};
 use seeded_state::SeededState;
 use std::alloc::Global;
 
@@ -44,12 +44,12 @@ impl<F: RawFile> JournaledHub<F> {
             LeavesOnly (after_open bytes.now) (file_past e.1)
             (λ c. StandsFor c (recovered_lines bytes.now.items) ⊎ (c ≡ bytes.now.items))) }
     {
-        let OpenedJournal { journal, lines } = match Journal::open(alloc, raw, bytes) {
+        let OpenedJournal { journal, whole } = match Journal::open(raw, bytes) {
             Ok(opened) => opened,
             Err((fault, file)) => return Err((open_fault(fault), file)),
         };
         let mut hub = Hub::with_hasher(alloc, hasher);
-        match take_lines(alloc, &mut hub, lines.as_slice()) {
+        match take_lines(alloc, &mut hub, &bytes.as_slice()[..whole]) {
             Ok(sum) => Ok(JournaledHub {
                 hub,
                 journal,
@@ -66,37 +66,39 @@ fn open_fault(fault: JournalFault) -> OpenFault
     ensures { result ≡ fault_of_journal fault }
 {
     match fault {
-        JournalFault::Memory => OpenFault::Memory,
         JournalFault::Failed => OpenFault::Failed,
         JournalFault::Damaged(whole) => OpenFault::Damaged(whole),
     }
 }
 
-// Gives the calls of these lines to a new hub; the sum of the last one.
-fn take_lines(alloc: Global, hub: &mut Hub, lines: &[Vec<u8>]) -> Result<u64, OpenFault>
+// Gives the calls of the lines of this text to a new hub, one after another; the sum of the last one.
+fn take_lines(alloc: Global, hub: &mut Hub, text: &[u8]) -> Result<u64, OpenFault>
     requires { hub.old ≡ [] }
-    ensures lines { OnOk result (lines_of_history hub.new ≡ map (λ v. v.items) lines.now) }
+    ensures lines { OnOk result (lines_of_history hub.new ≡ text_lines text.now) }
     ensures sum { IfOk result (λ s. s ≡ last_sum (calls_of hub.new)) }
     ensures limits { OnOk result (All IsCall (calls_of hub.new)) }
-    ensures fault { IfErr result (λ f. IsFaultOfLines f (map (λ v. v.items) lines.now)) }
+    ensures fault { IfErr result (λ f. IsFaultOfLines f (text_lines text.now)) }
 {
+    let mut reader = LineReader::new(alloc);
     let mut sum = first_sum();
-    for i in 0..lines.len() {
-        match take_line(alloc, hub, sum, &lines[i], i + 1) {
-            Ok(next) => sum = next,
+    let mut from = 0;
+    'lines: while let Some(found) = next_line(text, from) {
+        match take_line(&mut reader, hub, sum, found.line) {
+            Ok(own) => sum = own,
             Err(fault) => return Err(fault),
         }
+        from = found.next;
     }
     Ok(sum)
 }
 
-// Gives the call of the line of this number, behind a line of the sum `before`, to the hub; the sum of the line.
-fn take_line(
-    alloc: Global,
+// Gives the call of a line, behind a line of the sum `before`, to the hub; the sum of the line. All lines before are in the history,
+// so that tells its number.
+fn take_line<'a>(
+    reader: &mut LineReader<'a>,
     hub: &mut Hub,
     before: u64,
-    line: &[u8],
-    number: usize,
+    line: &'a [u8],
 ) -> Result<u64, OpenFault>
     requires { before ≡ last_sum (calls_of hub.old) }
     ensures lines { OnOk result (lines_of_history hub.new
@@ -104,17 +106,27 @@ fn take_line(
     ensures sum { IfOk result (λ s. s ≡ last_sum (calls_of hub.new)) }
     ensures limits { All IsCall (calls_of hub.old)
         → OnOk result (All IsCall (calls_of hub.new)) }
-    ensures fault { IfErr result (λ f. IsFaultOfLine f hub.old before line.now number) }
+    ensures fault { IfErr result (λ f.
+        IsFaultOfLine f hub.old before line.now (length hub.old + 1)) }
 {
-    let (call, sum) = match read_line(alloc, before, line) {
+    let (call, sum) = match reader.read(before, line) {
         Ok(read) => read,
-        Err(LineFault::Memory) => return Err(OpenFault::Memory),
-        Err(LineFault::NoCall) => return Err(OpenFault::NoCall(number)),
-        Err(LineFault::OtherSum) => return Err(OpenFault::OtherSum(number)),
+        Err(fault) => return Err(line_fault(fault, hub.len() + 1)),
     };
     match hub.apply(call) {
         Ok(_) => Ok(sum),
         Err(HubFault::Full(_)) => Err(OpenFault::Full),
         Err(HubFault::Memory) => Err(OpenFault::Memory),
+    }
+}
+
+// The fault of the line of this number.
+fn line_fault(fault: LineFault, number: usize) -> OpenFault
+    ensures { result ≡ fault_of_line fault number }
+{
+    match fault {
+        LineFault::Memory => OpenFault::Memory,
+        LineFault::NoCall => OpenFault::NoCall(number),
+        LineFault::OtherSum => OpenFault::OtherSum(number),
     }
 }

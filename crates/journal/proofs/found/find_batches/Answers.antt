@@ -1,33 +1,59 @@
-use Rattle.std.proofs.Common.{◌≡◌, ◌<◌, ℕ, ap, arith, drop, get_or, length, subst, true, ◌∙◌}
-use Rattle.std.proofs.lemmas.List.{take_rest}
-use Rattle.journal.specs.Lines.{read_on, is_torn}
-use Rattle.journal.specs.Reading.{state_of}
-use Rattle.journal.proofs.ReadLemmas.{read_start, read_step, read_found}
-use Rattle.journal.proofs.EndLemmas.{last_start, last_step, not_left}
+use Rattle.std.proofs.Common.{◌≡◌, ◌+◌, ◌<◌, ◌≤◌, ℕ, Bool, false, List, ap, arith, drop, get_or, length, take, refl, sym, subst, true, ◌∙◌}
+use Rattle.std.proofs.lemmas.List.{take_rest, length-take-le}
+use Rattle.journal.specs.Lines.{recovered_lines, is_torn, HasNoNewline, HasWholeBatches}
+use Rattle.journal.proofs.CrashLemmas.{is_recovered}
+use Rattle.journal.proofs.RunLemmas.{IsAtLine, HasNoHole, line_start, batch_ends, line_ends, all_found, never_left, counted_newline, counted_inner}
 use Rattle.journal.proofs.found.find_batches.Goals as goal
+use Rattle.journal.proofs.found.find_batches.Goals.{then-newline-from, else-newline-from}
 
-pub loop-i-init : goal.loop-i-init
-loop-i-init c = rw (c.new.ensures.items, c.new-2.ensures.items, c.new-3.ensures.items) (read_start c.args.bytes.now, last_start c.args.bytes.now)
+pub lines-init : goal.lines-init
+lines-init c = record { within = omega arith; read = line_start c.args.bytes.now }
 
-pub loop-i-preserved : goal.loop-i-preserved
-loop-i-preserved c =
-    let within : c.loop-i.i < length c.args.bytes.now = omega (arith, c.first_hole-end.ensures.within) in
-    let some = c.first_hole-end.ensures.before c.loop-i.i c.loop-i-test.true in
-    rw c.in_ok-take_byte.ensures (
-      read_step c.args.bytes.now c.loop-i.i (state_of c.loop-i.reading) within some c.loop-i.invariant.0,
-      last_step c.args.bytes.now c.loop-i.i (state_of c.loop-i.reading) within some c.loop-i.invariant.0 c.loop-i.invariant.1,
-    )
+pub lines-preserved : goal.lines-preserved
+lines-preserved c =
+    let bytes = c.args.bytes.now in
+    let end = c.first_hole-end.result in
+    let from = c.lines.from in
+    let newline = c.in-Some.newline in
+    let counted : List ℕ = take end bytes in
+    let next = counted_newline bytes counted end from newline c.first_hole-end.ensures.within refl c.in-Some.ensures in
+    let inside : newline < length bytes = omega (arith, next.1, c.first_hole-end.ensures.within) in
+    let holes : HasNoHole bytes from (newline + 1) = λ k low high. c.first_hole-end.ensures.before k (omega (arith, high, next.1)) in
+    elim c.if-newline-from.branch [
+      | then-newline-from w ↦ record {
+        within = omega (arith, c.in-Some.ensures.within);
+        read = subst (IsAtLine bytes (newline + 1)) (sym w.whole-is)
+            (batch_ends bytes newline c.lines.whole inside next.0.newline (subst (λ k. IsAtLine bytes k c.lines.whole) (sym w.if-newline-from.true) c.lines.invariant.read));
+      }
+      | else-newline-from w ↦ record {
+        within = omega (arith, c.in-Some.ensures.within);
+        read = subst (IsAtLine bytes (newline + 1)) (sym w.whole-is)
+            (line_ends bytes from newline c.lines.whole (omega (arith, next.0.order, w.if-newline-from.false)) inside holes next.0.before next.0.newline c.lines.invariant.read);
+      }
+    ]
 
 pub returns-clause-found : goal.returns-clause-found
 returns-clause-found c =
-    let at_end : c.loop-i.i ≡ c.first_hole-end.result = omega arith in
-    read_found c.args.bytes.now c.loop-i.i (state_of c.loop-i.reading) c.may_be_torn-torn.result (omega (arith, c.first_hole-end.ensures.within)) c.loop-i.invariant.0
-    (λ line batch. ap (λ i. read_on line batch (drop i c.args.bytes.now)) at_end ∙ c.first_hole-end.ensures.nothing line batch)
-    (c.may_be_torn-torn.ensures ∙ ap (is_torn true) (take_rest c.args.bytes.now c.loop-i.reading.whole))
+    let bytes = c.args.bytes.now in
+    let end = c.first_hole-end.result in
+    let within = c.first_hole-end.ensures.within in
+    let counted : List ℕ = take end bytes in
+    let order : c.lines.from ≤ end = omega (arith, c.lines.invariant.within, length-take-le end bytes within) in
+    let holes : HasNoHole bytes c.lines.from end = λ k low high. c.first_hole-end.ensures.before k high in
+    let inner : HasNoNewline bytes c.lines.from end = counted_inner bytes counted end c.lines.from within refl c.in_default.ensures in
+    let torn : c.may_be_torn-torn.result ≡ is_torn true (drop c.lines.whole bytes) = c.may_be_torn-torn.ensures ∙ ap (is_torn true) (take_rest bytes c.lines.whole) in
+    let a = c.lines.invariant.read in
+    let found : HasWholeBatches bytes a.state.lines c.lines.whole c.may_be_torn-torn.result = all_found bytes c.lines.from end c.lines.whole order within holes inner a c.may_be_torn-torn.result torn c.first_hole-end.ensures.nothing in
+    subst (λ (l : List (List ℕ)). HasWholeBatches bytes l c.lines.whole c.may_be_torn-torn.result) (sym (is_recovered bytes a.state.lines c.lines.whole c.may_be_torn-torn.result found)) found
 
 pub returns-clause-damaged : goal.returns-clause-damaged
 returns-clause-damaged c not_torn =
-    let at_end : c.first_hole-end.result ≡ c.loop-i.i = omega arith in
-    not_left c.args.bytes.now c.loop-i.i (state_of c.loop-i.reading) c.may_be_torn-torn.result (omega (arith, c.first_hole-end.ensures.within)) c.loop-i.invariant.0 c.loop-i.invariant.1
-    (subst (λ (i : ℕ). i < length c.args.bytes.now → get_or c.args.bytes.now i 0 ≡ 0) at_end c.first_hole-end.ensures.hole)
-    (c.may_be_torn-torn.ensures ∙ ap (is_torn true) (take_rest c.args.bytes.now c.loop-i.reading.whole)) not_torn
+    let bytes = c.args.bytes.now in
+    let end = c.first_hole-end.result in
+    let within = c.first_hole-end.ensures.within in
+    let counted : List ℕ = take end bytes in
+    let order : c.lines.from ≤ end = omega (arith, c.lines.invariant.within, length-take-le end bytes within) in
+    let holes : HasNoHole bytes c.lines.from end = λ k low high. c.first_hole-end.ensures.before k high in
+    let inner : HasNoNewline bytes c.lines.from end = counted_inner bytes counted end c.lines.from within refl c.in_default.ensures in
+    let torn : c.may_be_torn-torn.result ≡ is_torn true (drop c.lines.whole bytes) = c.may_be_torn-torn.ensures ∙ ap (is_torn true) (take_rest bytes c.lines.whole) in
+    never_left bytes c.lines.from end c.lines.whole order within holes inner c.lines.invariant.read c.may_be_torn-torn.result torn c.first_hole-end.ensures.hole not_torn

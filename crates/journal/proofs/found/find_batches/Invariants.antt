@@ -1,7 +1,13 @@
-use Rattle.journal.specs.Reading.{state_of}
-use Rattle.journal.proofs.ReadLemmas.{IsReadTo}
-use Rattle.journal.proofs.EndLemmas.{IsLastEnd}
+use Rattle.std.proofs.Common.{◌≤◌, ◌-◌, length}
+use Rattle.journal.proofs.RunLemmas.{IsAtLine}
 use Rattle.journal.proofs.found.find_batches.Given as goal
 
-abbrev pub invariant-loop-i : goal.invariant-loop-i
-invariant-loop-i l = IsReadTo l.bytes l.i (state_of l.reading) × IsLastEnd l.bytes l.i (state_of l.reading)
+-- the lines before `from` are read
+abbrev pub invariant-lines : goal.invariant-lines
+invariant-lines l = record {
+  within : l.from ≤ length l.counted;
+  read : IsAtLine l.bytes l.from l.whole;
+}
+
+abbrev pub decreases-lines : goal.decreases-lines
+decreases-lines l = length l.counted - l.from

@@ -1,28 +1,43 @@
-use Rattle.std.proofs.Common.{◌≡◌, ◌∙◌, ap, false, sym, subst, ℕ, Bool, List, Vec, map}
-use Rattle.std.specs.declared.alloc.Global.{Global}
+use Rattle.std.proofs.Common.{◌≡◌, ◌∙◌, ap, false, true, sym, subst, ℕ, Bool, List, take}
 use Rattle.log_file.specs.declared.past.Past.{Past}
 use Rattle.log_file.specs.Crashes.{content_of}
 use Rattle.log_file.specs.Files.{past_of}
 use Rattle.journal.specs.Lines.{recovered_lines, HasWholeBatches, IsNeverLeft}
-use Rattle.journal.proofs.CrashLemmas.{is_recovered}
 use Rattle.journal.proofs.JournalLemmas.{whole_recovered, kept_whole}
+use Rattle.journal.proofs.TextLemmas.{whole_lines}
 use Rattle.journal.proofs.journal.Journal.open.Goals as goal
 
-pub returns-in-Ok-repair-clause-same : goal.returns-in-Ok-repair-clause-same
-returns-in-Ok-repair-clause-same g c =
-    whole_recovered (content_of (past_of c.repair.new.file)) (recovered_lines (content_of (past_of c.new-file.result))) c.in-Ok-repair.ensures.whole
+abbrev whole_batches : List ℕ → ℕ → Bool → Type 0
+whole_batches bytes whole torn = HasWholeBatches bytes (recovered_lines bytes) whole torn
+
+pub repair-requires-clause-found : goal.repair-requires-clause-found
+repair-requires-clause-found g c =
+    let whole = c.find_batches.result.whole in
+    let found = subst (λ (t : Bool). whole_batches c.as_slice.result.now whole t) c.if-not-torn.false c.find_batches.ensures.found in
+    subst (λ (b : List ℕ). whole_batches b whole true) (c.as_slice.ensures.value ∙ sym (ap content_of c.new-file.ensures)) found
+
+pub returns-in-Ok-clause-whole : goal.returns-in-Ok-clause-whole
+returns-in-Ok-clause-whole g c =
+    let whole = c.find_batches.result.whole in
+    let found = subst (λ (t : Bool). whole_batches c.as_slice.result.now whole t) c.if-not-torn.false c.find_batches.ensures.found in
+    subst (λ (b : List ℕ). whole_batches b whole true) c.as_slice.ensures.value found
+
+pub returns-in-Ok-clause-lines : goal.returns-in-Ok-clause-lines
+returns-in-Ok-clause-lines g c =
+    let bytes = c.args.bytes.now.items in
+    whole_lines (take c.find_batches.result.whole bytes) (recovered_lines bytes) (returns-in-Ok-clause-whole g c).front
+
+pub returns-in-Ok-clause-same : goal.returns-in-Ok-clause-same
+returns-in-Ok-clause-same g c =
+    whole_recovered (content_of (past_of c.repair.new.file)) (recovered_lines (content_of (past_of c.new-file.result))) c.in-Ok.ensures.whole
     ∙ ap (λ (p : Past). recovered_lines (content_of p)) c.new-file.ensures
 
-pub returns-in-Ok-repair-clause-on_disk : goal.returns-in-Ok-repair-clause-on_disk
-returns-in-Ok-repair-clause-on_disk g c = kept_whole (past_of c.repair.new.file) (recovered_lines (content_of (past_of c.new-file.result))) false c.in-Ok-repair.ensures.synced c.in-Ok-repair.ensures.whole
+pub returns-in-Ok-clause-on_disk : goal.returns-in-Ok-clause-on_disk
+returns-in-Ok-clause-on_disk g c = kept_whole (past_of c.repair.new.file) (recovered_lines (content_of (past_of c.new-file.result))) false c.in-Ok.ensures.synced c.in-Ok.ensures.whole
 
 pub returns-then-not-torn-clause-damage : goal.returns-then-not-torn-clause-damage
 returns-then-not-torn-clause-damage g c =
-    let bytes = c.as_slice.result.now in
-    let whole = c.in-Ok.found.whole in
-    let lines = map (λ (v : Vec ℕ Global). v.items) c.in-Ok.found.lines.items in
-    let not_torn : c.in-Ok.found.torn ≡ false = c.if-not-torn.true in
-    let same : recovered_lines bytes ≡ lines = is_recovered bytes lines whole c.in-Ok.found.torn c.in-Ok.ensures.found in
-    let found : HasWholeBatches bytes (recovered_lines bytes) whole false =
-    subst (λ (l : List (List ℕ)). HasWholeBatches bytes l whole false) (sym same) (subst (λ (t : Bool). HasWholeBatches bytes lines whole t) not_torn c.in-Ok.ensures.found) in
-    subst (λ (b : List ℕ). HasWholeBatches b (recovered_lines b) whole false × IsNeverLeft b) c.as_slice.ensures.value (found, c.in-Ok.ensures.damaged not_torn)
+    let whole = c.find_batches.result.whole in
+    let not_torn : c.find_batches.result.torn ≡ false = c.if-not-torn.true in
+    let found = subst (λ (t : Bool). whole_batches c.as_slice.result.now whole t) not_torn c.find_batches.ensures.found in
+    subst (λ (b : List ℕ). HasWholeBatches b (recovered_lines b) whole false × IsNeverLeft b) c.as_slice.ensures.value (found, c.find_batches.ensures.damaged not_torn)

@@ -1,16 +1,12 @@
-use Rattle.std.proofs.Common.{◌≡◌, ℕ, List, Vec, map, ap, ◌∙◌, sym, subst, inl}
+use Rattle.std.proofs.Common.{◌≡◌, ℕ, List, take, ap, ◌∙◌, sym, subst, inl}
 use Rattle.std.specs.Prelude.{◌⊎◌}
-use Rattle.std.specs.declared.alloc.Global.{Global}
 use Rattle.log_file.specs.Crashes.{LeavesOnly}
 use Rattle.log_file.specs.Files.{after_open}
-use Rattle.journal.specs.Lines.{recovered_lines, StandsFor}
+use Rattle.journal.specs.Lines.{recovered_lines, text_lines, StandsFor}
 use Rattle.journal.specs.Journals.{journal_past}
 use Rattle.journaled_hub.specs.OpenFaults.{IsOpenFault, IsFaultOfLines}
 use Rattle.journaled_hub.proofs.FaultLemmas.{journal_not_opened, fault_of_file, leaves_weaker}
 use Rattle.journaled_hub.proofs.journaled.JournaledHub.open.Goals as goal
-
-abbrev bytes_of : Vec ℕ Global → List ℕ
-bytes_of v = v.items
 
 pub returns-in-Err-clause-fault : goal.returns-in-Err-clause-fault
 returns-in-Err-clause-fault g c =
@@ -21,7 +17,7 @@ pub returns-clause-fault : goal.returns-clause-fault
 returns-clause-fault g c =
     let fault = c.in-Err-take_lines.fault in
     fault_of_file fault c.args.bytes.now.items
-    (subst (IsFaultOfLines fault) (ap (map bytes_of) c.as_slice.ensures.value ∙ c.in-Ok.ensures.lines) c.in-Err-take_lines.ensures.fault)
+    (subst (IsFaultOfLines fault) (ap (λ (b : List ℕ). text_lines (take c.in-Ok.opened.whole b)) c.as_slice.ensures.value ∙ c.in-Ok.ensures.lines) c.in-Err-take_lines.ensures.fault)
 
 pub returns-clause-any_moment_err : goal.returns-clause-any_moment_err
 returns-clause-any_moment_err g c =
