@@ -8,14 +8,16 @@ use seeded_state::SeededState;
 use std::alloc::Global;
 use std::fs;
 use std::io::{ErrorKind, Read, Write};
+use std::mem::forget;
 use std::random::RandomSource;
 use std::rt::Files;
+use std::thread::Threads;
 
 /// Prints how many calls the journal has, and how many bytes its torn end. It is read as `replay` reads it, and refused for the
 /// same faults; it is not locked, and nothing is written to it.
 pub fn perform<H, W, E>(rt: &H, path: &str, mut output: W, errors: &mut E) -> Result<u8, Fault>
 where
-    H: Files + RandomSource + AllocGlobal,
+    H: Files + Threads + RandomSource + AllocGlobal,
     W: Write + Drop,
     E: Write,
 {
@@ -80,9 +82,18 @@ impl RawFile for OnlyRead {
 }
 
 // How many calls the hub has that is made of these bytes.
-fn count_calls(rt: &impl RandomSource, alloc: Global, bytes: &Vec<u8>) -> Result<usize, OpenFault> {
-    match JournaledHub::open(alloc, SeededState::drawn(rt), OnlyRead, bytes) {
-        Ok(hub) => Ok(hub.len()),
+fn count_calls<H: Threads + RandomSource>(
+    rt: &H,
+    alloc: Global,
+    bytes: &Vec<u8>,
+) -> Result<usize, OpenFault> {
+    match JournaledHub::open(rt, alloc, SeededState::drawn(rt), OnlyRead, bytes) {
+        Ok(hub) => {
+            let calls = hub.len();
+            // The program ends here. To give back the memory of each call would take as long as many calls.
+            forget(hub);
+            Ok(calls)
+        }
         Err((fault, _file)) => Err(fault),
     }
 }

@@ -84,7 +84,7 @@ fn open<'a, H, E>(
     errors: &mut E,
 ) -> Result<JournaledHub<DiskFile<&'a H>>, Fault>
 where
-    H: Files<File = File> + RandomSource,
+    H: Files<File = File> + Threads + RandomSource,
     E: Write,
     ensures { IfOk result (λ hub. IsOnDisk hub) }
 {
@@ -103,7 +103,7 @@ where
         Ok(torn) => torn,
         Err(fault) => return Err(refused(path, fault, errors)),
     };
-    match JournaledHub::open(alloc, SeededState::drawn(rt), file, &bytes) {
+    match JournaledHub::open(rt, alloc, SeededState::drawn(rt), file, &bytes) {
         Ok(hub) => {
             report_journal(path, hub.len(), &torn, errors);
             Ok(hub)

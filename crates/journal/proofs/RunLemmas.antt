@@ -1,12 +1,11 @@
 -- Bytes without a newline, read together.
 use Rattle.std.proofs.Common.{◌≡◌, ◌≢◌, ℕ, zero, suc, ◌+◌, ◌-◌, ◌≤◌, ◌<◌, ◌==◌, Bool, true, false, List, [], ◌∷◌, ◌++◌, length, get_or, take, drop, refl, sym, ◌∙◌, ap, subst, arith}
-use Rattle.std.proofs.lemmas.Bool.{cases_lt, eq-eqb, eqb-true}
-use Rattle.std.proofs.lemmas.Bool.Decides.{nat_tests}
+use Rattle.std.proofs.lemmas.Bool.{eq-eqb, eqb-true}
 use Rattle.std.proofs.lemmas.List.{get_or-drop, get_or-take, length-take-le, take_rest, length-drop}
-use Rattle.journal.specs.Lines.{is_nil, read_on, recovered_lines, is_torn, HasNoNewline, IsNextNewline, HasWholeBatches, StandsFor}
+use Rattle.journal.specs.Lines.{is_nil, read_on, is_torn, HasNoNewline, IsNextNewline, HasWholeBatches, StandsFor}
 use Rattle.journal.proofs.Reading.{ReadingState, with_byte}
 use Rattle.journal.proofs.LineLemmas.{grown_some}
-use Rattle.journal.proofs.ReadLemmas.{IsReadTo, read_start, read_step, read_found, after_byte, after_end, after_line, nil_cases}
+use Rattle.journal.proofs.ReadLemmas.{IsReadTo, read_start, read_step, read_found, after_byte, after_end, after_line}
 use Rattle.journal.proofs.EndLemmas.{IsLastEnd, last_start, last_step, not_left}
 
 -- ---- searches

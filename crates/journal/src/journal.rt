@@ -40,10 +40,7 @@ impl<F: RawFile> Journal<F> {
     ///
     /// An `Err` hands the file back: `Damaged` where what is behind the whole batches is no torn end, and no call of the file was
     /// made then; `Failed` where the cut or its sync failed. Takes no memory.
-    pub fn open(
-        raw: F,
-        bytes: &Vec<u8>,
-    ) -> Result<OpenedJournal<F>, (JournalFault, LogFile<F>)>
+    pub fn open(raw: F, bytes: &Vec<u8>) -> Result<OpenedJournal<F>, (JournalFault, LogFile<F>)>
         ensures whole { IfOk result (λ o.
             HasWholeBatches bytes.now.items (recovered_lines bytes.now.items) o.whole true) }
         ensures lines { IfOk result (λ o. text_lines (take o.whole bytes.now.items)

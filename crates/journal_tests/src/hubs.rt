@@ -4,11 +4,13 @@ ghost use Rattle.journaled_hub.specs.JournaledHubs.{IsJournaled};
 use crate::given::{Failing, Memory, MemoryFile};
 use call_reader::read_call;
 use journal::RawFile;
+use journal_lines::{first_sum, line_of};
 use journaled_hub::{JournaledHub, OpenFault};
 use reply_writer::{Buffer, append_reply};
 use seeded_state::SeededState;
 use std::alloc::Global;
 use std::test::Fail;
+use std::thread::Threads;
 
 // Records, and the texts of their replies. The third is the second once more, and the last is a question.
 static RECORDS: [(&str, &str); 4] = [
@@ -79,16 +81,17 @@ fn serve<F: RawFile>(
 }
 
 // Opens the hub of the memory, and serves two records.
-fn serve_again(
-    alloc: Global,
+fn serve_again<H: Threads + AllocGlobal>(
+    rt: &H,
     memory: &mut Memory,
     failing: Failing,
     first: (&str, &str),
     second: (&str, &str),
 ) -> Result<bool, Fail> {
+    let alloc = rt.alloc();
     let bytes = Vec::from_slice(alloc, memory.bytes.as_slice())?;
     let file = MemoryFile { memory, failing };
-    match JournaledHub::open(alloc, SeededState::fixed(), file, &bytes) {
+    match JournaledHub::open(rt, alloc, SeededState::fixed(), file, &bytes) {
         Ok(mut hub) => serve(alloc, &mut hub, first, second),
         Err(_) => Err(Fail::new("no hub")),
     }
@@ -98,9 +101,9 @@ fn serve_again(
 fn a_hub_comes_back(rt: HostRuntime) -> Result<(), Fail> {
     let mut memory = Memory::of(rt.alloc(), b"")?;
     let failing = Failing::Never;
-    let first = serve_again(rt.alloc(), &mut memory, failing, RECORDS[0], RECORDS[1])?;
+    let first = serve_again(&rt, &mut memory, failing, RECORDS[0], RECORDS[1])?;
     assert!(rt; first && memory.bytes.as_slice() == &TEXT.as_bytes()[..FIRST]);
-    let second = serve_again(rt.alloc(), &mut memory, failing, RECORDS[2], RECORDS[3])?;
+    let second = serve_again(&rt, &mut memory, failing, RECORDS[2], RECORDS[3])?;
     assert!(rt; second && memory.bytes.as_slice() == TEXT.as_bytes());
     Ok(())
 }
@@ -110,14 +113,18 @@ fn a_sync_that_fails_is_told(rt: HostRuntime) -> Result<(), Fail> {
     for call in 1..=2 {
         let mut memory = Memory::of(rt.alloc(), b"")?;
         let failing = Failing::Once(call);
-        let synced = serve_again(rt.alloc(), &mut memory, failing, RECORDS[0], RECORDS[1])?;
+        let synced = serve_again(&rt, &mut memory, failing, RECORDS[0], RECORDS[1])?;
         assert!(rt; !synced);
     }
     Ok(())
 }
 
 // How many calls the hub of these bytes has, or why there is none.
-fn calls_in(alloc: Global, bytes: &[u8]) -> Result<Result<usize, OpenFault>, Fail> {
+fn calls_in<H>(rt: &H, bytes: &[u8]) -> Result<Result<usize, OpenFault>, Fail>
+where
+    H: Threads + AllocGlobal,
+{
+    let alloc = rt.alloc();
     let mut memory = Memory::of(alloc, bytes)?;
     let bytes = Vec::from_slice(alloc, bytes)?;
     let failing = Failing::Never;
@@ -125,7 +132,7 @@ fn calls_in(alloc: Global, bytes: &[u8]) -> Result<Result<usize, OpenFault>, Fai
         memory: &mut memory,
         failing,
     };
-    match JournaledHub::open(alloc, SeededState::fixed(), file, &bytes) {
+    match JournaledHub::open(rt, alloc, SeededState::fixed(), file, &bytes) {
         Ok(hub) => Ok(Ok(hub.len())),
         Err((fault, _)) => Ok(Err(fault)),
     }
@@ -142,7 +149,7 @@ fn a_journal_cut_at_each_byte(rt: HostRuntime) -> Result<(), Fail> {
         } else {
             0
         };
-        assert!(rt; calls_in(rt.alloc(), &text[..len])? == Ok(count));
+        assert!(rt; calls_in(&rt, &text[..len])? == Ok(count));
     }
     Ok(())
 }
@@ -174,7 +181,36 @@ static FAULTS: [(&str, OpenFault); 4] = [
 #[test]
 fn journals_that_give_no_hub(rt: HostRuntime) -> Result<(), Fail> {
     for (text, fault) in &FAULTS {
-        assert!(rt; calls_in(rt.alloc(), text.as_bytes())? == Err(*fault));
+        assert!(rt; calls_in(&rt, text.as_bytes())? == Err(*fault));
     }
+    Ok(())
+}
+
+// How many lines. They are more than are read at once, so another thread reads some of them.
+const MANY: usize = 2_000;
+
+// A journal of so many questions in one batch. The line of the number `wrong`, and no other, has not the sum that the line before
+// gives.
+fn many_lines(alloc: Global, wrong: usize) -> Result<Vec<u8>, Fail> {
+    let call = read_call(alloc, RECORDS[3].0.as_bytes())?;
+    let mut text = Vec::new(alloc);
+    let mut sum = first_sum();
+    for number in 1..=MANY {
+        let before = if number == wrong { sum ^ 1 } else { sum };
+        let (line, own) = line_of(alloc, before, &call)?;
+        text.extend_from_slice(line.as_slice())?;
+        text.push(b'\n')?;
+        sum = own;
+    }
+    text.push(b'\n')?;
+    Ok(text)
+}
+
+#[test]
+fn a_journal_of_many_lines(rt: HostRuntime) -> Result<(), Fail> {
+    let whole = many_lines(rt.alloc(), 0)?;
+    assert!(rt; calls_in(&rt, whole.as_slice())? == Ok(MANY));
+    let wrong = many_lines(rt.alloc(), 1_500)?;
+    assert!(rt; calls_in(&rt, wrong.as_slice())? == Err(OpenFault::OtherSum(1_500)));
     Ok(())
 }

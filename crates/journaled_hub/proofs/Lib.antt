@@ -4,3 +4,4 @@ mod HistoryLemmas
 mod AnsweringLemmas
 mod WholeLineLemmas
 mod DiskLemmas
+mod AheadLemmas

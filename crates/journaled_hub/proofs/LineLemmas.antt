@@ -10,7 +10,7 @@ use Rattle.journal_lines.specs.Sums.{first_sum}
 use Rattle.journal_lines.specs.CallLines.{call_sum, line_text, lines_after, lines_of_calls, last_sum}
 use Rattle.journaled_hub.specs.HistoryLines.{calls_of, lines_of_history}
 
-calls_push : (history : List Entry) (e : Entry) → calls_of (history ++ e ∷ []) ≡ calls_of history ++ e.call ∷ []
+pub calls_push : (history : List Entry) (e : Entry) → calls_of (history ++ e ∷ []) ≡ calls_of history ++ e.call ∷ []
 calls_push history e = map-append (λ (x : Entry). x.call) history (e ∷ [])
 
 lines-push : (before : ℕ) (calls : List Call) (call : Call) →

@@ -1,5 +1,6 @@
 pub mod HistoryLines
 pub mod JournaledHubs
 pub mod OpenFaults
+pub mod CallBatches
 pub mod Laws
 pub mod Answering

@@ -7,9 +7,14 @@
 //! | part | what it has |
 //! |---|---|
 //! | `journaled` | the hub and its journal: `apply` and `sync` |
+//! | `call_batch` | the calls of lines in a row |
 //! | `recovery` | the hub of a journal |
 //! | `fault` | why a journal gives no hub |
 //! | `laws` | what a hub that is opened after a crash has in common with the one before |
+//!
+//! A journal is opened in batches: while the calls of a batch of lines are given to the hub, a thread of its own reads the lines of
+//! the next one, where they stand among the file's bytes. The first batch has about 65,536 bytes, and each other half as many more
+//! than the one before, up to 1,048,576. Beside the hub, memory is taken for the calls of two batches, and for no line.
 //!
 //! Promised is, by the model of log_file: after a sync that is Ok, each crash leaves a file that has the line of each call of the
 //! history, in order; a crash at any moment of the sync leaves the lines from before it, or all. A hub that is opened has the calls of
@@ -17,6 +22,7 @@
 //! message that had its reply before a crash gets the same one again.
 #![tactic(auto)]
 
+mod call_batch;
 mod fault;
 mod journaled;
 mod laws;

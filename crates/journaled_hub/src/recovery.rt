@@ -1,5 +1,5 @@
 //! The hub of a journal.
-ghost use Rattle.std.specs.Prelude.{◌≡◌, ◌⊎◌, ◌++◌, ◌+◌, [], ◌∷◌, length, false, All, IfOk, IfErr, OnOk};
+ghost use Rattle.std.specs.Prelude.{◌≡◌, ◌⊎◌, ◌++◌, ◌+◌, ◌<◌, ◌≤◌, [], length, false, All, IfOk, IfErr, OnOk};
 ghost use Rattle.log_file.specs.Crashes.{LeavesOnly};
 ghost use Rattle.log_file.specs.Files.{past_of as file_past, after_open};
 ghost use Rattle.journal.specs.Lines.{recovered_lines, text_lines, StandsFor};
@@ -7,22 +7,37 @@ ghost use Rattle.reply_writer.specs.Laws.{IsCall};
 ghost use Rattle.journal_lines.specs.CallLines.{last_sum};
 ghost use Rattle.journaled_hub.specs.HistoryLines.{calls_of, lines_of_history};
 ghost use Rattle.journaled_hub.specs.JournaledHubs.{history_of, pending_of, past_of, has_failed, durable_lines, IsJournaled};
-ghost use Rattle.journaled_hub.specs.OpenFaults.{fault_of_journal, fault_of_line, IsFaultOfLine, IsFaultOfLines, IsOpenFault};
+ghost use Rattle.journaled_hub.specs.CallBatches.{IsFaultOfCalls};
+ghost use Rattle.journaled_hub.specs.OpenFaults.{fault_of_journal, fault_of_line, IsFaultOfLines, IsOpenFault};
 
+use crate::call_batch::{CallBatch, Place, read_calls};
 use crate::fault::OpenFault;
 use crate::journaled::JournaledHub;
 use hub_core::{Hub, HubFault};
-use journal::{Batch, Journal, JournalFault, LogFile, OpenedJournal, RawFile, next_line};
-use journal_lines::{LineFault, LineReader, first_sum};
+use journal::{Batch, Journal, JournalFault, LogFile, OpenedJournal, RawFile};
+use journal_lines::{LineFault, first_sum};
 use seeded_state::SeededState;
 use std::alloc::Global;
+use std::collections::VecDeque;
+use std::mem::replace;
+use std::thread::{Threads, join_mut};
+use taf_messages::Call;
+
+// How many bytes of lines are read before the first call is given to the hub.
+const FIRST_BATCH: usize = 65_536;
+
+// How many bytes of lines are read at once at most.
+const MAX_BATCH: usize = 1_048_576;
 
 impl<F: RawFile> JournaledHub<F> {
     /// The hub of the calls that the file has, one after another, whose tables hash so. The file was opened and synced, and then
     /// had these bytes. A torn end, which was never acknowledged, is cut off.
     ///
+    /// While the calls of some lines are given to the hub, another thread reads those of the next ones, where the file has many.
+    ///
     /// An `Err` hands the file back, and names the first fault. Where that is one of a line, a torn end was cut off before.
     pub fn open(
+        rt: &impl Threads,
         alloc: Global,
         hasher: SeededState,
         raw: F,
@@ -49,7 +64,7 @@ impl<F: RawFile> JournaledHub<F> {
             Err((fault, file)) => return Err((open_fault(fault), file)),
         };
         let mut hub = Hub::with_hasher(alloc, hasher);
-        match take_lines(alloc, &mut hub, &bytes.as_slice()[..whole]) {
+        match take_lines(rt, alloc, &mut hub, &bytes.as_slice()[..whole]) {
             Ok(sum) => Ok(JournaledHub {
                 hub,
                 journal,
@@ -71,53 +86,78 @@ fn open_fault(fault: JournalFault) -> OpenFault
     }
 }
 
-// Gives the calls of the lines of this text to a new hub, one after another; the sum of the last one.
-fn take_lines(alloc: Global, hub: &mut Hub, text: &[u8]) -> Result<u64, OpenFault>
+// Gives the calls of the lines of this text to a new hub, one after another, while another thread reads the next lines; the sum of
+// the last line.
+fn take_lines(
+    rt: &impl Threads,
+    alloc: Global,
+    hub: &mut Hub,
+    text: &[u8],
+) -> Result<u64, OpenFault>
     requires { hub.old ≡ [] }
     ensures lines { OnOk result (lines_of_history hub.new ≡ text_lines text.now) }
     ensures sum { IfOk result (λ s. s ≡ last_sum (calls_of hub.new)) }
     ensures limits { OnOk result (All IsCall (calls_of hub.new)) }
     ensures fault { IfErr result (λ f. IsFaultOfLines f (text_lines text.now)) }
 {
-    let mut reader = LineReader::new(alloc);
-    let mut sum = first_sum();
-    let mut from = 0;
-    'lines: while let Some(found) = next_line(text, from) {
-        match take_line(&mut reader, hub, sum, found.line) {
-            Ok(own) => sum = own,
+    let mut spare = VecDeque::new(alloc);
+    let start = Place {
+        from: 0,
+        sum: first_sum(),
+    };
+    let mut size = FIRST_BATCH;
+    let mut batch = read_calls(alloc, &mut spare, text, start, size);
+    'batches: while batch.has_more(text) {
+        size = longer(size);
+        let place = batch.place;
+        let calls = &mut batch.calls;
+        let (next, taken) = join_mut(
+            rt,
+            &mut || read_calls(alloc, &mut spare, text, place, size),
+            &mut || apply_calls(hub, calls),
+        );
+        match taken {
+            Ok(()) => spare = replace(&mut batch, next).calls,
             Err(fault) => return Err(fault),
         }
-        from = found.next;
     }
-    Ok(sum)
+    let CallBatch {
+        mut calls,
+        place,
+        fault,
+    } = batch;
+    match apply_calls(hub, &mut calls) {
+        Ok(()) => {}
+        Err(fault) => return Err(fault),
+    }
+    match fault {
+        None => Ok(place.sum),
+        Some(fault) => Err(line_fault(fault, hub.len() + 1)),
+    }
 }
 
-// Gives the call of a line, behind a line of the sum `before`, to the hub; the sum of the line. All lines before are in the history,
-// so that tells its number.
-fn take_line<'a>(
-    reader: &mut LineReader<'a>,
-    hub: &mut Hub,
-    before: u64,
-    line: &'a [u8],
-) -> Result<u64, OpenFault>
-    requires { before ≡ last_sum (calls_of hub.old) }
-    ensures lines { OnOk result (lines_of_history hub.new
-        ≡ lines_of_history hub.old ++ line.now ∷ []) }
-    ensures sum { IfOk result (λ s. s ≡ last_sum (calls_of hub.new)) }
-    ensures limits { All IsCall (calls_of hub.old)
-        → OnOk result (All IsCall (calls_of hub.new)) }
-    ensures fault { IfErr result (λ f.
-        IsFaultOfLine f hub.old before line.now (length hub.old + 1)) }
+// Half as many bytes more, up to the most that are read at once.
+fn longer(size: usize) -> usize
+    requires { (0 < size) × (size ≤ 1048576) }
+    ensures { (0 < result) × (result ≤ 1048576) }
 {
-    let (call, sum) = match reader.read(before, line) {
-        Ok(read) => read,
-        Err(fault) => return Err(line_fault(fault, hub.len() + 1)),
-    };
-    match hub.apply(call) {
-        Ok(_) => Ok(sum),
-        Err(HubFault::Full(_)) => Err(OpenFault::Full),
-        Err(HubFault::Memory) => Err(OpenFault::Memory),
+    (size + size / 2).min(MAX_BATCH)
+}
+
+// Gives calls to the hub, one after another.
+fn apply_calls(hub: &mut Hub, calls: &mut VecDeque<Call>) -> Result<(), OpenFault>
+    ensures calls { OnOk result (calls_of hub.new ≡ calls_of hub.old ++ calls.old.items) }
+    ensures fault { IfErr result (λ f.
+        IsFaultOfCalls f (length hub.old + length calls.old.items)) }
+{
+    while let Some(call) = calls.pop_front() {
+        match hub.apply(call) {
+            Ok(_) => {}
+            Err(HubFault::Full(_)) => return Err(OpenFault::Full),
+            Err(HubFault::Memory) => return Err(OpenFault::Memory),
+        }
     }
+    Ok(())
 }
 
 // The fault of the line of this number.

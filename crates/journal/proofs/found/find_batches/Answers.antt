@@ -1,6 +1,6 @@
-use Rattle.std.proofs.Common.{◌≡◌, ◌+◌, ◌<◌, ◌≤◌, ℕ, Bool, false, List, ap, arith, drop, get_or, length, take, refl, sym, subst, true, ◌∙◌}
+use Rattle.std.proofs.Common.{◌≡◌, ◌+◌, ◌<◌, ◌≤◌, ℕ, List, ap, arith, drop, length, take, refl, sym, subst, true, ◌∙◌}
 use Rattle.std.proofs.lemmas.List.{take_rest, length-take-le}
-use Rattle.journal.specs.Lines.{recovered_lines, is_torn, HasNoNewline, HasWholeBatches}
+use Rattle.journal.specs.Lines.{is_torn, HasNoNewline, HasWholeBatches}
 use Rattle.journal.proofs.CrashLemmas.{is_recovered}
 use Rattle.journal.proofs.RunLemmas.{IsAtLine, HasNoHole, line_start, batch_ends, line_ends, all_found, never_left, counted_newline, counted_inner}
 use Rattle.journal.proofs.found.find_batches.Goals as goal

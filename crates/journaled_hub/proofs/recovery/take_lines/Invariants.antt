@@ -1,19 +1,20 @@
-use Rattle.std.proofs.Common.{◌≡◌, ◌≤◌, ◌-◌, ◌++◌, length, drop}
-use Rattle.std.specs.Prelude.{All}
-use Rattle.journal.specs.Lines.{text_lines}
-use Rattle.reply_writer.specs.Laws.{IsCall}
-use Rattle.journal_lines.specs.CallLines.{last_sum}
-use Rattle.journaled_hub.specs.HistoryLines.{calls_of, lines_of_history}
+use Rattle.std.proofs.Common.{◌+◌, ◌-◌, ◌≤◌, ◌<◌, ℕ, length}
+use Rattle.std.specs.Prelude.{Option, None, Some}
+use Rattle.journal_lines.specs.declared.fault.LineFault.{LineFault}
+use Rattle.journaled_hub.specs.CallBatches.{IsAhead}
 use Rattle.journaled_hub.proofs.recovery.take_lines.Given as goal
 
--- the calls of the lines before `from` are in the history
-abbrev pub invariant-lines : goal.invariant-lines
-invariant-lines l = record {
-  within : l.from ≤ length l.text;
-  lines : text_lines l.text ≡ lines_of_history l.hub ++ text_lines (drop l.from l.text);
-  sum : l.sum ≡ last_sum (calls_of l.hub);
-  limits : All IsCall (calls_of l.hub);
+-- the calls of the batch come next
+abbrev pub invariant-batches : goal.invariant-batches
+invariant-batches g l = record {
+  ahead : IsAhead l.text l.hub l.batch;
+  size : (0 < l.size) × (l.size ≤ 1048576);
 }
 
-abbrev pub decreases-lines : goal.decreases-lines
-decreases-lines l = length l.text - l.from
+-- one step more while no line is refused
+abbrev step_left : Option LineFault → ℕ
+step_left None = 1
+step_left (Some fault) = 0
+
+abbrev pub decreases-batches : goal.decreases-batches
+decreases-batches g l = length l.text - l.batch.place.from + step_left l.batch.fault

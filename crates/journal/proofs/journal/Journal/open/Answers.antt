@@ -12,20 +12,20 @@ whole_batches bytes whole torn = HasWholeBatches bytes (recovered_lines bytes) w
 
 pub repair-requires-clause-found : goal.repair-requires-clause-found
 repair-requires-clause-found g c =
-    let whole = c.find_batches.result.whole in
-    let found = subst (λ (t : Bool). whole_batches c.as_slice.result.now whole t) c.if-not-torn.false c.find_batches.ensures.found in
+    let whole = c.find_batches-whole.result.whole in
+    let found = subst (λ (t : Bool). whole_batches c.as_slice.result.now whole t) c.if-not-torn.false c.find_batches-whole.ensures.found in
     subst (λ (b : List ℕ). whole_batches b whole true) (c.as_slice.ensures.value ∙ sym (ap content_of c.new-file.ensures)) found
 
 pub returns-in-Ok-clause-whole : goal.returns-in-Ok-clause-whole
 returns-in-Ok-clause-whole g c =
-    let whole = c.find_batches.result.whole in
-    let found = subst (λ (t : Bool). whole_batches c.as_slice.result.now whole t) c.if-not-torn.false c.find_batches.ensures.found in
+    let whole = c.find_batches-whole.result.whole in
+    let found = subst (λ (t : Bool). whole_batches c.as_slice.result.now whole t) c.if-not-torn.false c.find_batches-whole.ensures.found in
     subst (λ (b : List ℕ). whole_batches b whole true) c.as_slice.ensures.value found
 
 pub returns-in-Ok-clause-lines : goal.returns-in-Ok-clause-lines
 returns-in-Ok-clause-lines g c =
     let bytes = c.args.bytes.now.items in
-    whole_lines (take c.find_batches.result.whole bytes) (recovered_lines bytes) (returns-in-Ok-clause-whole g c).front
+    whole_lines (take c.find_batches-whole.result.whole bytes) (recovered_lines bytes) (returns-in-Ok-clause-whole g c).front
 
 pub returns-in-Ok-clause-same : goal.returns-in-Ok-clause-same
 returns-in-Ok-clause-same g c =
@@ -37,7 +37,7 @@ returns-in-Ok-clause-on_disk g c = kept_whole (past_of c.repair.new.file) (recov
 
 pub returns-then-not-torn-clause-damage : goal.returns-then-not-torn-clause-damage
 returns-then-not-torn-clause-damage g c =
-    let whole = c.find_batches.result.whole in
-    let not_torn : c.find_batches.result.torn ≡ false = c.if-not-torn.true in
-    let found = subst (λ (t : Bool). whole_batches c.as_slice.result.now whole t) not_torn c.find_batches.ensures.found in
-    subst (λ (b : List ℕ). HasWholeBatches b (recovered_lines b) whole false × IsNeverLeft b) c.as_slice.ensures.value (found, c.find_batches.ensures.damaged not_torn)
+    let whole = c.find_batches-whole.result.whole in
+    let not_torn : c.find_batches-whole.result.torn ≡ false = c.if-not-torn.true in
+    let found = subst (λ (t : Bool). whole_batches c.as_slice.result.now whole t) not_torn c.find_batches-whole.ensures.found in
+    subst (λ (b : List ℕ). HasWholeBatches b (recovered_lines b) whole false × IsNeverLeft b) c.as_slice.ensures.value (found, c.find_batches-whole.ensures.damaged not_torn)

@@ -1,4 +1,4 @@
-use Rattle.journal_lines.proofs.Common.{◌≡◌, refl, ◌∙◌, sym, ap, subst, true}
+use Rattle.journal_lines.proofs.Common.{◌≡◌, refl, ◌∙◌, sym, ap}
 use Rattle.std.proofs.lemmas.Bool.{false≢true}
 use Rattle.journal_lines.specs.Sums.{sum_after, digits_of, are_sum_digits}
 use Rattle.journal_lines.specs.CallLines.{digits_in_front, call_sum}
