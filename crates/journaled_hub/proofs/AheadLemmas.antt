@@ -1,5 +1,5 @@
 -- The calls of a history and those of the next lines.
-use Rattle.std.proofs.Common.{◌≡◌, ℕ, suc, ◌+◌, ◌≤◌, ◌<◌, List, [], ◌∷◌, ◌++◌, length, length-append, drop, Some, refl, sym, ap, subst, ◌∙◌, arith, append_assoc, append-nil}
+use Rattle.std.proofs.Common.{◌≡◌, ℕ, suc, ◌+◌, ◌≤◌, List, [], ◌∷◌, ◌++◌, length, length-append, drop, refl, sym, ap, subst, ◌∙◌, arith, append_assoc, append-nil}
 use Rattle.std.specs.Prelude.{fold, All}
 use Rattle.std.proofs.lemmas.List.{length-map}
 use Rattle.std.proofs.lemmas.List.Elements.{All-append}
@@ -97,10 +97,23 @@ calls_not_taken text history batch Full a h =
     let each : length (lines_of_calls calls) ≡ length calls = length-lines_after first_sum calls in
     omega (arith, h, count, all, each)
 
--- ---- a line more
+-- ---- the lines of a batch
 
-pub one_line_more : (before : ℕ) (calls : List Call) (call : Call) → lines_after before (calls ++ call ∷ []) ≡ lines_after before calls ++ line_text (call_sum (fold call_sum before calls) call) call ∷ []
-one_line_more before calls call = lines-append before calls (call ∷ [])
+-- behind the end no line is left
+pub nothing_left : (text : List ℕ) → text_lines (drop (length text) text) ≡ []
+nothing_left text = no_next text (length text) (omega arith) (λ k low high is. absurd (omega (arith, low, high)))
 
-pub one_sum_more : (before : ℕ) (calls : List Call) (call : Call) → fold call_sum before (calls ++ call ∷ []) ≡ call_sum (fold call_sum before calls) call
-one_sum_more before calls call = fold-append call_sum before calls (call ∷ [])
+-- a line more, and its call
+module _ (text : List ℕ) (start : Place) (from next sum own : ℕ) (line : List ℕ) (calls more : List Call) (call : Call) (last : sum ≡ fold call_sum start.sum calls) (own_is : own ≡ call_sum sum call) (grown : more ≡ calls ++ call ∷ []) where
+  pub one_sum_more : own ≡ fold call_sum start.sum more
+  one_sum_more = own_is ∙ ap (λ s. call_sum s call) last ∙ sym (ap (fold call_sum start.sum) grown ∙ fold-append call_sum start.sum calls (call ∷ []))
+
+  pub one_line_more : text_lines (drop start.from text) ≡ lines_after start.sum calls ++ text_lines (drop from text) → text_lines (drop from text) ≡ line ∷ text_lines (drop next text) → line ≡ line_text own call
+      → text_lines (drop start.from text) ≡ lines_after start.sum more ++ text_lines (drop next text)
+  one_line_more so_far first is =
+      let prior = lines_after start.sum calls in
+      let rest = text_lines (drop next text) in
+      let as_call : line ≡ line_text (call_sum (fold call_sum start.sum calls) call) call = is ∙ ap (λ s. line_text s call) (own_is ∙ ap (λ s. call_sum s call) last) in
+      so_far ∙ ap (λ l. prior ++ l) first ∙ sym (append_assoc prior (line ∷ []) rest)
+      ∙ ap (λ l. (prior ++ l ∷ []) ++ rest) as_call
+      ∙ ap (λ l. l ++ rest) (sym (ap (lines_after start.sum) grown ∙ lines-append start.sum calls (call ∷ [])))

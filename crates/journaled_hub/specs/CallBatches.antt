@@ -1,6 +1,5 @@
 -- The calls of lines in a row.
 use Rattle.std.specs.Prelude.{◌≡◌, ℕ, ◌<◌, ◌≤◌, List, ◌∷◌, ◌++◌, length, drop, fold, All, None, IfSome}
-use Rattle.taf_messages.specs.declared.call.Call.{Call}
 use Rattle.reply_writer.specs.Laws.{IsCall}
 use Rattle.journal.specs.Lines.{text_lines}
 use Rattle.hub_model.specs.declared.entry.Entry.{Entry}

@@ -16,6 +16,15 @@ pub(crate) struct Place {
     pub(crate) sum: u64,
 }
 
+/// Lines that are to be read: those of a text that begin among so many bytes from the start on.
+#[derive(Clone, Copy)]
+pub(crate) struct NextLines<'a> {
+    pub(crate) alloc: Global,
+    pub(crate) text: &'a [u8],
+    pub(crate) start: Place,
+    pub(crate) most: usize,
+}
+
 /// The calls of lines in a row.
 #[derive(Drop)]
 pub(crate) struct CallBatch {
@@ -41,19 +50,18 @@ impl CallBatch {
     }
 }
 
-/// The calls of the lines of a text that begin among so many bytes from a place on, in this list, up to the first line that is not
-/// taken.
-pub(crate) fn read_calls(
-    alloc: Global,
-    list: &mut VecDeque<Call>,
-    text: &[u8],
-    start: Place,
-    most: usize,
-) -> CallBatch
-    requires within { start.from ≤ length text.now }
-    requires some { 0 < most }
-    ensures { IsCallBatch text.now start result }
+/// The calls of these lines, in this list, up to the first line that is not taken.
+pub(crate) fn read_calls(list: &mut VecDeque<Call>, next: NextLines<'_>) -> CallBatch
+    requires within { next.start.from ≤ length next.text.now }
+    requires some { 0 < next.most }
+    ensures { IsCallBatch next.entry.text.now next.entry.start result }
 {
+    let NextLines {
+        alloc,
+        text,
+        start,
+        most,
+    } = next;
     let mut reader = LineReader::new(alloc);
     let mut calls = replace(list, VecDeque::new(alloc));
     calls.clear();

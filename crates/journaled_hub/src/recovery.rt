@@ -7,10 +7,10 @@ ghost use Rattle.reply_writer.specs.Laws.{IsCall};
 ghost use Rattle.journal_lines.specs.CallLines.{last_sum};
 ghost use Rattle.journaled_hub.specs.HistoryLines.{calls_of, lines_of_history};
 ghost use Rattle.journaled_hub.specs.JournaledHubs.{history_of, pending_of, past_of, has_failed, durable_lines, IsJournaled};
-ghost use Rattle.journaled_hub.specs.CallBatches.{IsFaultOfCalls};
+ghost use Rattle.journaled_hub.specs.CallBatches.{IsCallBatch, IsFaultOfCalls};
 ghost use Rattle.journaled_hub.specs.OpenFaults.{fault_of_journal, fault_of_line, IsFaultOfLines, IsOpenFault};
 
-use crate::call_batch::{CallBatch, Place, read_calls};
+use crate::call_batch::{CallBatch, NextLines, Place, read_calls};
 use crate::fault::OpenFault;
 use crate::journaled::JournaledHub;
 use hub_core::{Hub, HubFault};
@@ -101,23 +101,27 @@ fn take_lines(
     ensures fault { IfErr result (λ f. IsFaultOfLines f (text_lines text.now)) }
 {
     let mut spare = VecDeque::new(alloc);
-    let start = Place {
-        from: 0,
-        sum: first_sum(),
-    };
     let mut size = FIRST_BATCH;
-    let mut batch = read_calls(alloc, &mut spare, text, start, size);
+    let first = NextLines {
+        alloc,
+        text,
+        start: Place {
+            from: 0,
+            sum: first_sum(),
+        },
+        most: size,
+    };
+    let mut batch = read_calls(&mut spare, first);
     'batches: while batch.has_more(text) {
         size = longer(size);
-        let place = batch.place;
-        let calls = &mut batch.calls;
-        let (next, taken) = join_mut(
-            rt,
-            &mut || read_calls(alloc, &mut spare, text, place, size),
-            &mut || apply_calls(hub, calls),
-        );
+        let next = NextLines {
+            start: batch.place,
+            most: size,
+            ..first
+        };
+        let (ahead, taken) = apply_and_read(rt, hub, &mut batch.calls, &mut spare, next);
         match taken {
-            Ok(()) => spare = replace(&mut batch, next).calls,
+            Ok(()) => spare = replace(&mut batch, ahead).calls,
             Err(fault) => return Err(fault),
         }
     }
@@ -142,6 +146,28 @@ fn longer(size: usize) -> usize
     ensures { (0 < result) × (result ≤ 1048576) }
 {
     (size + size / 2).min(MAX_BATCH)
+}
+
+// Gives calls to the hub, one after another, while another thread reads the next lines, whose calls come into the list.
+fn apply_and_read(
+    rt: &impl Threads,
+    hub: &mut Hub,
+    calls: &mut VecDeque<Call>,
+    list: &mut VecDeque<Call>,
+    next: NextLines<'_>,
+) -> (CallBatch, Result<(), OpenFault>)
+    requires within { next.start.from ≤ length next.text.now }
+    requires some { 0 < next.most }
+    ensures ahead { IsCallBatch next.entry.text.now next.entry.start result.0 }
+    ensures calls { OnOk result.1 (calls_of hub.new ≡ calls_of hub.old ++ calls.old.items) }
+    ensures fault { IfErr result.1 (λ f.
+        IsFaultOfCalls f (length hub.old + length calls.old.items)) }
+{
+    join_mut(
+        rt,
+        &mut || read_calls(list, next),
+        &mut || apply_calls(hub, calls),
+    )
 }
 
 // Gives calls to the hub, one after another.

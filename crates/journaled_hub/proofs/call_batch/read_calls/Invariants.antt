@@ -1,4 +1,4 @@
-use Rattle.std.proofs.Common.{◌≡◌, ◌<◌, ◌≤◌, ◌-◌, ◌++◌, length, drop}
+use Rattle.std.proofs.Common.{◌≡◌, ◌≤◌, ◌-◌, ◌++◌, length, drop}
 use Rattle.std.specs.Prelude.{All, fold}
 use Rattle.reply_writer.specs.Laws.{IsCall}
 use Rattle.journal.specs.Lines.{text_lines}

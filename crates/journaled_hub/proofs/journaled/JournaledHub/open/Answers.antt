@@ -13,14 +13,14 @@ returns-in-Err-clause-fault g c =
     let bytes = c.args.bytes.now.items in
     subst (λ f. IsOpenFault f bytes) (sym c.open_fault.ensures) (journal_not_opened c.in-Err.fault bytes c.in-Err.ensures.damage)
 
-pub returns-clause-fault : goal.returns-clause-fault
-returns-clause-fault g c =
+pub returns-in-Err-take_lines-clause-fault : goal.returns-in-Err-take_lines-clause-fault
+returns-in-Err-take_lines-clause-fault g c =
     let fault = c.in-Err-take_lines.fault in
     fault_of_file fault c.args.bytes.now.items
     (subst (IsFaultOfLines fault) (ap (λ (b : List ℕ). text_lines (take c.in-Ok.opened.whole b)) c.as_slice.ensures.value ∙ c.in-Ok.ensures.lines) c.in-Err-take_lines.ensures.fault)
 
-pub returns-clause-any_moment_err : goal.returns-clause-any_moment_err
-returns-clause-any_moment_err g c =
+pub returns-in-Err-take_lines-clause-any_moment_err : goal.returns-in-Err-take_lines-clause-any_moment_err
+returns-in-Err-take_lines-clause-any_moment_err g c =
     let bytes = c.args.bytes.now in
     let old = after_open bytes in
     let same : List ℕ → Type 0 = λ f. StandsFor f (recovered_lines bytes.items) in
