@@ -5,3 +5,4 @@ mod AnsweringLemmas
 mod WholeLineLemmas
 mod DiskLemmas
 mod AheadLemmas
+mod RunFaultLemmas

@@ -4,3 +4,4 @@ pub mod OpenFaults
 pub mod CallBatches
 pub mod Laws
 pub mod Answering
+pub mod RunFaults

@@ -7,6 +7,7 @@ ghost use Rattle.hub_replay.specs.Lines.{parsed_lines, IsTaken};
 ghost use Rattle.journaled_hub.specs.Answering.{LeadsTo, IsStoppedOnDisk};
 ghost use Rattle.journaled_hub.specs.HistoryLines.{lines_of_history};
 ghost use Rattle.journaled_hub.specs.JournaledHubs.{history_of, durable_lines, has_failed, IsOnDisk};
+ghost use Rattle.journaled_hub.specs.RunFaults.{IsFaultOfTurn, ExplainsJournaledFault};
 
 use crate::fault::JournaledRunFault;
 use crate::journaled::JournaledHub;
@@ -26,8 +27,9 @@ const BUFFER: usize = 2_162_689;
 /// Gives the calls of the reader's lines to the hub and answers them, as [`hub_replay::run`] does: the calls of the lines that were
 /// read at once are put on the disk by one sync, and then the answers to these lines are written, and the writer is flushed.
 ///
-/// A fault ends it. What was written until then are answers to lines whose calls are all on the disk. After
-/// [`JournaledRunFault::Journal`] no answer is written any more, and the journal has to be opened again.
+/// The first call that fails ends it, and is told as what it is: [`JournaledRunFault::Journal`] exactly where a call of the journal's
+/// file failed, and else the fault of a run without a journal. What was written until then are answers to lines whose calls are all
+/// on the disk. After [`JournaledRunFault::Journal`] no answer is written any more, and the journal has to be opened again.
 pub fn run_journaled<R: Source, W: Sink, F: RawFile>(
     rt: &impl Threads,
     reader: &mut R,
@@ -42,12 +44,17 @@ pub fn run_journaled<R: Source, W: Sink, F: RawFile>(
         × Appends (W.contents writer.old) (W.contents writer.new) written
         × LeadsTo (history_of hub.old) (parsed_lines read) (history_of hub.new) written) }
     ensures on_disk { OnOk result (IsOnDisk hub.new) }
+    // No read, write or flush failed.
+    ensures kept { OnOk result ((R.failures reader.new ≡ R.failures reader.old)
+        × (W.failures writer.new ≡ W.failures writer.old)) }
     // Some bytes were read, and a front of the answers to lines was written whose calls are on the disk.
     ensures err { IfErr result (λ fault. (read written : List ℕ) × (durable : List Entry)
         × Consumes (R.remaining reader.old) (R.remaining reader.new) read
         × Appends (W.contents writer.old) (W.contents writer.new) written
         × IsStoppedOnDisk (history_of hub.old) (parsed_lines read) written durable
-        × (has_failed hub.new ≡ false → durable_lines hub.new ≡ lines_of_history durable)) }
+        × (has_failed hub.new ≡ false → durable_lines hub.new ≡ lines_of_history durable)
+        × ExplainsJournaledFault fault (has_failed hub.new) (R.failures reader.old)
+        (R.failures reader.new) (W.failures writer.old) (W.failures writer.new) (length read)) }
 {
     let Ok(mut buffer) = vec![in hub.alloc; 0u8; BUFFER] else {
         return Err(JournaledRunFault::Run(RunFault::Memory));
@@ -107,10 +114,13 @@ fn answer_turn<W: Sink, F: RawFile>(
         × Appends (W.contents writer.old) (W.contents writer.new) written
         × LeadsTo (history_of hub.old) (parsed_lines lines.now) (history_of hub.new) written) }
     ensures on_disk { OnOk result (IsOnDisk hub.new) }
+    ensures kept { OnOk result (W.failures writer.new ≡ W.failures writer.old) }
     ensures err { IfErr result (λ fault. (written : List ℕ) × (durable : List Entry)
         × Appends (W.contents writer.old) (W.contents writer.new) written
         × IsStoppedOnDisk (history_of hub.old) (parsed_lines lines.now) written durable
         × (has_failed hub.new ≡ false → durable_lines hub.new ≡ lines_of_history durable)) }
+    ensures fault { IfErr result (λ fault. IsFaultOfTurn fault (has_failed hub.new)
+        (W.failures writer.old) (W.failures writer.new)) }
 {
     let replies = match hub.answer_lines(rt, lines) {
         Ok(replies) => replies,
@@ -131,6 +141,8 @@ fn write_and_flush<W: Sink>(writer: &mut W, bytes: &[u8]) -> Result<(), Failed>
     ensures ok { OnOk result (Appends (W.contents writer.old) (W.contents writer.new) bytes.now) }
     ensures err { OnErr result ((front rest : List ℕ) × (bytes.now ≡ front ++ rest)
         × Appends (W.contents writer.old) (W.contents writer.new) front) }
+    ensures failed { OnErr result (W.failures writer.new ≡ W.failures writer.old + 1) }
+    ensures kept { OnOk result (W.failures writer.new ≡ W.failures writer.old) }
 {
     match write_all(writer, bytes) {
         Ok(()) => writer.flush(),

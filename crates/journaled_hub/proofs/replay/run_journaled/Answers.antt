@@ -1,4 +1,4 @@
-use Rattle.std.proofs.Common.{◌≡◌, ◌+◌, ◌-◌, ◌≤◌, min, ◌++◌, [], ap, sym, ◌∙◌, refl, subst, arith, append-nil, take, drop, length, List, ℕ}
+use Rattle.std.proofs.Common.{◌≡◌, ◌+◌, ◌-◌, ◌≤◌, min, ◌++◌, [], ap, sym, ◌∙◌, refl, subst, arith, append-nil, take, drop, length, length-append, List, ℕ}
 use Rattle.std.specs.List.{slice_range}
 use Rattle.std.proofs.lemmas.Grind.{common_steps}
 use Rattle.std.proofs.lemmas.List.{length-take-le, take-take, length-drop}
@@ -9,13 +9,14 @@ use Rattle.hub_replay.proofs.LineLemmas.{parsed_taken, chunk_split, length-chunk
 use Rattle.journaled_hub.specs.Answering.{LeadsTo, IsStoppedOnDisk}
 use Rattle.journaled_hub.proofs.AnsweringLemmas.{leads_nowhere, leads_on, stopped_at_once, stopped_here, stopped_on, stopped_before}
 use Rattle.journaled_hub.proofs.DiskLemmas.{all_durable}
+use Rattle.journaled_hub.proofs.RunFaultLemmas.{turn_explains, read_explains}
 use Rattle.journaled_hub.proofs.WholeLineLemmas.{taken_more, kept_taken}
 use Rattle.journaled_hub.proofs.replay.run_journaled.Goals as goal
 
 pub returns-in_default-clause-err : goal.returns-in_default-clause-err
 returns-in_default-clause-err g c =
     let hub = c.args.hub.now in
-    ([], [], hub.hub, Consumes-none _, Appends-none _, stopped_at_once hub.hub (parsed_lines []), λ sound. all_durable hub c.requires)
+    ([], [], hub.hub, Consumes-none _, Appends-none _, stopped_at_once hub.hub (parsed_lines []), λ sound. all_durable hub c.requires, (c.requires.sound, (refl, refl, omega arith)))
 
 pub chunks-init : goal.chunks-init
 chunks-init g c = (
@@ -23,36 +24,40 @@ chunks-init g c = (
   c.as_mut_slice-buffer.ensures.len ∙ c.in-Ok.ensures.len,
   omega arith,
   c.requires,
-  ([], [], [], Consumes-none _, Appends-none _, IsTaken-none [], refl, leads_nowhere c.args.hub.now.hub),
+  refl,
+  refl,
+  ([], [], [], Consumes-none _, Appends-none _, IsTaken-none [], refl, leads_nowhere c.args.hub.now.hub, refl),
 )
 
 -- nothing more was read
 pub returns-in-Err-clause-err : goal.returns-in-Err-clause-err
 returns-in-Err-clause-err g c =
     let i = c.chunks.invariant in
-    let r = i.4 in
+    let r = i.6 in
     let kept = take c.chunks.kept_len c.chunks.buffer in
-    let used = rw (append-nil r.0) at (Consumes-append _ _ _ r.0 [] r.3 c.in-Err.ensures.nothing) in
+    let f = c.in-Err.ensures in
+    let used = rw (append-nil r.0) at (Consumes-append _ _ _ r.0 [] r.3 f.nothing) in
     let old = c.args.hub.now.hub in
     let now = c.chunks.hub.hub in
     let stop = subst (λ l. IsStoppedOnDisk old l r.1 now) (sym (parsed_taken r.0 r.2 kept r.5)) (stopped_here old now r.2 (parsed_lines kept) r.1 r.7) in
-    (r.0, r.1, now, used, r.4, stop, λ sound. all_durable c.chunks.hub i.3)
+    let explains = read_explains c.in-Err.fault _ _ _ _ _ _ (length r.0) f.fault.0 i.3.sound f.fault.1 i.4 i.5 (omega (arith, r.8, c.chunks-test.true)) in
+    (r.0, r.1, now, used, r.4, stop, λ sound. all_durable c.chunks.hub i.3, explains)
 
 pub returns-clause-err : goal.returns-clause-err
 returns-clause-err g c =
     let i = c.chunks.invariant in
-    let r = i.4 in
+    let r = i.6 in
     let kept = take c.chunks.kept_len c.chunks.buffer in
     let old = c.args.hub.now.hub in
     let now = c.chunks.hub.hub in
     let stop = subst (λ l. IsStoppedOnDisk old l r.1 now) (sym (parsed_taken r.0 r.2 kept r.5)) (stopped_here old now r.2 (parsed_lines kept) r.1 r.7) in
-    (r.0, r.1, now, r.3, r.4, stop, λ sound. all_durable c.chunks.hub i.3)
+    (r.0, r.1, now, r.3, r.4, stop, λ sound. all_durable c.chunks.hub i.3, (i.3.sound, (i.4, i.5, omega (arith, r.8, i.2, c.chunks-test.false))))
 
 -- a last line that has no newline
 pub returns-in-Ok-answer_turn-clause-ok : goal.returns-in-Ok-answer_turn-clause-ok
 returns-in-Ok-answer_turn-clause-ok g c =
     let i = c.chunks.invariant in
-    let r = i.4 in
+    let r = i.6 in
     let p = c.in-Ok-read_chunk.ensures in
     let f = c.in-Ok-answer_turn.ensures.ok in
     let kept = take c.chunks.kept_len c.chunks.buffer in
@@ -64,10 +69,15 @@ returns-in-Ok-answer_turn-clause-ok g c =
     let leads = leads_on old c.chunks.hub.hub c.answer_turn.new.hub.hub r.2 last r.1 f.0 r.7 f.2 in
     (r.0, r.1 ++ f.0, used, p.end c.if-count-eq0.true, Appends-append _ _ _ r.1 f.0 r.4 f.1, subst (λ l. LeadsTo old l c.answer_turn.new.hub.hub (r.1 ++ f.0)) (sym all) leads)
 
+pub returns-in-Ok-answer_turn-clause-kept : goal.returns-in-Ok-answer_turn-clause-kept
+returns-in-Ok-answer_turn-clause-kept g c =
+    let i = c.chunks.invariant in
+    (c.in-Ok-read_chunk.ensures.same ∙ i.4, c.in-Ok-answer_turn.ensures.kept ∙ i.5)
+
 pub returns-in-Err-answer_turn-clause-err : goal.returns-in-Err-answer_turn-clause-err
 returns-in-Err-answer_turn-clause-err g c =
     let i = c.chunks.invariant in
-    let r = i.4 in
+    let r = i.6 in
     let p = c.in-Ok-read_chunk.ensures in
     let f = c.in-Err-answer_turn.ensures.err in
     let kept = take c.chunks.kept_len c.chunks.buffer in
@@ -77,13 +87,14 @@ returns-in-Err-answer_turn-clause-err g c =
     let all : parsed_lines r.0 ≡ r.2 ++ parsed_lines (take c.chunks.kept_len c.read_chunk.new.buffer) = parsed_taken r.0 r.2 kept r.5 ∙ ap (λ l. r.2 ++ parsed_lines l) (sym p.kept) in
     let last = parsed_lines (take c.chunks.kept_len c.read_chunk.new.buffer) in
     let stop = stopped_on old c.chunks.hub.hub f.1 r.2 last r.1 f.0 r.7 f.3 in
-    (r.0, r.1 ++ f.0, f.1, used, Appends-append _ _ _ r.1 f.0 r.4 f.2, subst (λ l. IsStoppedOnDisk old l (r.1 ++ f.0) f.1) (sym all) stop, f.4)
+    let explains = turn_explains c.in-Err-answer_turn.fault _ _ _ _ _ _ (length r.0) c.in-Err-answer_turn.ensures.fault (p.same ∙ i.4) i.5 (omega (arith, r.8, i.2)) in
+    (r.0, r.1 ++ f.0, f.1, used, Appends-append _ _ _ r.1 f.0 r.4 f.2, subst (λ l. IsStoppedOnDisk old l (r.1 ++ f.0) f.1) (sym all) stop, f.4, explains)
 
 -- whole lines
 pub returns-in-Err-answer_turn-2-clause-err : goal.returns-in-Err-answer_turn-2-clause-err
 returns-in-Err-answer_turn-2-clause-err g c =
     let i = c.chunks.invariant in
-    let r = i.4 in
+    let r = i.6 in
     let p = c.in-Ok-read_chunk.ensures in
     let f = c.in-Err-answer_turn-2.ensures.err in
     let buffer = c.read_chunk.new.buffer in
@@ -97,12 +108,14 @@ returns-in-Err-answer_turn-2-clause-err g c =
     let taken = taken_more r.0 kept new chunk (drop c.whole_len-whole.result chunk) r.2 more r.5 split c.whole_len-whole.ensures.whole in
     let all = parsed_taken (r.0 ++ new) (r.2 ++ more) (drop c.whole_len-whole.result chunk) taken in
     let stop = stopped_before old f.1 (r.2 ++ more) (parsed_lines (drop c.whole_len-whole.result chunk)) (r.1 ++ f.0) (stopped_on old c.chunks.hub.hub f.1 r.2 more r.1 f.0 r.7 f.3) in
-    (r.0 ++ new, r.1 ++ f.0, f.1, Consumes-append _ _ _ r.0 new r.3 p.bytes, Appends-append _ _ _ r.1 f.0 r.4 f.2, subst (λ l. IsStoppedOnDisk old l (r.1 ++ f.0) f.1) (sym all) stop, f.4)
+    let size : length new ≡ c.in-Ok-read_chunk.count = length-chunk buffer c.chunks.kept_len c.in-Ok-read_chunk.count (omega (arith, i.0, i.1, p.bounds.0, c.read_chunk.auto.buffer)) in
+    let explains = turn_explains c.in-Err-answer_turn-2.fault _ _ _ _ _ _ (length (r.0 ++ new)) c.in-Err-answer_turn-2.ensures.fault (p.same ∙ i.4) i.5 (omega (arith, length-append r.0 new, size, r.8, i.2, p.bounds.1, c.chunks-test.true)) in
+    (r.0 ++ new, r.1 ++ f.0, f.1, Consumes-append _ _ _ r.0 new r.3 p.bytes, Appends-append _ _ _ r.1 f.0 r.4 f.2, subst (λ l. IsStoppedOnDisk old l (r.1 ++ f.0) f.1) (sym all) stop, f.4, explains)
 
 pub chunks-preserved : goal.chunks-preserved
 chunks-preserved g c =
     let i = c.chunks.invariant in
-    let r = i.4 in
+    let r = i.6 in
     let p = c.in-Ok-read_chunk.ensures in
     let f = c.in-Ok-answer_turn-2.ensures in
     let buffer = c.read_chunk.new.buffer in
@@ -123,11 +136,14 @@ chunks-preserved g c =
     let most : c.min-kept_len.result ≤ end - whole = omega (arith, few, left) in
     let moved : take (end - whole) c.move_to_front.new.buffer ≡ rest = c.move_to_front.ensures ∙ rest_kept buffer whole end within in
     let shown : take c.min-kept_len.result c.move_to_front.new.buffer ≡ take c.min-kept_len.result rest = sym (take-take c.min-kept_len.result (end - whole) c.move_to_front.new.buffer most) ∙ ap (take c.min-kept_len.result) moved in
+    let size : length new ≡ c.in-Ok-read_chunk.count = length-chunk buffer c.chunks.kept_len c.in-Ok-read_chunk.count room in
     let next = kept_taken (r.0 ++ new) rest (r.2 ++ more) c.min-kept_len.result taken c.whole_len-whole.ensures.rest few in (
       omega (arith, few),
       omega (arith, i.1, c.read_chunk.auto.buffer, c.move_to_front.auto.buffer),
       omega (arith, i.2, p.bounds.1, c.chunks-test.true),
       f.on_disk,
+      p.same ∙ i.4,
+      f.kept ∙ i.5,
       (
         r.0 ++ new,
         r.1 ++ f.ok.0,
@@ -137,6 +153,7 @@ chunks-preserved g c =
         subst (IsTaken (r.0 ++ new) (r.2 ++ more)) (sym shown) next.0,
         ap has_no_newline shown ∙ next.1,
         leads_on c.args.hub.now.hub c.chunks.hub.hub c.answer_turn-in-chunks.new.hub.hub r.2 more r.1 f.ok.0 r.7 f.ok.2,
+        length-append r.0 new ∙ omega (arith, size, r.8),
       ),
     )
 
