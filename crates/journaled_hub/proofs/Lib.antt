@@ -1,8 +1,8 @@
 mod LineLemmas
-mod FaultLemmas
+pub mod FaultLemmas
 mod HistoryLemmas
 mod AnsweringLemmas
 mod WholeLineLemmas
-mod DiskLemmas
+pub mod DiskLemmas
 mod AheadLemmas
 mod RunFaultLemmas

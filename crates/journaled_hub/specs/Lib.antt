@@ -5,3 +5,4 @@ pub mod CallBatches
 pub mod Laws
 pub mod Answering
 pub mod RunFaults
+pub mod Crashes

@@ -48,6 +48,15 @@ impl<F: RawFile> JournaledHub<F> {
         self.journal.has_failed()
     }
 
+    /// The hub by itself, and its journal. What was noted and not synced is forgotten.
+    pub fn into_parts(self) -> (Hub, Journal<F>)
+        ensures hub { result.0 ≡ history_of self }
+        ensures journal { result.1 ≡ journal_of self }
+    {
+        let JournaledHub { hub, journal, .. } = self;
+        (hub, journal)
+    }
+
     /// The replies of the history are those that its calls get on a new hub, one after another. It does nothing.
     pub fn history_is_legal(&self)
         ensures legal { IsLegal (history_of self.now) }

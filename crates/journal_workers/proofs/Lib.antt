@@ -1,0 +1,4 @@
+mod Common
+mod AnswerLemmas
+mod CrashLemmas
+mod WorkLemmas

@@ -1,0 +1,32 @@
+use Rattle.std.proofs.Common.{true, false, refl, sym, subst, ◌∙◌}
+use Rattle.std.proofs.lemmas.Bool.{false≢true}
+use Rattle.inbox.specs.States.{PassState}
+use Rattle.journal_workers.specs.Work.{HasWorked}
+use Rattle.journal_workers.specs.declared.worker.JournalWorker.{JournalWorker}
+use Rattle.journal_workers.proofs.WorkLemmas.{not_worked, batch_worked}
+use Rattle.journal_workers.proofs.worker.JournalWorker.answer_batch.Goals as goal
+
+pub returns-in_default-clause-worked : goal.returns-in_default-clause-worked
+returns-in_default-clause-worked g c =
+    let began = c.args.self.now in
+    subst (λ (p : PassState). HasWorked {F = g.row.F.Denot} began (record { pass = p; hub = began.hub; refused = began.refused; dones = began.dones })) (sym c.in_default.ensures.none) (not_worked began c.requires.ready.on_disk)
+
+pub returns-in-Err-clause-worked : goal.returns-in-Err-clause-worked
+returns-in-Err-clause-worked g c =
+    let began = c.args.self.now in
+    let calls = c.make_calls.new.self in
+    let mid : JournalWorker g.row.F.Denot = record { pass = c.next.new.pass; hub = began.hub; refused = began.refused; dones = began.dones } in
+    batch_worked began mid calls (record { pass = calls.pass; hub = c.sync.new.self; refused = calls.refused; dones = calls.dones }) c.in-Some.first
+    c.requires.ready.on_disk refl refl c.in-Some.ensures.taken c.make_calls.ensures.made refl c.sync.ensures.history refl
+    (λ sound. c.sync.ensures.any_moment sound)
+    (λ sound. absurd (false≢true (sym sound ∙ c.in-Err.ensures.failed)))
+
+pub returns-clause-worked : goal.returns-clause-worked
+returns-clause-worked g c =
+    let began = c.args.self.now in
+    let calls = c.make_calls.new.self in
+    let mid : JournalWorker g.row.F.Denot = record { pass = c.next.new.pass; hub = began.hub; refused = began.refused; dones = began.dones } in
+    batch_worked began mid calls (record { pass = calls.pass; hub = c.sync.new.self; refused = calls.refused; dones = c.answer_sessions.new.dones }) c.in-Some.first
+    c.requires.ready.on_disk refl refl c.in-Some.ensures.taken c.make_calls.ensures.made refl c.sync.ensures.history refl
+    (λ sound. c.sync.ensures.any_moment sound)
+    (λ sound. record { journaled = c.sync.ensures.journaled; sound = c.in-Ok.ensures.sound; none = c.sync.ensures.none })
