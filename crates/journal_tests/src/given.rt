@@ -2,7 +2,9 @@
 ghost use Rattle.std.specs.Prelude.{IfOk};
 ghost use Rattle.journal.specs.Journals.{journal_past, has_failed, IsWholeOnDisk};
 
-use journal::{Batch, Failed, Journal, JournalFault, Line, OpenedJournal, RawFile, is_line, next_line};
+use journal::{
+    Batch, Failed, Journal, JournalFault, Line, OpenedJournal, RawFile, is_line, next_line,
+};
 use std::alloc::Global;
 use std::test::Fail;
 
