@@ -1,4 +1,4 @@
 mod Common
-pub mod AnswerLemmas
+mod AnswerLemmas
 mod CrashLemmas
 mod WorkLemmas

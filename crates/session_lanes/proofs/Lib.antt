@@ -1,4 +1,3 @@
 pub mod Common
 pub mod FallLemmas
-pub mod PlaceLemmas
 pub mod SessionLemmas
