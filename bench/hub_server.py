@@ -26,14 +26,17 @@ def free_port():
 
 
 class Server:
-    """`taf_hub serve` for so many sessions, at a free port."""
+    """`taf_hub serve` for so many sessions, at a free port, by so many workers or with a journal."""
 
-    def __init__(self, sessions, workers):
+    def __init__(self, sessions, workers=None, journal=None, **more):
         self.sessions = sessions
+        kind = ["--journal", journal] if journal else ["--workers", str(workers)]
         for _ in range(10):
             self.port = free_port()
-            words = ["serve", "--port", str(self.port), "--sessions", str(sessions), "--workers", str(workers)]
-            self.process = subprocess.Popen([PROGRAM, *words], stdout=subprocess.PIPE, stderr=subprocess.PIPE)
+            words = ["serve", "--port", str(self.port), "--sessions", str(sessions), *kind]
+            self.process = subprocess.Popen([PROGRAM, *words], stdout=subprocess.PIPE, stderr=subprocess.PIPE, **more)
+            # What the journal had.
+            self.had = self.process.stderr.readline().decode() if journal else ""
             said = self.process.stderr.readline()
             if said.startswith(b"listening on "):
                 return

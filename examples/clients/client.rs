@@ -1,40 +1,115 @@
-//! A railway's session with taf_hub, with up to sixteen records on the way: `client PORT RAILWAY <RECORDS`
+//! A railway's session with taf_hub, with up to sixteen records on the way: `client PORT RAILWAY [SECONDS] <RECORDS`
 //!
 //! Says hello, sends the records of its standard input, and shows the answers in their order. Then it fetches and
-//! acknowledges the items of its outbox until there is none. It needs no crate: `rustc -O client.rs`.
+//! acknowledges the items of its outbox until there is none. Where the connection breaks it connects again, for so many
+//! seconds (0), says hello, and sends again each record that has no answer. It needs no crate: `rustc -O client.rs`.
 
+use std::collections::VecDeque;
 use std::io::{BufRead, BufReader, Error, ErrorKind, Result, Write};
 use std::net::TcpStream;
-use std::sync::mpsc::{Receiver, channel};
+use std::sync::mpsc::{Receiver, Sender, channel};
+use std::sync::{Arc, Mutex};
+use std::time::{Duration, Instant};
 use std::{env, io, process, thread};
 
 /// How many records may be on the way.
 const WINDOW: usize = 16;
 
-/// A connection to the hub, and the answers that come by it.
+/// What the arguments say: the port, the railway, and how long it connects again.
+struct Hub {
+    port: u16,
+    railway: String,
+    patience: Duration,
+}
+
+/// What both threads of a session have: the connection, which is locked while a record is sent and while all are sent again, and
+/// the records that have no answer, in order.
+struct Sending {
+    connection: Mutex<TcpStream>,
+    open: Mutex<VecDeque<String>>,
+}
+
+/// A session with the hub, over one connection after another, and the answers that come.
 struct Session {
-    connection: TcpStream,
+    sending: Arc<Sending>,
     answers: Receiver<String>,
     /// How many records have no answer yet.
     open: usize,
 }
 
-impl Session {
-    fn connect(port: u16) -> Result<Session> {
-        let connection = TcpStream::connect(("127.0.0.1", port))?;
+fn ended() -> Error {
+    Error::new(ErrorKind::UnexpectedEof, "the hub has ended the session")
+}
+
+/// The next answer. None where the connection is broken: a line that is cut off is no answer.
+fn next_answer(lines: &mut impl BufRead) -> Option<String> {
+    let mut line = String::new();
+    match lines.read_line(&mut line) {
+        Ok(_) if line.ends_with('\n') => Some(line),
+        _ => None,
+    }
+}
+
+impl Hub {
+    /// Connects, says hello, and sends these records. Gives the connection, its lines, and the answer to the hello.
+    fn connect(&self, open: &VecDeque<String>) -> Result<(TcpStream, BufReader<TcpStream>, String)> {
+        let mut connection = TcpStream::connect(("127.0.0.1", self.port))?;
         connection.set_nodelay(true)?;
-        let lines = BufReader::new(connection.try_clone()?).lines();
-        let (put, answers) = channel();
-        thread::spawn(move || {
-            for line in lines.map_while(Result::ok) {
-                println!("{line}");
-                if put.send(line).is_err() {
+        let mut lines = BufReader::new(connection.try_clone()?);
+        connection.write_all(format!("{{\"kind\":\"hello\",\"from\":\"{}\"}}\n", self.railway).as_bytes())?;
+        for record in open {
+            connection.write_all(record.as_bytes())?;
+        }
+        let answer = next_answer(&mut lines).ok_or_else(ended)?;
+        Ok((connection, lines, answer))
+    }
+
+    /// The lines of a new connection, which has been sent the records without an answer.
+    fn connect_again(&self, sending: &Sending) -> Option<BufReader<TcpStream>> {
+        let mut broken = sending.connection.lock().ok()?;
+        let open = sending.open.lock().ok()?.clone();
+        let start = Instant::now();
+        while start.elapsed() < self.patience {
+            if let Ok((connection, lines, _hello)) = self.connect(&open) {
+                *broken = connection;
+                return Some(lines);
+            }
+            thread::sleep(Duration::from_millis(50));
+        }
+        None
+    }
+
+    /// Shows the answers and gives them on, of one connection after another.
+    fn read(&self, first: BufReader<TcpStream>, sending: &Sending, put: &Sender<String>) {
+        let mut next = Some(first);
+        while let Some(mut lines) = next {
+            while let Some(answer) = next_answer(&mut lines) {
+                if let Ok(mut open) = sending.open.lock() {
+                    open.pop_front();
+                }
+                print!("{answer}");
+                if put.send(answer).is_err() {
                     return;
                 }
             }
+            next = self.connect_again(sending);
+        }
+    }
+}
+
+impl Session {
+    fn connect(hub: Hub) -> Result<Session> {
+        let (connection, lines, hello) = hub.connect(&VecDeque::new())?;
+        print!("{hello}");
+        let sending = Arc::new(Sending {
+            connection: Mutex::new(connection),
+            open: Mutex::default(),
         });
+        let shared = Arc::clone(&sending);
+        let (put, answers) = channel();
+        thread::spawn(move || hub.read(lines, &shared, &put));
         Ok(Session {
-            connection,
+            sending,
             answers,
             open: 0,
         })
@@ -42,19 +117,22 @@ impl Session {
 
     /// The next answer.
     fn answer(&mut self) -> Result<String> {
-        let ended = |_| Error::new(ErrorKind::UnexpectedEof, "the hub has ended the session");
-        let answer = self.answers.recv().map_err(ended)?;
+        let answer = self.answers.recv().map_err(|_| ended())?;
         self.open -= 1;
         Ok(answer)
     }
 
-    /// Sends a record, once fewer than sixteen are on the way.
+    /// Sends a record, once fewer than sixteen are on the way. Where the connection is broken, the next one has it.
     fn send(&mut self, record: &str) -> Result<()> {
         while self.open == WINDOW {
             self.answer()?;
         }
         self.open += 1;
-        self.connection.write_all(format!("{record}\n").as_bytes())
+        let line = format!("{record}\n");
+        let mut connection = self.sending.connection.lock().map_err(|_| ended())?;
+        self.sending.open.lock().map_err(|_| ended())?.push_back(line.clone());
+        let _ = connection.write_all(line.as_bytes());
+        Ok(())
     }
 
     /// Waits until all answers have come, and gives the last of them.
@@ -86,9 +164,9 @@ fn empty_outbox(session: &mut Session, railway: &str) -> Result<()> {
     }
 }
 
-fn run(port: u16, railway: &str) -> Result<()> {
-    let mut session = Session::connect(port)?;
-    session.send(&format!(r#"{{"kind":"hello","from":"{railway}"}}"#))?;
+fn run(hub: Hub) -> Result<()> {
+    let railway = hub.railway.clone();
+    let mut session = Session::connect(hub)?;
     for record in io::stdin().lines() {
         let record = record?;
         // A blank line is no record, and has no answer.
@@ -97,16 +175,26 @@ fn run(port: u16, railway: &str) -> Result<()> {
         }
     }
     session.last_answer()?;
-    empty_outbox(&mut session, railway)
+    empty_outbox(&mut session, &railway)
+}
+
+/// The hub that the arguments name.
+fn hub_of(arguments: &[String]) -> Option<Hub> {
+    let seconds = arguments.get(3).map_or(Some(0), |it| it.parse().ok())?;
+    Some(Hub {
+        port: arguments.get(1)?.parse().ok()?,
+        railway: arguments.get(2)?.clone(),
+        patience: Duration::from_secs(seconds),
+    })
 }
 
 fn main() {
     let arguments: Vec<String> = env::args().collect();
-    let (Some(port), Some(railway)) = (arguments.get(1).and_then(|it| it.parse().ok()), arguments.get(2)) else {
-        eprintln!("client PORT RAILWAY <RECORDS");
+    let Some(hub) = hub_of(&arguments) else {
+        eprintln!("client PORT RAILWAY [SECONDS] <RECORDS");
         process::exit(2);
     };
-    if let Err(error) = run(port, railway) {
+    if let Err(error) = run(hub) {
         eprintln!("client: {error}");
         process::exit(1);
     }

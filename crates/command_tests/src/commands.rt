@@ -102,7 +102,7 @@ fn commands_end_with_their_status(rt: HostRuntime) -> Result<(), Fail> {
 }
 
 // Arguments that are explained, on the output for the status 0 and else among the errors.
-static EXPLAINED: [(&str, u8); 22] = [
+static EXPLAINED: [(&str, u8); 25] = [
     ("taf_hub|--help", 0),
     ("taf_hub|number|--help", 0),
     ("taf_hub", 2),
@@ -125,6 +125,15 @@ static EXPLAINED: [(&str, u8); 22] = [
     ("taf_hub|serve|--port|7000|--sessions|65", 2),
     ("taf_hub|serve|--port|7000|--sessions|3|--workers|0", 2),
     ("taf_hub|serve|--port|7000|--sessions|3|--workers|9", 2),
+    ("taf_hub|serve|--port|7000|--sessions|3|--journal", 2),
+    (
+        "taf_hub|serve|--port|7000|--sessions|3|--workers|2|--journal|hub.journal",
+        2,
+    ),
+    (
+        "taf_hub|serve|--port|7000|--sessions|3|--journal|hub.journal|--workers|1",
+        2,
+    ),
 ];
 
 #[test]
@@ -160,7 +169,7 @@ static ENDS: [(&str, &str); 5] = [
     ),
     (
         "taf_hub|serve|--help",
-        "\nExample:\n  taf_hub serve --port 7000 --sessions 3\n\nStatuses: 0, 2, 3, 4, 5, 6\n",
+        "\n  taf_hub serve --port 7000 --sessions 3 --journal hub.journal\n\nStatuses: 0, 2, 3, 4, 5, 6, 7, 8\n",
     ),
 ];
 

@@ -1,11 +1,13 @@
 ghost use Rattle.std.specs.Prelude.{◌≡◌};
 ghost use Rattle.hub_faults.specs.Statuses.{status_of};
 
-use crate::{check, journaled_replay, number, replay, serve};
+use crate::journaled_serve::{JournaledServe, JournaledStart, serve_journaled};
+use crate::{check, journaled_replay, journaled_serve, number, replay, serve};
 use clap::Error;
 use clap::error::ErrorKind;
 use hub_faults::Fault;
 use hub_tasks::{Task, task_of};
+use journal::RawFile;
 use shift_size::ShiftSize;
 use std::fs::File;
 use std::io::{Read, Write};
@@ -33,7 +35,20 @@ where
         ) => journaled_replay::perform(rt, path, input, output, errors),
         Ok(Task::Check(path)) => check::perform(rt, path, output, errors),
         Ok(Task::Number(text)) => number::perform(output, text),
-        Ok(Task::Serve { port, size }) => serve::perform(rt, port, size, output, errors),
+        Ok(
+            Task::Serve {
+                port,
+                size,
+                journal: None,
+            },
+        ) => serve::perform(rt, port, size, output, errors),
+        Ok(
+            Task::Serve {
+                port,
+                size,
+                journal: Some(path),
+            },
+        ) => journaled_serve::perform(rt, JournaledServe { port, size, path }, output, errors),
         Err(error) => explain(&error, output, errors),
     };
     match done {
@@ -53,6 +68,29 @@ where
     E: Write,
 {
     match serve::serve(rt, listener, size, output, errors) {
+        Ok(status) => status,
+        Err(fault) => report_fault(fault, errors),
+    }
+}
+
+/// Serves one shift with a journal over the connections of a listener, as the command `serve --journal` does on its port, and gives
+/// the status.
+pub fn serve_journaled_on<F, L, H, W, E>(
+    rt: &H,
+    listener: L,
+    start: JournaledStart<'_, F>,
+    output: W,
+    errors: &mut E,
+) -> u8
+where
+    F: RawFile + Send + Drop,
+    L: OpenListener + Drop,
+    L::Stream: Read + Write + OpenStream + Send + Drop,
+    H: Threads + Wait + Sync + RandomSource + AllocGlobal,
+    W: Write + Drop,
+    E: Write,
+{
+    match serve_journaled(rt, listener, start, output, errors) {
         Ok(status) => status,
         Err(fault) => report_fault(fault, errors),
     }

@@ -24,16 +24,27 @@ where
     W: Write + Drop,
     E: Write,
 {
+    let listener = listen(rt, port, size, errors)?;
+    serve(rt, listener, size, output, errors)
+}
+
+/// Listens on the port of this machine alone, and reports among the errors where that is.
+pub(crate) fn listen<R: Net, E: Write>(
+    rt: &R,
+    port: u16,
+    size: ShiftSize,
+    errors: &mut E,
+) -> Result<R::Listener, Fault> {
     let Ok(listener) = TcpListener::bind(rt, (Ipv4Addr::LOCALHOST, port)) else {
         return Err(Fault::Socket);
     };
     let sessions = size.sessions();
     // Where standard error fails, nobody is told where the shift listens; it is served all the same.
     let _ = errors.write_fmt(format_args!("listening on 127.0.0.1:{port}, {sessions} sessions\n"));
-    serve(rt, listener, size, output, errors)
+    Ok(listener)
 }
 
-/// Serves one shift over the connections of a listener: prints `settled C`, with the number of calls of its history, and the
+/// Serves one shift over the connections of a listener: prints `settled C`, with the number of its calls, and the
 /// report of all wagons. Each session that could not be served to its end is a line among the errors, and so is why a shift did
 /// not settle.
 pub(crate) fn serve<L, R, W, E>(
@@ -50,11 +61,26 @@ where
     W: Write + Drop,
     E: Write,
 {
+    match serve_connections(rt, rt.alloc(), listener, size) {
+        Ok(settled) => print_settled(rt, settled, output, errors),
+        Err(fault) => Err(explained(fault, errors)),
+    }
+}
+
+/// Prints what a shift came to: each session that could not be served to its end among the errors, and `settled C` and the report.
+pub(crate) fn print_settled<R, W, E>(
+    rt: &R,
+    settled: SettledShift,
+    output: W,
+    errors: &mut E,
+) -> Result<u8, Fault>
+where
+    R: Threads + Sync + AllocGlobal,
+    W: Write + Drop,
+    E: Write,
+{
     let alloc = rt.alloc();
-    let SettledShift { shift, calls } = match serve_connections(rt, alloc, listener, size) {
-        Ok(settled) => settled,
-        Err(fault) => return Err(explained(fault, errors)),
-    };
+    let SettledShift { shift, calls } = settled;
     for (session, end) in shift.ends.iter().enumerate() {
         report_end(session, *end, errors);
     }
@@ -70,8 +96,8 @@ where
     Ok(0)
 }
 
-// The fault of the command, once it is told in which respect a shift did not settle.
-fn explained<E: Write>(fault: ServerFault, errors: &mut E) -> Fault {
+/// The fault of the command, once it is told in which respect a shift did not settle.
+pub(crate) fn explained<E: Write>(fault: ServerFault, errors: &mut E) -> Fault {
     if let ServerFault::NotSettled(_) = fault {
         let _ = errors.write_fmt(format_args!("{fault}\n"));
     }

@@ -54,6 +54,7 @@ fault_of_server of_server.Socket = Socket
 fault_of_server of_server.Thread = Thread
 fault_of_server of_server.Memory = Memory
 fault_of_server (of_server.NotSettled why) = NotSettled
+fault_of_server of_server.Journal = JournalFile
 
 -- why the file of a journal was not opened
 abbrev pub fault_of_file : FileFault → Fault

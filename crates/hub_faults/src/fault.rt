@@ -127,6 +127,7 @@ impl From<ServerFault> for Fault {
             ServerFault::Thread => Fault::Thread,
             ServerFault::Memory => Fault::Memory,
             ServerFault::NotSettled(_) => Fault::NotSettled,
+            ServerFault::Journal => Fault::JournalFile,
         }
     }
 }

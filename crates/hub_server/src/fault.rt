@@ -21,6 +21,9 @@ pub enum ServerFault {
     /// The history is not told by the sessions' tallies: in this respect.
     #[error("the shift did not settle: {0}")]
     NotSettled(SettleFault),
+    /// A call of the journal's file failed: no further answer was given, and the journal has to be opened again.
+    #[error("a call of the journal's file failed")]
+    Journal,
 }
 
 impl From<AcceptFault> for ServerFault {

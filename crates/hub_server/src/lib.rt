@@ -3,6 +3,7 @@
 //! [`serve_connections`] has as many connections accepted as the shift has sessions, one after another (`connections`). Each is
 //! a session: its lines come by the connection, and their answers go out by it. All of them are served by one shift, with as many
 //! workers as its size says; then the tallies of the sessions are settled against the hub's history.
+//! [`serve_journaled_connections`] serves them on the hub of a journal, by one worker, and settles the calls since.
 //!
 //! # What is promised
 //!
@@ -10,17 +11,21 @@
 //! `specs/Settled.antt` says the rest of it: the history has the answers of each session's jobs and is an interleaving of what the
 //! sessions were told, and each lane has its sessions' jobs in order, as the laws of `hub_shifts` define both. Each fault has its
 //! kind ([`ServerFault`]); that the shift did not settle is answered only of one that did not. Nothing is promised of what a
-//! connection carries, nor that a client reads or sends.
+//! connection carries, nor that a client reads or sends. Where a shift with a journal is given, all calls of its history are in the
+//! journal, on the disk; that a call of the journal's file failed is answered only where one did.
 //!
 //! | part | what it has |
 //! |---|---|
 //! | `fault` | why there is no settled shift |
 //! | `server` | the shift over them, settled |
+//! | `journaled_server` | the same with a journal |
 #![tactic(auto)]
 
 mod fault;
+mod journaled_server;
 mod server;
 
 pub use fault::ServerFault;
 pub use hub_shifts::{SessionEnd, SettledShift};
+pub use journaled_server::{SettledJournaledShift, serve_journaled_connections};
 pub use server::serve_connections;

@@ -1,5 +1,5 @@
 -- A history that is told is an interleaving of what the sessions were told.
-use Rattle.hub_shared.proofs.Common.{◌≡◌, ◌≢◌, ℕ, suc, zero, ◌+◌, ◌-◌, ◌<◌, ◌≤◌, eqb, eq-eqb, ne_eqb, cond, Some, None, List, [], ◌∷◌, length, map, get_or, sum_by, refl, sym, ap, ◌∙◌, subst, arith, slice_get, All, All-nil, All-head, All-tail, sum_by-cons, Entry, Told, TallyState, entry_of, StandsIn, times_told, IsRising, IsTold, items_of_label, Interleaves, entries_of}
+use Rattle.hub_shared.proofs.Common.{◌≡◌, ◌≢◌, ℕ, suc, zero, ◌+◌, ◌-◌, ◌<◌, ◌≤◌, eqb, eq-eqb, ne_eqb, cond, Some, None, List, [], ◌∷◌, length, map, drop, get_or, sum_by, refl, sym, ap, ◌∙◌, subst, arith, length-drop, slice_get, All, All-nil, All-head, All-tail, sum_by-cons, Entry, Told, TallyState, entry_of, StandsIn, IsLater, times_told, IsRising, IsTold, items_of_label, Interleaves, entries_of}
 use mathlib.Core.Logic.{dite}
 use native.Mathlib.Decide.{ℕ_discrete}
 
@@ -84,9 +84,9 @@ rises_after t (u ∷ ts) r =
       rises_after u ts (λ k d low. subst (λ m. (get_or (u ∷ ts) k d).position < (get_or (t ∷ u ∷ ts) m d).position) (let z : suc k + 1 ≡ suc (k + 1) = omega arith in z) (r (suc k) d (omega (arith, low)))),
     )
 
-rises_from : (ts : List Told) → IsRising ts → RisesFrom 0 ts
-rises_from [] r = tt
-rises_from (t ∷ ts) r = (omega arith, rises_after t ts r)
+rises_from : (n : ℕ) (ts : List Told) → All (IsLater n) ts → IsRising ts → RisesFrom n ts
+rises_from n [] later r = tt
+rises_from n (t ∷ ts) later r = (All-head (IsLater n) t ts later, rises_after t ts r)
 
 told_one : (at : ℕ) (t : Told) (ts : List Told) → times_told at (t ∷ ts) ≡ one_if t.position at + times_told at ts
 told_one at t ts = sum_by-cons (λ (u : Told). one_if u.position at) t ts
@@ -161,17 +161,27 @@ rises_at [] all k = λ j d low. absurd (omega (arith, low))
 rises_at (p ∷ ps) all zero = All-head (λ (q : TallyState). IsRising q.entries) p ps all
 rises_at (p ∷ ps) all (suc k) = rises_at ps (All-tail (λ (q : TallyState). IsRising q.entries) p ps all) k
 
-stands_at : (history : List Entry) (ps : List TallyState) → All (λ (p : TallyState). All (StandsIn history) p.entries) ps → (k : ℕ) → All (StandsIn history) (told_at ps k)
-stands_at history [] all k = All-nil (StandsIn history)
-stands_at history (p ∷ ps) all zero = All-head (λ (q : TallyState). All (StandsIn history) q.entries) p ps all
-stands_at history (p ∷ ps) all (suc k) = stands_at history ps (All-tail (λ (q : TallyState). All (StandsIn history) q.entries) p ps all) k
+all_at : (P : Told → Type 0) (ps : List TallyState) → All (λ (p : TallyState). All P p.entries) ps → (k : ℕ) → All P (told_at ps k)
+all_at P [] all k = All-nil P
+all_at P (p ∷ ps) all zero = All-head (λ (q : TallyState). All P q.entries) p ps all
+all_at P (p ∷ ps) all (suc k) = all_at P ps (All-tail (λ (q : TallyState). All P q.entries) p ps all) k
 
-pub told_in_order : (history : List Entry) (ps : List TallyState) → IsTold history ps → Interleaves (entries_of ps) history
-told_in_order history ps told = (
-  labels ps 0 history,
-  labels_fit ps 0 history,
-  λ k.
-      told_read ps k
-      ∙ lines_up history ps k 0 history (told_at ps k) (λ j. ap (λ m. slice_get history m) (let z : 0 + j ≡ j = omega arith in z)) (rises_from (told_at ps k) (rises_at ps told.rises k)) (stands_at history ps told.stands k)
-      (λ at low high. one_tells at ps (told.once at (omega (arith, high))) k),
-)
+-- what stands in a list from a place on
+from_place : (es : List Entry) (n j : ℕ) → slice_get es (n + j) ≡ slice_get (drop n es) j
+from_place es zero j = ap (λ m. slice_get es m) (let z : 0 + j ≡ j = omega arith in z)
+from_place [] (suc n) j = refl
+from_place (e ∷ es) (suc n) j = ap (λ m. slice_get (e ∷ es) m) (let z : suc n + j ≡ suc (n + j) = omega arith in z) ∙ from_place es n j
+
+pub told_in_order : (history : List Entry) (earlier : ℕ) (ps : List TallyState) → IsTold history earlier ps → Interleaves (entries_of ps) (drop earlier history)
+told_in_order history earlier ps told =
+    let since = drop earlier history in
+    let long = length-drop earlier history in (
+      labels ps earlier since,
+      labels_fit ps earlier since,
+      λ k.
+          told_read ps k
+          ∙ lines_up history ps k earlier since (told_at ps k) (from_place history earlier)
+          (rises_from earlier (told_at ps k) (all_at (IsLater earlier) ps told.later k) (rises_at ps told.rises k))
+          (all_at (StandsIn history) ps told.stands k)
+          (λ at low high. one_tells at ps (told.once at low (omega (arith, long, low, high))) k),
+    )

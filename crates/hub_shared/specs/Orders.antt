@@ -1,5 +1,5 @@
 -- Interleavings, and that a history that is told is one.
-use Rattle.std.specs.Prelude.{◌≡◌, ℕ, ◌==◌, if◌then◌else◌, List, [], ◌∷◌, length, map, slice_index_or}
+use Rattle.std.specs.Prelude.{◌≡◌, ℕ, ◌==◌, if◌then◌else◌, List, [], ◌∷◌, length, map, drop, slice_index_or}
 use Rattle.hub_model.specs.declared.entry.Entry.{Entry}
 use Rattle.tallies.specs.Tallies.{TallyState}
 use Rattle.hub_shared.specs.Settling.{entry_of, IsTold}
@@ -21,8 +21,9 @@ Interleaves lists items =
 abbrev pub entries_of : List TallyState → List (List Entry)
 entries_of tallies = map (λ (p : TallyState). map entry_of p.entries) tallies
 
--- in a history that is told each entry is of one tally, and those of a tally stand in its order, each once
+-- in a history that is told each entry behind those that were there before is of one tally, and those of a tally stand in its
+-- order, each once
 abbrev pub ToldInOrder : Type 0
 ToldInOrder =
-    (history : List Entry) (tallies : List TallyState) → IsTold history tallies
-    → Interleaves (entries_of tallies) history
+    (history : List Entry) (earlier : ℕ) (tallies : List TallyState) → IsTold history earlier tallies
+    → Interleaves (entries_of tallies) (drop earlier history)

@@ -9,7 +9,7 @@
 //!
 //! A thread that takes the lock knows nothing of the calls before its own. So no contract of `submit` can say that its
 //! answer is still in the history at the end. This is checked at the end: each session notes in a [`Tally`] what it was
-//! told, and [`settle`] compares the tallies with the history.
+//! told, and [`settle`] compares the tallies with the history, beside the entries that it had before these sessions.
 //!
 //! | part | what it has |
 //! |---|---|

@@ -37,11 +37,12 @@ pub use Rattle.session_lines.proofs.TallyLemmas.{IsOwnTally-run, all_answered}
 pub use Rattle.session_serving.specs.Faults.{sends_all}
 pub use Rattle.session_serving.specs.declared.fault.SessionFault.{SessionFault}
 pub use Rattle.session_lanes.specs.Ends.{end_of, Streams, streams_of, IsServed}
-pub use Rattle.session_lanes.specs.Lanes.{LaneState, new_lane, thread_pass, EachAt, of_lane, HandsOut, TakesBack, EachLane, EachPair, no_inbox, IsPassOf}
+pub use Rattle.session_lanes.specs.Lanes.{LaneState, new_lane, thread_pass, EachAt, of_lane, HandsOut, TakesBack, TakesOnly, EachLane, EachPair, no_inbox, IsPassOf}
 pub use Rattle.session_lanes.specs.declared.ends.Served.{Served}
 pub use Rattle.session_lanes.specs.declared.ends.SessionEnd.TheVariants.{Complete}
 pub use Rattle.session_lanes.specs.declared.ends.SessionStart.{SessionStart}
 pub use Rattle.session_lanes.proofs.FallLemmas.{of_lane-map, of_lane-fits, EachPair-push, of_lane-alike}
+pub use Rattle.session_lanes.proofs.PlaceLemmas.{whole_slice}
 pub use Rattle.session_lanes.specs.Room.{IsEmptyWithRoom}
 pub use Rattle.session_lanes.specs.Work.{IsWorkOf}
 pub use Rattle.hub_shared.specs.Settling.{StandsIn, IsTold}
@@ -49,9 +50,8 @@ pub use Rattle.hub_shared.specs.Seats.{SeatState, new_seat}
 pub use Rattle.hub_shared.proofs.OrderLemmas.{told_in_order}
 pub use Rattle.hub_workers.specs.Work.{IsWorked}
 pub use Rattle.hub_workers.specs.declared.worker.Worker.{Worker}
-pub use Rattle.hub_workers.proofs.PlaceLemmas.{whole_slice}
 pub use Rattle.hub_shifts.specs.Laws.{LanesInOrder, TellsOwnJobs, TellsHistory, IsInOrder}
-pub use Rattle.hub_shifts.specs.Shifts.{LaneIsKept, SessionState, IsOfSession, put_lists, WorkerState, MakesCalls, IsShift}
+pub use Rattle.hub_shifts.specs.Shifts.{LaneIsKept, SessionState, IsOfSession, put_lists, WorkerState, MakesCalls, taken_lists, IsServedByLanes, IsShift}
 pub use Rattle.hub_shifts.specs.Starts.{CanBegin}
 pub use Rattle.hub_shifts.specs.declared.promises.ServedBy.{ServedBy}
 pub use Rattle.hub_shifts.specs.declared.shift.Shift.{Shift}

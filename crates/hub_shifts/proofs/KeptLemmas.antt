@@ -1,5 +1,5 @@
 -- What the lanes have once all passes came back.
-use Rattle.hub_shifts.proofs.Common.{◌≡◌, ℕ, suc, zero, ◌+◌, ◌%◌, ◌<◌, ◌≤◌, eq-eqb, ne_eqb, cond, List, [], ◌∷◌, ◌++◌, length, map, get_or, sum_by, refl, sym, ap, ◌∙◌, subst, arith, append_assoc, length-append, All, map-append, length-map, All-nil, All-cons, All-head, All-tail, All-push, All-weaker, sum_by-append, sum_by-cons, Job, ALL_PARTS, IsKept, PassState, IsKeptBy, LaneState, new_lane, thread_pass, EachAt, of_lane, HandsOut, TakesBack, EachLane, of_lane-map, of_lane-fits, LaneIsKept}
+use Rattle.hub_shifts.proofs.Common.{◌≡◌, ℕ, suc, zero, ◌+◌, ◌%◌, ◌<◌, ◌≤◌, eq-eqb, ne_eqb, cond, List, [], ◌∷◌, ◌++◌, length, map, get_or, sum_by, refl, sym, ap, ◌∙◌, subst, arith, append_assoc, length-append, All, map-append, length-map, All-nil, All-cons, All-head, All-tail, All-push, All-weaker, sum_by-append, sum_by-cons, Job, ALL_PARTS, IsKept, PassState, new_pass, IsKeptBy, LaneState, new_lane, thread_pass, EachAt, of_lane, HandsOut, TakesBack, TakesOnly, EachLane, of_lane-map, of_lane-fits, LaneIsKept}
 use mathlib.Core.Logic.{dite}
 use native.Mathlib.Decide.{ℕ_discrete}
 
@@ -81,27 +81,27 @@ pub record Came (k lanes : ℕ) (ps : List PassState) (own : PassState) (before 
   pub hands : All (λ (t : PassState). t ≡ thread_pass before.id t.put []) (of_lane k lanes 0 ps)
   pub own_is : own ≡ thread_pass before.id [] own.taken
 
-pub all_came : {W : Type 0} (pass_of : W → PassState) (items ts tw : List LaneState) (ps : List PassState) (worked : List W)
-    → length ts ≡ length items → length worked ≡ length items
+pub all_came : (items ts tw : List LaneState) (ps owns : List PassState)
+    → length ts ≡ length items → length owns ≡ length items
     → EachAt (λ k l. HandsOut (new_lane l.id l.capacity) l (1 + length (of_lane k (length items) 0 ps))) items
     → EachAt (λ i (t : PassState). (d : LaneState) → t ≡ thread_pass (get_or items (i % length items) d).id t.put []) ps
-    → EachAt (λ k w. (d : LaneState) → pass_of w ≡ thread_pass (get_or items k d).id [] (pass_of w).taken) worked
+    → EachAt (λ k (t : PassState). (d : LaneState) → TakesOnly (new_pass (get_or items k d).id 1) t) owns
     → EachLane (λ k a b. TakesBack a b (of_lane k (length items) 0 ps)) items ts
-    → ((k : ℕ) (d : LaneState) (e : W) → k < length ts → TakesBack (get_or ts k d) (get_or tw k d) (pass_of (get_or worked k e) ∷ []))
-    → (k : ℕ) (d : LaneState) (e : W) → k < length items → Came k (length items) ps (pass_of (get_or worked k e)) (get_or items k d) (get_or tw k d)
-all_came pass_of items ts tw ps worked same many outs hands owns sessions workers k d e low =
+    → ((k : ℕ) (d : LaneState) (e : PassState) → k < length ts → TakesBack (get_or ts k d) (get_or tw k d) (get_or owns k e ∷ []))
+    → (k : ℕ) (d : LaneState) (e : PassState) → k < length items → Came k (length items) ps (get_or owns k e) (get_or items k d) (get_or tw k d)
+all_came items ts tw ps owns same many outs hands take sessions workers k d e low =
     let s = sessions k d low in
     let w = workers k d e (omega (arith, same, low)) in
     let out = outs k d low in
     let mine = of_lane-each (λ m (t : PassState). (r : LaneState) → t ≡ thread_pass (get_or items m r).id t.put []) k (length items) ps hands in
-    let own = pass_of (get_or worked k e) in
+    let own = get_or owns k e in
     record {
       id = w.id ∙ s.id;
       pass = w.pass ∙ s.pass;
       back = w.back ∙ ap (λ b. b ++ own ∷ []) (s.back ∙ ap (λ b. b ++ of_lane k (length items) 0 ps) out.back);
       out = out;
       hands = All-weaker (λ (t : PassState). (r : LaneState) → t ≡ thread_pass (get_or items k r).id t.put []) (λ (t : PassState). t ≡ thread_pass (get_or items k d).id t.put []) (λ t each. each d) (of_lane k (length items) 0 ps) mine;
-      own_is = owns k e (omega (arith, many, low)) d;
+      own_is = take k e (omega (arith, many, low)) d;
     }
 
 pub came_own : (k lanes : ℕ) (ps : List PassState) (own : PassState) (before after : LaneState) → Came k lanes ps own before after → All (λ (t : PassState). t.inbox ≡ after.id) after.back

@@ -3,3 +3,5 @@ pub mod KeptLemmas
 pub mod OrderLemmas
 pub mod TellingLemmas
 pub mod ThreadLemmas
+pub mod OnlyLemmas
+pub mod JournaledLemmas

@@ -1,5 +1,5 @@
 -- The jobs of a session in its lane.
-use Rattle.hub_shifts.proofs.Common.{◌≡◌, ◌≢◌, ℕ, suc, zero, ◌+◌, ◌%◌, ◌<◌, eqb, eq-eqb, ne_eqb, cond, false, List, [], ◌∷◌, ◌++◌, length, map, get_or, refl, sym, ap, ◌∙◌, subst, arith, All, All-head, All-tail, Job, of_session, lane, EachAt, of_lane, SessionState, IsOfSession, put_lists, LanesInOrder, length-map}
+use Rattle.hub_shifts.proofs.Common.{◌≡◌, ◌≢◌, ℕ, suc, zero, ◌+◌, ◌%◌, ◌<◌, eqb, eq-eqb, ne_eqb, cond, false, List, [], ◌∷◌, ◌++◌, length, map, get_or, refl, sym, ap, ◌∙◌, subst, arith, All, All-head, All-tail, Job, of_session, lane, EachAt, of_lane, SessionState, IsOfSession, put_lists, WorkerState, taken_lists, LanesInOrder, length-map}
 use mathlib.Core.Logic.{dite}
 use native.Mathlib.Decide.{ℕ_discrete}
 use Rattle.hub_shifts.proofs.KeptLemmas.{read_map, some_item}
@@ -117,17 +117,22 @@ lanes_in_order streams workers s shift some i x low d =
     let served = shift.served in
     let puts = put_lists served in
     let put_of : SessionState → List Job = λ y. y.put in
-    let count = shift.worked_count in
-    let within : k < length shift.worked = omega (arith, some, count) in
+    let taken_of : WorkerState → List Job = λ w. w.taken in
+    let lanes = shift.by_lanes in
+    let taken = taken_lists shift.worked in
+    let count = lanes.taken_count in
+    let counted = length-map shift.worked taken_of in
+    let within : k < length taken = omega (arith, some, count) in
     let hands = of_lane k workers 0 puts in
-    let took = (get_or shift.worked k d).taken in
+    let took = get_or taken k [] in
+    let is : took ≡ (get_or shift.worked k d).taken = read_map taken_of shift.worked k d [] (omega (arith, within, counted)) in
     let left = get_or s.left.items k [] in
     let long = length-map served put_of in
     let inside : i < length puts = omega (arith, long, low) in
-    let each = of_puts served shift.of_sessions in
+    let each = of_puts served lanes.of_sessions in
     let place = spot i k workers 0 i puts (let z : i ≡ 0 + i = omega arith in z) inside refl each in
     let here : get_or puts i [] ≡ (get_or served i x).put = read_map put_of served i x [] low in
-    let mine : Of i (get_or puts i []) = subst (λ l. Of i l) (sym here) (shift.of_sessions i x low).own_jobs in
+    let mine : Of i (get_or puts i []) = subst (λ l. Of i l) (sym here) (lanes.of_sessions i x low).own_jobs in
     let all : of_session i (get_or (puts_in k workers 0 puts) place.at []) ≡ get_or (puts_in k workers 0 puts) place.at [] = ap (λ l. of_session i l) place.here ∙ (all_of i (get_or puts i []) mine ∙ sym place.here) in
-    let law = lane (puts_in k workers 0 puts) (takes_in hands took) left (length hands) place.at (λ (j : Job). eqb j.session i) (shift.kept k d within) (λ j ne. no_taker hands took j ne) (λ j ne. place.others j ne) all in
-    ap (λ l. of_session i l ++ of_session i left) (sym (taker hands took)) ∙ (law ∙ (place.here ∙ here))
+    let law = lane (puts_in k workers 0 puts) (takes_in hands took) left (length hands) place.at (λ (j : Job). eqb j.session i) (lanes.kept k [] within) (λ j ne. no_taker hands took j ne) (λ j ne. place.others j ne) all in
+    ap (λ l. of_session i l ++ of_session i left) (sym is ∙ sym (taker hands took)) ∙ (law ∙ (place.here ∙ here))

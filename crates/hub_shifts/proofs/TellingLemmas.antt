@@ -115,15 +115,15 @@ tells_history history number s is stands =
           entry_there (StandsIn history) [] own.serves.jobs own.dones k position reply j d (subst (All (StandsIn history)) own.own.entries stands) job done answer;
     }
 
-pub in_order : (streams : List Streams) (workers : ℕ) (s : Shift) (shift : IsShift streams workers s) → IsTold s.hub s.tallies.items → IsInOrder s shift.served
+pub in_order : (streams : List Streams) (workers : ℕ) (s : Shift) (shift : IsShift streams workers s) → IsTold s.hub s.earlier s.tallies.items → IsInOrder s shift.served
 in_order streams workers s shift told = record {
   sessions = λ k d low.
       let tally_of : SessionState → TallyState = λ x. x.tally in
       let long = length-map shift.served tally_of in
       let none : TallyState = (get_or shift.served k d).tally in
-      let all = subst (All (λ (p : TallyState). All (StandsIn s.hub) p.entries)) shift.tallies_are told.stands in
+      let all = subst (All (λ (p : TallyState). All (StandsIn s.hub) p.entries)) shift.by_lanes.tallies_are told.stands in
       let there = read_map tally_of shift.served k d none low in
-      tells_history s.hub k (get_or shift.served k d) (shift.of_sessions k d low)
+      tells_history s.hub k (get_or shift.served k d) (shift.by_lanes.of_sessions k d low)
       (subst (λ (p : TallyState). All (StandsIn s.hub) p.entries) there (all k none (omega (arith, long, low))));
-  interleaves = told_in_order s.hub s.tallies.items told;
+  interleaves = told_in_order s.hub s.earlier s.tallies.items told;
 }

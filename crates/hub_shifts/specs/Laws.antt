@@ -1,5 +1,5 @@
 -- The laws of shifts.
-use Rattle.std.specs.Prelude.{◌≡◌, ◌≢◌, ℕ, ◌%◌, ◌≤◌, List, [], ◌++◌, length, count_by, slice_get, slice_index_or, Some, Ok, Result}
+use Rattle.std.specs.Prelude.{◌≡◌, ◌≢◌, ℕ, ◌%◌, ◌≤◌, List, [], ◌++◌, length, drop, count_by, slice_get, slice_index_or, Some, Ok, Result}
 use Rattle.std.specs.List.{All}
 use Rattle.std.specs.Io.KnownBytes.{IsAtEnd}
 use Rattle.taf_messages.specs.declared.reply.Reply.{Reply}
@@ -58,17 +58,17 @@ pub record TellsHistory (history : List Entry) (number : ℕ) (s : SessionState)
   pub own : TellsOwnJobs number s
   pub answers : HasAnswers history own.serves.jobs own.dones
 
--- The history has the answers of each session's jobs. Each of its entries is of one session, and those of a session stand there
--- as it was told them, in its order, each once.
+-- The history has the answers of each session's jobs. Each of its entries behind those from before the shift is of one session, and
+-- those of a session stand there as it was told them, in its order, each once.
 pub record IsInOrder (s : Shift) (served : List SessionState) : Type 0 where
   pub sessions : EachAt (TellsHistory s.hub) served
-  pub interleaves : Interleaves (entries_of s.tallies.items) s.hub
+  pub interleaves : Interleaves (entries_of s.tallies.items) (drop s.earlier s.hub)
 
 -- each session of a shift tells its own jobs, and where the tallies tell the history, it is in order
 abbrev pub ShiftInOrder : Type 0
 ShiftInOrder =
     (streams : List Streams) (workers : ℕ) (s : Shift) (shift : IsShift streams workers s)
-    → EachAt TellsOwnJobs shift.served × (IsTold s.hub s.tallies.items → IsInOrder s shift.served)
+    → EachAt TellsOwnJobs shift.served × (IsTold s.hub s.earlier s.tallies.items → IsInOrder s shift.served)
 
 -- what the workers took of a session's jobs, and then what the lanes still held of them, is what the session put, in order
 abbrev pub AreInOrder : ℕ → List WorkerState → List (List Job) → List SessionState → Type 0

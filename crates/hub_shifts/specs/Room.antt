@@ -1,11 +1,10 @@
--- The lists that a shift fills at its end.
-use Rattle.std.specs.Prelude.{ℕ, ◌+◌}
+-- The lists that the end of the lanes fills.
+use Rattle.std.specs.Prelude.{ℕ}
 use Rattle.session_lanes.specs.Room.{IsEmptyWithRoom}
-use Rattle.hub_shifts.specs.declared.shift.Room.{Room}
+use Rattle.hub_shifts.specs.declared.lanes.LanesEnd.{LanesEnd}
 
--- they are empty, and have room for what comes of so many sessions and workers, and for one seat more
-pub record HasRoomFor {L : Type 0} (sessions workers : ℕ) (room : Room L) : Type 0 where
+-- they are empty, and have room for what comes of so many sessions and lanes
+pub record HasRoomFor (sessions lanes : ℕ) (room : LanesEnd) : Type 0 where
   pub ends : IsEmptyWithRoom room.outcomes.ends sessions
   pub tallies : IsEmptyWithRoom room.outcomes.tallies sessions
-  pub seats : IsEmptyWithRoom room.seats (workers + 1)
-  pub left : IsEmptyWithRoom room.left workers
+  pub left : IsEmptyWithRoom room.left lanes

@@ -34,6 +34,9 @@ MakesCalls w = w.seat.refused < 2 ^ 60 → length w.taken ≡ w.seat.count + w.s
 abbrev pub put_lists : List SessionState → List (List Job)
 put_lists sessions = map (λ (s : SessionState). s.put) sessions
 
+abbrev pub taken_lists : List WorkerState → List (List Job)
+taken_lists workers = map (λ (w : WorkerState). w.taken) workers
+
 -- Lane k is kept, by what the sessions that fall to it put, what its worker took, and what it still held. A session takes
 -- nothing, a worker puts nothing, and the shift's own pass, the last, does neither.
 abbrev pub LaneIsKept : ℕ → ℕ → List (List Job) → List Job → List Job → Type 0
@@ -41,22 +44,30 @@ LaneIsKept k workers puts taken left =
     IsKept (of_lane k workers 0 puts ++ [] ∷ [] ∷ [])
     (map (λ (p : List Job). []) (of_lane k workers 0 puts) ++ taken ∷ [] ∷ []) left
 
--- The hub is one that a single thread could have made. The sum is the length of its history. There are a tally and an end
--- for each session, in the order of the sessions' streams, which are that session's. Each lane is kept. Each worker's seat
--- counted its calls, and these numbers add up.
+-- These sessions were served by so many lanes. There are a tally and an end for each session, in the order of the sessions'
+-- streams, which are that session's. Each lane is kept, by what its worker took and by what it still held.
+pub record IsServedByLanes (streams : List Streams) (workers : ℕ) (served : List SessionState)
+    (taken : List (List Job)) (ends : List SessionEnd) (tallies : List TallyState)
+    (left : List (List Job)) : Type 0 where
+  pub streams_are : map (λ (x : SessionState). x.began) served ≡ streams
+  pub taken_count : length taken ≡ workers
+  pub left_count : length left ≡ workers
+  pub ends_are : ends ≡ map (λ (x : SessionState). x.end) served
+  pub tallies_are : tallies ≡ map (λ (x : SessionState). x.tally) served
+  pub of_sessions : EachAt IsOfSession served
+  pub kept : EachAt (λ k (jobs : List Job).
+      LaneIsKept k workers (put_lists served) jobs (slice_index_or left k [])) taken
+
+-- The hub is one that a single thread could have made. Its history has the calls from before the shift and
+-- then so many as the sum. The sessions were served by the lanes of the workers. Each worker's seat counted its calls, and these
+-- numbers add up.
 pub record IsShift (streams : List Streams) (workers : ℕ) (s : Shift) : Type 0 where
   pub served : List SessionState
   pub worked : List WorkerState
   pub run : IsRun s.hub
-  pub sum_is : s.sum ≡ length s.hub
-  pub streams_are : map (λ (x : SessionState). x.began) served ≡ streams
-  pub worked_count : length worked ≡ workers
-  pub left_count : length s.left.items ≡ workers
-  pub ends_are : s.ends.items ≡ map (λ (x : SessionState). x.end) served
-  pub tallies_are : s.tallies.items ≡ map (λ (x : SessionState). x.tally) served
-  pub of_sessions : EachAt IsOfSession served
+  pub sum_is : s.earlier + s.sum ≡ length s.hub
+  pub by_lanes : IsServedByLanes streams workers served (taken_lists worked) s.ends.items
+      s.tallies.items s.left.items
   pub makes_calls : EachAt (λ k (w : WorkerState). MakesCalls w) worked
   pub calls : sum_by (λ (w : WorkerState). w.seat.count) worked ≡ s.sum
   pub faults : sum_by (λ (w : WorkerState). w.seat.refused) worked ≡ s.refused
-  pub kept : EachAt (λ k (w : WorkerState).
-      LaneIsKept k workers (put_lists served) w.taken (slice_index_or s.left.items k [])) worked

@@ -1,8 +1,8 @@
 //! The laws of shifts.
 ghost use Rattle.hub_shifts.specs.Laws.{ShiftInOrder, LanesInOrder};
 
-/// In a shift whose tallies settle against its history, each entry of the history is of exactly one session, and those of
-/// a session stand there in the order of its reader's lines, each once: they are its own jobs that were answered Ok, with these
+/// In a shift whose tallies settle against its history, each entry of the history behind those from before the shift is of exactly one
+/// session, and those of a session stand there in the order of its reader's lines, each once: they are its own jobs that were answered Ok, with these
 /// answers. Where a session ended well, it was given all whole lines of its reader, each of the jobs that it put has its answer,
 /// each line that is not blank has one line that was said, and all that was said was written. Where no line of these said that
 /// memory was refused, they are those of lock step, with these answers. It does nothing.

@@ -6,8 +6,8 @@
 //!
 //! # What is promised
 //!
-//! `specs/Shifts.antt` says what a shift leaves. Its hub is one that a single thread could have made, and its sum is the
-//! length of that hub's history. It has a tally for each session, in their order, which is what the lines of the session's
+//! `specs/Shifts.antt` says what a shift leaves. Its hub is one that a single thread could have made, and its sum is how
+//! many calls that hub's history has since the shift began. It has a tally for each session, in their order, which is what the lines of the session's
 //! reader make of it; how each session ended; and what each lane still held. [`settle_shift`] compares the tallies with the
 //! history. [`shift_in_order`] says what a session was told of its own jobs, and what follows of the history once the tallies
 //! settle, and [`lanes_in_order`] what was taken of a session's jobs and what was left.
@@ -17,11 +17,15 @@
 //! | part | what it has |
 //! |---|---|
 //! | `promises` | what the threads promise |
-//! | `threads`, `shift` | the threads of a shift, and the shift |
+//! | `threads`, `lanes` | the threads of a shift, and its lanes |
+//! | `shift` | the shift |
+//! | `journaled` | the shift with a journal |
 //! | `settled` | a shift whose tallies tell its history |
 //! | `law` | what follows of a shift |
 #![tactic(auto)]
 
+mod journaled;
+mod lanes;
 mod law;
 mod promises;
 mod settled;
@@ -29,6 +33,7 @@ mod shift;
 mod threads;
 
 pub use hub_workers::{Gate, OpenGate};
+pub use journaled::{JournaledShift, run_journaled_shift};
 pub use law::{lanes_in_order, shift_in_order};
 pub use session_lanes::SessionEnd;
 pub use settled::{SettledShift, settle_shift};

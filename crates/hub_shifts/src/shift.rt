@@ -3,26 +3,26 @@ ghost use Rattle.std.specs.Prelude.{◌≡◌, ◌+◌, ◌%◌, ◌≤◌, leng
 ghost use Rattle.inbox.specs.States.{new_pass};
 ghost use Rattle.session_lanes.specs.Lanes.{new_lane, EachAt, EachPair, of_lane, HandsOut};
 ghost use Rattle.session_lanes.specs.Ends.{IsServed, streams_of};
+ghost use Rattle.session_lanes.specs.Room.{IsEmptyWithRoom};
 ghost use Rattle.hub_shared.specs.Seats.{new_seat};
 ghost use Rattle.hub_workers.specs.Work.{IsWorked};
 ghost use Rattle.hub_shifts.specs.Room.{HasRoomFor};
 ghost use Rattle.hub_shifts.specs.Shifts.{IsShift};
 ghost use Rattle.hub_shifts.specs.declared.shift.ShiftFault.TheVariants as faults;
 
-use crate::threads::{Back, ShiftContext, run_threads};
+use crate::lanes::{LanesEnd, LanesRun, OpenLanes, ShiftPlaces, end_lanes, run_lanes};
+use crate::threads::Back;
 use hub_core::Hub;
 use hub_shared::{Seat, SharedHub, Tally};
-use hub_workers::{Gate, Places, SharedContext, Worker, add_refused, make_places, take_workers};
+use hub_workers::{
+    Gate, Places, SharedContext, Worker, WorkerParts, add_refused, make_places, split_workers,
+};
 use inbox::Left;
 use seeded_state::SeededState;
-use session_lanes::{
-    AnswerQueue, Lane, Opening, Outcomes, SessionEnd, SessionStart, close_lanes, take_sessions,
-    with_room,
-};
+use session_lanes::{Outcomes, SessionEnd};
 use std::alloc::Global;
 use std::marker::Brand;
 use std::random::RandomSource;
-use std::snapshot::Snapshot;
 use std::sync::Wait;
 use std::sync::ledger::{Blank, Ledger};
 use std::thread::Threads;
@@ -33,7 +33,9 @@ use thiserror::Error;
 #[derive(Drop)]
 pub struct Shift {
     pub hub: Hub,
-    /// How many calls its workers made that were answered: the length of the hub's history.
+    /// How many calls the history had before the shift.
+    pub earlier: u64,
+    /// How many calls its workers made that were answered: those that the history has since.
     pub sum: u64,
     /// How many calls met a fault of the hub.
     pub refused: u64,
@@ -138,61 +140,29 @@ where
         sessions,
         workers,
     } = make_places(rt, alloc, sessions, workers, &mut seat)?;
-    let answers = make_answers(alloc, sessions.len())?;
-    let opening = Opening::new();
+    let parts = WorkerParts::with_room(alloc, workers.len())?;
     let shared = SharedContext { gate, hub: &hub };
-    let context = ShiftContext {
-        shared: &shared,
-        lanes: lanes.as_slice(),
-        answers: answers.as_slice(),
-        opening: &opening,
-    };
-    let starts = Snapshot::of(&sessions);
-    let room = Room::new(alloc, sessions.len(), workers.len())?;
-    let back = run_threads(rt, alloc, context, sessions, workers)?;
-    let to_close = ToClose {
-        starts,
+    let places = ShiftPlaces {
         lanes,
+        sessions,
+        workers,
+    };
+    let LanesRun { open, back } = run_lanes(rt, alloc, &shared, places)?;
+    let to_close = ToClose {
+        open,
         hub,
         seat,
-        room,
+        parts,
     };
     Ok(end_shift(rt, to_close, back))
 }
 
-// The lists that a shift fills at its end.
-#[derive(Drop)]
-struct Room<L: Ledger> {
-    outcomes: Outcomes,
-    seats: Vec<Seat<L>>,
-    left: Vec<Left>,
-}
-
-impl<L: Ledger> Room<L> {
-    // Empty lists with room for so many sessions and workers, and for the seat that the shift kept.
-    fn new(alloc: Global, sessions: usize, workers: usize) -> Result<Room<L>, Memory>
-        requires few { workers ≤ 8 }
-        ensures { IfOk result (HasRoomFor sessions workers) }
-    {
-        let outcomes = Outcomes::with_room(alloc, sessions)?;
-        let seats = with_room(alloc, workers + 1)?;
-        let left = with_room(alloc, workers)?;
-        Ok(Room {
-            outcomes,
-            seats,
-            left,
-        })
-    }
-}
-
-// What a shift closes at its end: its lanes, and the hub, by the seat that it kept; and the lists for what comes of it. Only
-// contracts read what its sessions began with.
+// What a shift closes at its end: its lanes, and the hub, by the seat that it kept; and the lists for what its workers had.
 struct ToClose<L: Ledger, S, K> {
-    starts: Snapshot<Vec<SessionStart<S, K>>>,
-    lanes: Vec<Lane>,
+    open: OpenLanes<S, K>,
     hub: SharedHub<L>,
     seat: Seat<L>,
-    room: Room<L>,
+    parts: WorkerParts<L>,
 }
 
 // Closes the hub and the lanes, once all threads have ended. It takes no memory.
@@ -201,65 +171,51 @@ fn end_shift<L: Ledger, S: Source, K: Sink>(
     to_close: ToClose<L, S, K>,
     back: Back<Worker<L>>,
 ) -> Shift
-    requires some { (1 ≤ length to_close.lanes.items) × (length to_close.lanes.items ≤ 8) }
-    requires lanes { let lanes = to_close.lanes.items in EachAt (λ k l.
+    requires some { let lanes = to_close.open.lanes.items in (1 ≤ length lanes)
+        × (length lanes ≤ 8) }
+    requires lanes { let lanes = to_close.open.lanes.items in EachAt (λ k l.
         HandsOut (new_lane l.id l.capacity) l
         (1 + length (of_lane k (length lanes) 0 back.served.items))) lanes }
-    requires starts { let lanes = to_close.lanes.items in EachAt (λ i s. (d : _)
+    requires starts { let lanes = to_close.open.lanes.items in EachAt (λ i s. (d : _)
         → s.pass ≡ new_pass (slice_index_or lanes (i % length lanes) d).id 1)
-        to_close.starts.value.items }
-    requires served { EachPair (IsServed S.remaining K.contents) to_close.starts.value.items
-        back.served.items }
-    requires worked { let lanes = to_close.lanes.items in (length back.worked.items ≡ length lanes)
+        to_close.open.starts.value.items }
+    requires served { EachPair (IsServed S.remaining K.contents)
+        to_close.open.starts.value.items back.served.items }
+    requires worked { let lanes = to_close.open.lanes.items in
+        (length back.worked.items ≡ length lanes)
         × EachAt (λ k r. (d : _) → IsWorked (new_pass (slice_index_or lanes k d).id 1)
         r.pass r.seat) back.worked.items }
     requires seat { (to_close.seat ≡ new_seat 1)
-        × (L.parts ≡ length to_close.lanes.items + 1) }
+        × (L.parts ≡ length to_close.open.lanes.items + 1) }
     requires few { vec_len back.served ≤ 64 }
-    requires room { HasRoomFor (vec_len back.served) (vec_len to_close.lanes) to_close.room }
+    requires room { HasRoomFor (vec_len back.served) (vec_len to_close.open.lanes)
+        to_close.open.room }
+    requires passes { IsEmptyWithRoom to_close.parts.passes (vec_len back.worked) }
+    requires seats { IsEmptyWithRoom to_close.parts.seats (vec_len back.worked + 1) }
     ensures { IsShift (map (λ s. streams_of (S.remaining s.reader) (K.contents s.writer))
-        to_close.starts.value.items) (length to_close.lanes.items) result }
+        to_close.open.starts.value.items) (length to_close.open.lanes.items) result }
 {
     let ToClose {
-        starts: _,
-        lanes,
+        open,
         hub,
         seat,
-        room,
+        parts,
     } = to_close;
-    let Room {
-        outcomes,
-        seats,
-        left,
-    } = room;
     let Back { served, worked } = back;
-    let mut lanes = lanes;
-    let Outcomes { ends, tallies } = take_sessions(lanes.as_mut_slice(), served, outcomes);
-    let mut seats = take_workers(lanes.as_mut_slice(), worked, seats);
+    let WorkerParts { passes, seats } = split_workers(worked, parts);
+    let mut seats = seats;
     seats.push_reserved(seat);
     let refused = add_refused(seats.as_slice());
     let (hub, sum) = hub.close(seats);
-    let left = close_lanes(rt, lanes, left);
+    let LanesEnd { outcomes, left } = end_lanes(rt, open, served, passes);
+    let Outcomes { ends, tallies } = outcomes;
     Shift {
         hub,
+        earlier: 0,
         sum,
         refused,
         ends,
         tallies,
         left,
     }
-}
-
-// A queue of answers for each session.
-fn make_answers(alloc: Global, count: usize) -> Result<Vec<AnswerQueue>, Memory>
-    ensures { IfOk result (λ v. vec_len v ≡ count) }
-{
-    let mut queues = Vec::new(alloc);
-    for _made in 0..count {
-        let queue = AnswerQueue::new(alloc)?;
-        if queues.push(queue).is_err() {
-            return Err(Memory);
-        }
-    }
-    Ok(queues)
 }

@@ -35,5 +35,6 @@ Statuses: 0, 1, 2, 3, 4";
 
 pub(crate) static SERVE: &str = "Example:
   taf_hub serve --port 7000 --sessions 3
+  taf_hub serve --port 7000 --sessions 3 --journal hub.journal
 
-Statuses: 0, 2, 3, 4, 5, 6";
+Statuses: 0, 2, 3, 4, 5, 6, 7, 8";

@@ -1,4 +1,4 @@
-ghost use Rattle.std.specs.Prelude.{IfOk, IfSome};
+ghost use Rattle.std.specs.Prelude.{◌≡◌, if◌then◌else◌, is_some, IfOk, IfSome};
 ghost use Rattle.hub_tasks.specs.Tasks.{IsWithinLimits};
 
 use crate::help;
@@ -11,12 +11,18 @@ use std::alloc::{AllocError, Global};
 #[derive(Clone, Copy, Debug, PartialEq, Eq)]
 pub enum Task<'a> {
     /// With the file of the journal, if one is kept.
-    Replay { journal: Option<&'a str> },
+    Replay {
+        journal: Option<&'a str>,
+    },
     /// Of the journal in this file.
     Check(&'a str),
     Number(&'a str),
-    /// The port is not 0.
-    Serve { port: u16, size: ShiftSize },
+    /// The port is not 0. With the file of the journal, if one is kept: then one worker makes the calls.
+    Serve {
+        port: u16,
+        size: ShiftSize,
+        journal: Option<&'a str>,
+    },
 }
 
 fn replay<'a>(alloc: Global) -> Result<Command<'a>, AllocError> {
@@ -82,12 +88,20 @@ fn serve<'a>(alloc: Global) -> Result<Command<'a>, AllocError> {
     )
     .default_value("2")
     .value_parser(value_parser!(u8).range(1..9));
+    let journal = option(
+        alloc,
+        "journal",
+        "FILE",
+        "The journal, as of replay; one worker makes the calls, so K is not given",
+    )
+    .conflicts_with("workers")?;
     Command::new(alloc, "serve")
         .about("Serves railways on connections of their own, on a new hub, until each has ended")
         .after_help(help::SERVE)
         .arg(port)?
         .arg(sessions)?
-        .arg(workers)
+        .arg(workers)?
+        .arg(journal)
 }
 
 fn command<'a>(alloc: Global) -> Result<Command<'a>, AllocError> {
@@ -150,9 +164,24 @@ fn shift_in<'a>(matches: &ArgMatches<'a>) -> Option<Task<'a>>
     let port = matches.get_one::<u16>("port")?;
     let sessions = matches.get_one::<u8>("sessions")?;
     let workers = matches.get_one::<u8>("workers")?;
-    let size = ShiftSize::new(usize::from(sessions), usize::from(workers))?;
+    let journal = matches.get_str("journal");
+    let size = ShiftSize::new(usize::from(sessions), workers_of(journal, workers))?;
     if port == 0 {
         return None;
     }
-    Some(Task::Serve { port, size })
+    Some(Task::Serve {
+        port,
+        size,
+        journal,
+    })
+}
+
+// How many workers make the calls: with a journal one, and else as many as are named.
+fn workers_of(journal: Option<&str>, named: u8) -> usize
+    ensures { result ≡ (if is_some journal.entry then 1 else named) }
+{
+    match journal {
+        Some(_) => 1,
+        None => usize::from(named),
+    }
 }

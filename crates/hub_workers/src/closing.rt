@@ -1,38 +1,51 @@
 //! What the workers gave back.
-ghost use Rattle.std.specs.Prelude.{◌≡◌, ◌<◌, ◌≤◌, [], ◌∷◌, length, map, vec_len, vec_capacity, slice_index_or, sum_by};
-ghost use Rattle.session_lanes.specs.Lanes.{TakesBack, EachAt};
+ghost use Rattle.std.specs.Prelude.{◌≡◌, ◌≤◌, ◌+◌, length, map, vec_len, vec_capacity, sum_by, IfOk};
 ghost use Rattle.session_lanes.specs.Room.{IsEmptyWithRoom};
 
 use crate::worker::Worker;
 use hub_shared::Seat;
-use session_lanes::Lane;
+use inbox::Pass;
+use session_lanes::with_room;
+use std::alloc::Global;
 use std::sync::ledger::Ledger;
+use taf_codes::Memory;
 
-/// Takes the workers' passes back into their lanes, to each of which at most 64 came back yet, and puts their seats into a list
-/// that has room for them. It takes no memory.
-pub fn take_workers<L: Ledger>(
-    lanes: &mut [Lane],
-    workers: Vec<Worker<L>>,
-    seats: Vec<Seat<L>>,
-) -> Vec<Seat<L>>
-    requires count { vec_len workers ≡ length lanes.old }
-    requires few { EachAt (λ k l. length l.back ≤ 64) lanes.old }
-    requires seats { IsEmptyWithRoom seats (vec_len workers) }
-    ensures seats { result.items ≡ map (λ w. w.seat) workers.items }
-    ensures room { vec_capacity result ≡ vec_capacity seats }
-    ensures lanes { (k : _) (d : _) (e : _) → k < length lanes.old
-        → TakesBack (slice_index_or lanes.old k d) (slice_index_or lanes.new k d)
-        ((slice_index_or workers.items k e).pass ∷ []) }
+/// The passes of workers, and their seats, in the order of the workers.
+#[derive(Drop)]
+pub struct WorkerParts<L: Ledger> {
+    pub passes: Vec<Pass>,
+    pub seats: Vec<Seat<L>>,
+}
+
+impl<L: Ledger> WorkerParts<L> {
+    /// Empty lists with room for what up to 8 workers have, and for one seat more. Want of memory is the only error.
+    pub fn with_room(alloc: Global, workers: usize) -> Result<WorkerParts<L>, Memory>
+        requires few { workers ≤ 8 }
+        ensures passes { IfOk result (λ p. IsEmptyWithRoom p.passes workers) }
+        ensures seats { IfOk result (λ p. IsEmptyWithRoom p.seats (workers + 1)) }
+    {
+        let passes = with_room(alloc, workers)?;
+        let seats = with_room(alloc, workers + 1)?;
+        Ok(WorkerParts { passes, seats })
+    }
+}
+
+/// Puts the passes of workers, and their seats, into lists that have room for them. It takes no memory.
+pub fn split_workers<L: Ledger>(workers: Vec<Worker<L>>, parts: WorkerParts<L>) -> WorkerParts<L>
+    requires passes { IsEmptyWithRoom parts.passes (vec_len workers) }
+    requires seats { IsEmptyWithRoom parts.seats (vec_len workers) }
+    ensures passes { result.passes.items ≡ map (λ w. w.pass) workers.items }
+    ensures seats { result.seats.items ≡ map (λ w. w.seat) workers.items }
+    ensures room { vec_capacity result.seats ≡ vec_capacity parts.seats }
 {
-    let mut seats = seats;
-    let mut lane = 0;
+    let WorkerParts { passes, seats } = parts;
+    let (mut passes, mut seats) = (passes, seats);
     for back in workers {
         let Worker { pass, seat } = back;
-        lanes[lane].take_back(pass);
+        passes.push_reserved(pass);
         seats.push_reserved(seat);
-        lane += 1;
     }
-    seats
+    WorkerParts { passes, seats }
 }
 
 /// The faults of up to 9 seats together.

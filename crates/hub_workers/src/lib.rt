@@ -4,7 +4,8 @@
 //! `session_lanes::Work` says: it takes the jobs of its lane, makes their calls on the shared hub, and answers their sessions. A
 //! session puts into one lane alone, so its calls are made in the order of its lines.
 //!
-//! [`make_places`] hands out to all threads what they begin with. [`take_workers`] takes back what the workers had.
+//! [`make_places`] hands out to all threads what they begin with. [`split_workers`] gives the passes and the seats that the
+//! workers had.
 //!
 //! # What is promised
 //!
@@ -19,7 +20,7 @@
 //! |---|---|
 //! | `gate` | what a job passes before it takes the lock |
 //! | `worker` | what the thread of a worker is lent, and what it does |
-//! | `places`, `closing` | how passes and seats are handed out and taken back |
+//! | `places`, `closing` | how passes and seats are handed out, and what comes back of them |
 #![tactic(auto)]
 
 mod closing;
@@ -27,7 +28,7 @@ mod gate;
 mod places;
 mod worker;
 
-pub use closing::{add_refused, take_workers};
+pub use closing::{WorkerParts, add_refused, split_workers};
 pub use gate::{Gate, OpenGate};
 pub use places::{Places, make_places};
 pub use worker::{SharedContext, Worker, make_call, work};

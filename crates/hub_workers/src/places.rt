@@ -1,11 +1,12 @@
 //! What the threads of sessions and workers begin with: everything is handed out before the first one starts.
 ghost use Rattle.std.specs.Prelude.{◌≡◌, ◌+◌, ◌%◌, ◌≤◌, length, map, vec_len, IfOk};
-ghost use Rattle.session_lanes.specs.Lanes.{new_lane, lane_capacity, IsPassOf, EachAt, of_lane, HandsOut, EachLane};
+ghost use Rattle.session_lanes.specs.Lanes.{new_lane, lane_capacity, IsPassOf, EachAt, of_lane, HandsOut};
 ghost use Rattle.hub_shared.specs.Seats.{new_seat};
 
 use crate::worker::Worker;
 use hub_shared::{Seat, split_seat};
-use session_lanes::{Lane, SessionStart, make_lanes, start_sessions};
+use inbox::Pass;
+use session_lanes::{Lane, LanePlaces, SessionStart, make_lane_places};
 use std::alloc::Global;
 use std::sync::Wait;
 use std::sync::ledger::Ledger;
@@ -48,9 +49,12 @@ pub fn make_places<L: Ledger, S: Drop, K: Drop>(
         × IsPassOf p.lanes.items k w.pass) p.workers.items) }
     ensures seat { IfOk result (λ p. seat.new ≡ new_seat 1) }
 {
-    let mut lanes = make_lanes(rt, alloc, workers, sessions.len())?;
-    let workers = start_workers(rt, alloc, lanes.as_mut_slice(), seat)?;
-    let sessions = start_sessions(rt, alloc, lanes.as_mut_slice(), sessions)?;
+    let LanePlaces {
+        lanes,
+        sessions,
+        passes,
+    } = make_lane_places(rt, alloc, sessions, workers)?;
+    let workers = seat_workers(alloc, passes, seat)?;
     Ok(Places {
         lanes,
         sessions,
@@ -58,25 +62,19 @@ pub fn make_places<L: Ledger, S: Drop, K: Drop>(
     })
 }
 
-// Gives each worker a pass of its lane and a seat.
-fn start_workers<L: Ledger>(
-    rt: &impl Wait,
+// A worker with each of these passes, and a part of the seat, of which one is kept.
+fn seat_workers<L: Ledger>(
     alloc: Global,
-    lanes: &mut [Lane],
+    passes: Vec<Pass>,
     seat: &mut Seat<L>,
 ) -> Result<Vec<Worker<L>>, Memory>
-    requires lanes { EachAt (λ k l. 1000 ≤ l.pass.parts) lanes.old }
-    requires seat { seat.old ≡ new_seat (length lanes.old + 1) }
-    ensures count { IfOk result (λ v. vec_len v ≡ length lanes.old) }
-    ensures workers { IfOk result (λ v. EachAt (λ k w. (w.seat ≡ new_seat 1)
-        × IsPassOf lanes.old k w.pass) v.items) }
-    ensures lanes { IfOk result (λ v. EachLane (λ k before after. HandsOut before after 1)
-        lanes.old lanes.new) }
+    requires { seat.old ≡ new_seat (length passes.items + 1) }
+    ensures passes { IfOk result (λ v. map (λ w. w.pass) v.items ≡ passes.items) }
+    ensures seats { IfOk result (λ v. EachAt (λ k w. w.seat ≡ new_seat 1) v.items) }
     ensures seat { IfOk result (λ v. seat.new ≡ new_seat 1) }
 {
     let mut workers = Vec::new(alloc);
-    for lane in lanes.iter_mut() {
-        let pass = lane.hand_out(rt);
+    for pass in passes {
         let seat = split_seat(seat);
         workers.push(Worker { pass, seat }).map_err(|_| Memory)?;
     }

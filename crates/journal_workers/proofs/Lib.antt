@@ -1,4 +1,4 @@
 mod Common
-mod AnswerLemmas
+pub mod AnswerLemmas
 mod CrashLemmas
 mod WorkLemmas

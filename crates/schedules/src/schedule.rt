@@ -263,7 +263,7 @@ fn check_settling(
     tallies: &[Tally],
     is_told: bool,
 ) -> Result<(), ScheduleFault> {
-    match settle(alloc, hub, tallies) {
+    match settle(alloc, hub, 0, tallies) {
         Ok(settled) if is_told && settled.calls == hub.len() as u64 => Ok(()),
         Err(SettleFault::CountDiffers { history, told })
             if !is_told && history == hub.len() as u64 && told < u128::from(history) => { Ok(()) }

@@ -1,3 +1,4 @@
 pub mod Common
 pub mod FallLemmas
+pub mod PlaceLemmas
 pub mod SessionLemmas

@@ -1,5 +1,5 @@
-//! What the sessions gave back, and the end of the lanes.
-ghost use Rattle.std.specs.Prelude.{◌≡◌, ◌+◌, ◌<◌, ◌≤◌, [], ◌∷◌, ◌++◌, length, map, vec_len, sum_by, IfOk};
+//! What the sessions and the workers gave back, and the end of the lanes.
+ghost use Rattle.std.specs.Prelude.{◌≡◌, ◌+◌, ◌<◌, ◌≤◌, [], ◌∷◌, ◌++◌, length, map, slice_index_or, vec_len, sum_by, IfOk};
 ghost use Rattle.std.specs.List.{All};
 ghost use Rattle.inbox.specs.Rules.{ALL_PARTS};
 ghost use Rattle.inbox.specs.States.{IsKeptBy};
@@ -9,7 +9,7 @@ ghost use Rattle.session_lanes.specs.Room.{IsEmptyWithRoom};
 use crate::ends::{Served, SessionEnd};
 use crate::lane::Lane;
 use crate::room::with_room;
-use inbox::Left;
+use inbox::{Left, Pass};
 use std::alloc::Global;
 use std::sync::Wait;
 use taf_codes::Memory;
@@ -57,6 +57,22 @@ pub fn take_sessions(lanes: &mut [Lane], served: Vec<Served>, outcomes: Outcomes
         tallies.push_reserved(tally);
     }
     Outcomes { ends, tallies }
+}
+
+/// Takes the passes of the workers back, that of worker `k` into lane `k`. To each lane at most 64 passes came back yet. It
+/// takes no memory.
+pub fn take_passes(lanes: &mut [Lane], passes: Vec<Pass>)
+    requires count { vec_len passes ≡ length lanes.old }
+    requires few { EachAt (λ k l. length l.back ≤ 64) lanes.old }
+    ensures { (k : _) (d : _) (e : _) → k < length lanes.old
+        → TakesBack (slice_index_or lanes.old k d) (slice_index_or lanes.new k d)
+        (slice_index_or passes.items k e ∷ []) }
+{
+    let mut lane = 0;
+    for back in passes {
+        lanes[lane].take_back(back);
+        lane += 1;
+    }
 }
 
 /// Closes each lane, once all passes came back, and puts what each still held into a list that has room for it. It takes no

@@ -5,8 +5,8 @@
 //! a worker finds its jobs in the order of its lines. Nothing here depends on the hub: whoever has a lane's taking pass makes
 //! the calls. [`Work`] is what the thread of a worker has and does, of whatever kind the worker is.
 //!
-//! [`make_lanes`] makes the lanes, and [`start_sessions`] hands out to the sessions what they begin with. [`take_sessions`]
-//! and [`close_lanes`] take it back.
+//! [`make_lane_places`] makes the lanes ([`make_lanes`]), and hands out to the sessions ([`start_sessions`]) and to the workers
+//! what they begin with. [`take_sessions`], [`take_passes`] and [`close_lanes`] take it back.
 //!
 //! # What is promised
 //!
@@ -29,21 +29,23 @@
 //! | `session` | what the thread of a session is lent, and what it does |
 //! | `work` | what the thread of a worker has and does |
 //! | `room` | lists with room, made before the threads start |
-//! | `lane`, `closing` | lanes: how passes are handed out and taken back, and how lanes are closed |
+//! | `lane`, `places`, `closing` | lanes: how passes are handed out and taken back, and how lanes are closed |
 #![tactic(auto)]
 
 mod closing;
 mod ends;
 mod lane;
+mod places;
 mod port;
 mod queues;
 mod room;
 mod session;
 mod work;
 
-pub use closing::{Outcomes, close_lanes, take_sessions};
+pub use closing::{Outcomes, close_lanes, take_passes, take_sessions};
 pub use ends::{Served, SessionEnd, SessionStart};
 pub use lane::{Lane, make_lanes, start_sessions};
+pub use places::{LanePlaces, make_lane_places};
 pub use queues::{AnswerQueue, JobQueue, Opening};
 pub use room::with_room;
 pub use session::{SessionContext, serve};

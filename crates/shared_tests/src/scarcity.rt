@@ -138,13 +138,13 @@ impl Scarcity {
     // Settles, again where memory is refused.
     fn settle(&mut self, alloc: Global, closed: &Closed) -> Result<Settled, Fail> {
         self.memory_limit.limit_to(self.left)?;
-        let settled = settle(alloc, &closed.hub, closed.tallies.as_slice());
+        let settled = settle(alloc, &closed.hub, 0, closed.tallies.as_slice());
         self.memory_limit.release();
         if let Ok(settled) = settled {
             return Ok(settled);
         }
         self.settlings = self.settlings.saturating_add(1);
-        Ok(settle(alloc, &closed.hub, closed.tallies.as_slice())?)
+        Ok(settle(alloc, &closed.hub, 0, closed.tallies.as_slice())?)
     }
 
     // The lines of the replies. Fails unless all calls were answered and settle, and the seat counted those refused.

@@ -1,5 +1,5 @@
 //! Two threads, each with a session of its own.
-ghost use Rattle.std.specs.Prelude.{◌≡◌};
+ghost use Rattle.std.specs.Prelude.{◌≡◌, ◌≤◌, length};
 
 use crate::altered::tally_of;
 use crate::caller::Caller;
@@ -96,36 +96,58 @@ const LEFT_OUT: SettleFault = SettleFault::CountDiffers {
     told: 9,
 };
 
+const ONE_LEFT_OUT_SINCE: SettleFault = SettleFault::CountDiffers {
+    history: 9,
+    told: 8,
+};
+
+const FIRST_OF_ALL: SettleFault = SettleFault::Earlier {
+    session: 0,
+    index: 0,
+};
+
 const EXCHANGED: SettleFault = SettleFault::OutOfOrder {
     session: 0,
     index: 1,
 };
 
-// What settling two tallies of these entries comes to, by their letters.
-static CASES: [(&str, &str, Result<Settled, SettleFault>); 5] = [
-    ("abcde", "fghij", Ok(Settled { calls: 10 })),
-    ("abCde", "fghij", Err(FOREIGN)),
-    ("abcde", "fghi", Err(LEFT_OUT)),
-    ("bacde", "fghij", Err(EXCHANGED)),
-    ("abcde", "aghij", Err(SettleFault::Twice { at: 0 })),
+// What settling two tallies of these entries comes to, by their letters, where the history had so many entries before. The entry
+// `a` has position 0.
+static CASES: [(usize, &str, &str, Result<Settled, SettleFault>); 9] = [
+    (0, "abcde", "fghij", Ok(Settled { calls: 10 })),
+    (0, "abCde", "fghij", Err(FOREIGN)),
+    (0, "abcde", "fghi", Err(LEFT_OUT)),
+    (0, "bacde", "fghij", Err(EXCHANGED)),
+    (0, "abcde", "aghij", Err(SettleFault::Twice { at: 0 })),
+    (1, "bcde", "fghij", Ok(Settled { calls: 9 })),
+    (1, "abcd", "fghij", Err(FIRST_OF_ALL)),
+    (1, "bcd", "fghij", Err(ONE_LEFT_OUT_SINCE)),
+    (10, "", "", Ok(Settled { calls: 0 })),
 ];
 
 // What settling two tallies of these entries comes to.
 fn settled(
     alloc: Global,
     hub: &Hub,
+    earlier: usize,
     entries: &[&Told],
     letters: (&str, &str),
-) -> Result<Result<Settled, SettleFault>, Memory> {
+) -> Result<Result<Settled, SettleFault>, Memory>
+    requires { earlier ≤ length hub.now }
+{
     let first = tally_of(alloc, entries, letters.0)?;
     let second = tally_of(alloc, entries, letters.1)?;
-    Ok(settle(alloc, hub, [first, second].as_slice()))
+    Ok(settle(alloc, hub, earlier, [first, second].as_slice()))
 }
 
 // Fails unless each case comes to what it is to.
 fn check_cases(alloc: Global, hub: &Hub, entries: &[&Told]) -> Result<(), Fail> {
-    for (first, second, wanted) in &CASES {
-        if settled(alloc, hub, entries, (*first, *second))? != *wanted {
+    for (earlier, first, second, wanted) in &CASES {
+        let earlier = *earlier;
+        if hub.len() < earlier {
+            return Err(Fail::new("too short a history"));
+        }
+        if settled(alloc, hub, earlier, entries, (*first, *second))? != *wanted {
             return Err(Fail::new(*first));
         }
     }

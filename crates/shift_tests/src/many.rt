@@ -76,7 +76,7 @@ fn many_sessions_settle(rt: HostRuntime) -> Result<(), Fail> {
     assert!(rt; is_whole(&shift, written.as_slice()));
     let calls = (SESSIONS * CALLS) as u64;
     assert!(rt; shift.sum == calls && shift.refused == 0);
-    let settled = settle(alloc, &shift.hub, shift.tallies.as_slice());
+    let settled = settle(alloc, &shift.hub, 0, shift.tallies.as_slice());
     assert!(rt; settled == Ok(Settled { calls }));
     Ok(())
 }

@@ -25,7 +25,8 @@ pub(crate) fn boxed(alloc: Global, shift: Result<Shift, ShiftFault>) -> Result<B
 
 /// Whether the tallies tell the history of the shift.
 pub(crate) fn is_told(alloc: Global, shift: &Shift) -> bool {
-    settle(alloc, &shift.hub, shift.tallies.as_slice()) == Ok(Settled { calls: shift.sum })
+    let settled = settle(alloc, &shift.hub, 0, shift.tallies.as_slice());
+    shift.earlier == 0 && settled == Ok(Settled { calls: shift.sum })
 }
 
 // Whether so many calls were made and settle, and none met a fault.

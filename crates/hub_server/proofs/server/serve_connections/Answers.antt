@@ -1,73 +1,9 @@
-use Rattle.std.proofs.Common.{◌∙◌, ◌≡◌, ◌≤◌, ℕ, List, length, map, ap, sym, subst}
-use Rattle.std.proofs.lemmas.List.{length-map}
+use Rattle.std.proofs.Common.{◌∙◌, ◌≡◌, ◌+◌, ◌≤◌, ℕ, List, length, map, ap, sym, subst, arith}
 use Rattle.std.proofs.lemmas.Result.{err_from_is_err_and}
-use Rattle.connections.specs.declared.fault.AcceptFault.{AcceptFault}
-use Rattle.connections.specs.declared.fault.AcceptFault.TheVariants as of_accepting
-use Rattle.session_lanes.specs.Ends.{Streams}
-use Rattle.hub_shared.specs.declared.settling.SettleFault.{SettleFault}
-use Rattle.hub_shared.specs.declared.settling.SettleFault.TheVariants as of_settling
-use Rattle.hub_shared.specs.Settling.{IsTold, IsSettleFault}
 use Rattle.hub_shifts.specs.declared.shift.Shift.{Shift}
-use Rattle.hub_shifts.specs.declared.shift.ShiftFault.{ShiftFault}
-use Rattle.hub_shifts.specs.declared.shift.ShiftFault.TheVariants as of_shift
-use Rattle.hub_shifts.specs.Shifts.{IsShift}
-use Rattle.hub_shifts.proofs.OrderLemmas.{lanes_in_order}
-use Rattle.hub_shifts.proofs.TellingLemmas.{in_order}
-use Rattle.hub_server.specs.declared.fault.ServerFault.{ServerFault}
-use Rattle.hub_server.specs.declared.fault.ServerFault.TheVariants.{NotSettled}
-use Rattle.hub_server.specs.Faults.{fault_of_accepting, fault_of_shift, fault_of_settling}
-use Rattle.hub_server.specs.Settled.{IsSettledShift, IsUnsettledShift}
+use Rattle.hub_server.specs.Settled.{IsSettledShift}
+use Rattle.hub_server.proofs.SettledLemmas.{settled, unsettled, no_shift, no_end, fits}
 use Rattle.hub_server.proofs.server.serve_connections.Goals as goal
-
--- a shift of these sessions, whose tallies settled
-settled : {A : Type 0} (streams_of : A → Streams) (ends : List A) (given sessions workers calls : ℕ) (s : Shift)
-    → length ends ≡ sessions → given ≡ workers → 1 ≤ workers → IsShift (map streams_of ends) given s → IsTold s.hub s.tallies.items → calls ≡ length s.hub
-    → IsSettledShift sessions workers s calls
-settled streams_of ends given sessions workers calls s many same some shift told count =
-    let of_workers : IsShift (map streams_of ends) workers s = subst (λ k. IsShift (map streams_of ends) k s) same shift in
-    record {
-      streams = map streams_of ends;
-      session_count = length-map ends streams_of ∙ many;
-      shift = of_workers;
-      told = told;
-      count = count;
-      in_order = in_order (map streams_of ends) workers s of_workers told;
-      lanes = lanes_in_order (map streams_of ends) workers s of_workers some;
-    }
-
--- in which respect a shift did not settle
-why_of : ServerFault → SettleFault
-why_of (NotSettled why) = why
-why_of fault = of_settling.Memory
-
-why_is : (f why : SettleFault) → fault_of_settling f ≡ NotSettled why → f ≡ why
-unfolding why_of
-why_is of_settling.Memory why is = cc is
-why_is (of_settling.CountDiffers a b) why is = ap why_of is
-why_is (of_settling.Foreign a b) why is = ap why_of is
-why_is (of_settling.Twice a) why is = ap why_of is
-why_is (of_settling.OutOfOrder a b) why is = ap why_of is
-
--- a shift of these sessions, whose tallies did not settle
-unsettled : {A : Type 0} (streams_of : A → Streams) (ends : List A) (given sessions workers : ℕ) (s : Shift) (f why : SettleFault)
-    → length ends ≡ sessions → given ≡ workers → IsShift (map streams_of ends) given s → (IsTold s.hub s.tallies.items → f ≡ of_settling.Memory)
-    → IsSettleFault f s.hub s.tallies.items → fault_of_settling f ≡ NotSettled why → IsUnsettledShift sessions workers why
-unsettled streams_of ends given sessions workers s f why many same shift told shows is = record {
-  s = s;
-  streams = map streams_of ends;
-  session_count = length-map ends streams_of ∙ many;
-  shift = subst (λ k. IsShift (map streams_of ends) k s) same shift;
-  not_told = λ yes. let memory = ap fault_of_settling (told yes) in cc (memory, is);
-  shows = subst (λ (f : SettleFault). IsSettleFault f s.hub s.tallies.items) (why_is f why is) shows;
-}
-
-no_shift : (f : AcceptFault) (why : SettleFault) → fault_of_accepting f ≡ NotSettled why → ⊥
-no_shift of_accepting.Socket why is = cc is
-no_shift of_accepting.Memory why is = cc is
-
-no_end : (f : ShiftFault) (why : SettleFault) → fault_of_shift f ≡ NotSettled why → ⊥
-no_end of_shift.Thread why is = cc is
-no_end of_shift.Memory why is = cc is
 
 pub returns : goal.returns
 returns g c =
@@ -95,3 +31,6 @@ returns-in_err-settled-clause-not_settled g c =
     let many : length ends.items ≡ c.args.size.sessions = sym ends.ok.0 ∙ (c.in_ok-connections.ensures ∙ c.sessions.ensures) in
     let p = err_from_is_err_and c.from_residual-in_err-settled.result c.from_residual-in_err-settled.ensures.1 in
     rw (p.1, p.2) (λ why is. unsettled _ ends.items _ c.args.size.sessions c.args.size.workers _ _ why many c.workers.ensures c.in_ok-shift.ensures c.in_err-settled.ensures.told c.in_err-settled.ensures.err is)
+
+pub settle_shift-requires : goal.settle_shift-requires
+settle_shift-requires g c = record { within = fits _ _ c.in_ok-shift.shift c.in_ok-shift.ensures }

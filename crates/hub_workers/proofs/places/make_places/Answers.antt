@@ -1,51 +1,25 @@
-use Rattle.hub_workers.proofs.Common.{arith, ap, sym, subst, ◌∙◌, ◌≡◌, ◌+◌, ◌%◌, ◌<◌, ℕ, List, length, get_or, new_pass, SessionStart, LaneState, new_lane, lane_capacity, IsPassOf, EachAt, of_lane, HandsOut, new_seat, Worker}
-use Rattle.hub_workers.proofs.PlaceLemmas.{lent_twice, handed_out, first_id, last_id}
+use Rattle.hub_workers.proofs.Common.{arith, ap, sym, subst, ◌∙◌, ◌≡◌, ◌<◌, ℕ, zero, suc, List, [], ◌∷◌, length, map, length-map, get_or, PassState, LaneState, IsPassOf, EachAt, new_seat, Worker}
 use Rattle.hub_workers.proofs.places.make_places.Goals as goal
 
-pub returns : goal.returns
-returns g c =
-    let made = c.in_ok-lanes.lanes.items in
-    let len = c.in_ok-lanes.lanes.len in
-    let first = c.start_workers.new.lanes in
-    let last = c.start_sessions.new.lanes in
-    let sessions = c.in_ok-sessions.sessions.items in
+-- a pass of a list that was taken of a list of workers
+pass_at : {W : Type 0} (pass_of : W → PassState) (ws : List W) (k : ℕ) (w : W) (d : PassState) → k < length ws → get_or (map pass_of ws) k d ≡ pass_of (get_or ws k w)
+pass_at pass_of [] k w d low = absurd (omega (arith, low))
+pass_at pass_of (v ∷ ws) zero w d low = ap pass_of (let r : v ≡ v = cc in r)
+pass_at pass_of (v ∷ ws) (suc k) w d low = pass_at pass_of ws k w d (omega (arith, low))
+
+-- worker k has pass k
+pub returns-clause-workers : goal.returns-clause-workers
+returns-clause-workers g c =
+    let passes = c.in_ok-lanes.field-0.passes.items in
+    let lanes = c.in_ok-lanes.field-0.lanes.items in
     let workers = c.in_ok-workers.workers.items in
-    let n = c.args.workers in
-    let capacity : ℕ → ℕ = λ k. lane_capacity k n c.args.sessions.len in
-    let long : len ≡ length made = c.in_ok-lanes.lanes.ok.0 in
-    let made_is : length made ≡ n = sym long ∙ c.in_ok-lanes.ensures.0 in
-    let is : c.as_mut_slice.result.now ≡ made = c.as_mut_slice.ensures.value in
-    let new : EachAt (λ k (l : LaneState). l ≡ new_lane l.id (capacity k)) made =
-    subst (λ m. EachAt (λ k (l : LaneState). l ≡ new_lane l.id (lane_capacity k n m)) made) c.len.ensures c.in_ok-lanes.ensures.1 in
-    let lent = lent_twice capacity len made c.as_mut_slice.result.now first c.as_mut_slice-2.result.now last sessions long is c.as_mut_slice-2.ensures.value c.start_workers.auto.lanes c.start_sessions.auto.lanes new c.in_ok-workers.ensures.lanes c.in_ok-sessions.ensures.lanes in
-    let handed = lent.0 in
-    let end = lent.2 in
-    let first_is : length first ≡ n = handed.first_fit ∙ made_is in
-    let begun : EachAt (λ i (s : SessionStart g.row.S.Denot g.row.K.Denot). (s.session ≡ i) × IsPassOf first (i % length first) s.pass) sessions =
-    subst (λ l. EachAt (λ i (s : SessionStart g.row.S.Denot g.row.K.Denot). (s.session ≡ i) × IsPassOf l (i % length l) s.pass) sessions) lent.1 c.in_ok-sessions.ensures.starts in
-    let seated : EachAt (λ k (w : Worker g.row.L.Denot). (w.seat ≡ new_seat 1) × IsPassOf made k w.pass) workers =
-    subst (λ l. EachAt (λ k (w : Worker g.row.L.Denot). (w.seat ≡ new_seat 1) × IsPassOf l k w.pass) workers) is c.in_ok-workers.ensures.workers in
-    let some = c.requires.workers.0 in
-    let worker_count = c.in_ok-workers.ensures.count in
-    let lane_count = ap (λ (l : List LaneState). length l) is in
-    let listed = c.in_ok-workers.workers.ok.0 in
-    record {
-      counts = (c.in_ok-lanes.ensures.0, omega (arith, worker_count, lane_count, made_is), c.in_ok-sessions.ensures.count);
-      ends = c.in_ok-sessions.ensures.ends;
-      lanes = subst (λ l. EachAt (λ k (r : LaneState). HandsOut (new_lane r.id (capacity k)) r (1 + length (of_lane k n 0 sessions))) l) (sym end) (handed_out capacity n made first last sessions handed made_is);
-      sessions = λ i s low.
-          let known = begun i s low in (
-            known.0,
-            λ d.
-                let within : i % n < length made = omega (arith, some, made_is) in
-                known.1 d ∙ ap (λ j. new_pass j 1) (ap (λ m. (get_or first (i % m) d).id) first_is ∙ (sym (last_id capacity made first last sessions handed (i % n) d within) ∙ ap (λ l. (get_or l (i % n) d).id) (sym end))),
-          );
-      workers = λ k w low.
-          let known = seated k w low in (
-            known.0,
-            λ d.
-                let within : k < length made = omega (arith, low, listed, worker_count, lane_count) in
-                known.1 d ∙ ap (λ j. new_pass j 1) (sym (first_id capacity made first last sessions handed k d within) ∙ ap (λ l. (get_or l k d).id) (sym end)),
-          );
-      seat = c.in_ok-workers.ensures.seat;
-    }
+    let pass_of : Worker g.row.L.Denot → PassState = λ w. w.pass in
+    let is : map pass_of workers ≡ passes = c.in_ok-workers.ensures.passes in
+    λ k w low. (
+      c.in_ok-workers.ensures.seats k w low,
+      let d = pass_of w in
+      let size = ap (λ (l : List PassState). length l) is in
+      let long = length-map workers pass_of in
+      let there : get_or passes k d ≡ pass_of (get_or workers k w) = ap (λ (l : List PassState). get_or l k d) (sym is) ∙ pass_at pass_of workers k w d low in
+      subst (λ t. IsPassOf lanes k t) there (c.in_ok-lanes.ensures.passes k d (omega (arith, low, size, long))),
+    )

@@ -1,5 +1,5 @@
 -- What the lanes have once the threads have their passes.
-use Rattle.hub_workers.proofs.Common.{◌≡◌, ℕ, ◌+◌, ◌<◌, List, [], ◌++◌, length, get_or, take, drop, refl, sym, ap, ◌∙◌, subst, arith, append-nil, ALL_PARTS, LaneState, new_lane, EachAt, of_lane, HandsOut, EachLane, drop_all, take_all}
+use Rattle.session_lanes.proofs.Common.{◌≡◌, ℕ, ◌+◌, ◌<◌, List, [], ◌++◌, length, get_or, take, drop, refl, sym, ap, ◌∙◌, subst, arith, append-nil, ALL_PARTS, LaneState, new_lane, EachAt, of_lane, HandsOut, EachLane, drop_all, take_all}
 
 -- a slice that was lent whole
 pub whole_slice : {X : Type 0} (n : ℕ) (new old : List X) → length new ≡ length old → n ≡ length old → take n (new ++ drop (length new) old) ≡ new

@@ -1,0 +1,65 @@
+//! A shift with a journal over the connections of a listener.
+ghost use Rattle.std.specs.Prelude.{◌≡◌, false, length, IfOk, IfErr};
+ghost use Rattle.journal.specs.Journals.{lines_of, has_failed};
+ghost use Rattle.journaled_hub.specs.HistoryLines.{lines_of_history};
+ghost use Rattle.journaled_hub.specs.JournaledHubs.{history_of, IsOnDisk};
+ghost use Rattle.hub_shared.specs.declared.settling.SettleFault.{SettleFault};
+ghost use Rattle.hub_server.specs.Settled.{IsSettledShift, IsUnsettledShift};
+
+use crate::fault::ServerFault;
+use connections::accept_all;
+use hub_shifts::{JournaledShift, SettledShift, run_journaled_shift, settle_shift};
+use journal::{Journal, RawFile};
+use journaled_hub::JournaledHub;
+use shift_size::ShiftSize;
+use std::alloc::Global;
+use std::io::{Read, Write};
+use std::net::{OpenListener, OpenStream};
+use std::random::RandomSource;
+use std::sync::Wait;
+use std::thread::Threads;
+
+/// A shift whose tallies tell the calls of its history since it began, and the journal that has all of them.
+#[derive(Drop)]
+pub struct SettledJournaledShift<F> {
+    pub settled: SettledShift,
+    pub journal: Journal<F>,
+}
+
+/// Accepts as many connections as the size has sessions, serves them all on the hub of a journal, by one worker, and settles the
+/// calls since. An answer is written once its call is in the journal, on the disk.
+///
+/// It waits for clients, and ends sessions, as [`crate::serve_connections`] does. The answer is [`ServerFault::Journal`] where a
+/// call of the journal's file failed: what was answered is in the journal, nothing was answered since, and nothing is settled.
+pub fn serve_journaled_connections<F, L, R>(
+    rt: &R,
+    alloc: Global,
+    listener: L,
+    size: ShiftSize,
+    hub: JournaledHub<F>,
+) -> Result<SettledJournaledShift<F>, ServerFault>
+where
+    F: RawFile + Send + Drop,
+    L: OpenListener + Drop,
+    R: Threads + Wait + Sync + RandomSource,
+    L::Stream: Read + Write + OpenStream + Send + Drop,
+    requires { IsOnDisk hub }
+    ensures settled { IfOk result
+        (λ s. IsSettledShift size.sessions 1 s.settled.shift s.settled.calls) }
+    ensures earlier { IfOk result (λ s. s.settled.shift.earlier ≡ length (history_of hub)) }
+    ensures sound { IfOk result (λ s. has_failed s.journal ≡ false) }
+    ensures durable { IfOk result
+        (λ s. lines_of s.journal ≡ lines_of_history s.settled.shift.hub) }
+    ensures not_settled { IfErr result (λ f. (why : SettleFault)
+        → f ≡ ServerFault.NotSettled why → IsUnsettledShift size.sessions 1 why) }
+{
+    let connections = accept_all(rt, alloc, &listener, size.sessions())?;
+    // Who comes now is refused at once, and does not wait for an answer that never comes.
+    drop(listener);
+    let JournaledShift { shift, journal } = run_journaled_shift(rt, alloc, connections, hub)?;
+    if journal.has_failed() {
+        return Err(ServerFault::Journal);
+    }
+    let settled = settle_shift(alloc, shift)?;
+    Ok(SettledJournaledShift { settled, journal })
+}
