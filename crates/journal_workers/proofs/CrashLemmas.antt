@@ -2,19 +2,7 @@
 use Rattle.journal_workers.proofs.Common.{◌≡◌, ◌⊎◌, inl, inr, ⊎_elim, ℕ, ◌≤◌, List, [], ◌++◌, length, sym, ap, ◌∙◌, subst, arith, append_assoc, append-nil, length-append, Past, content_of, moment, LeavesOnly, StandsFor, recovered_lines, Entry, lines_of_history, history_of, past_of, IsOnDisk, JournaledHub, IsFrontOnDisk}
 use Rattle.journal.proofs.JournalLemmas.{not_begun}
 use Rattle.journaled_hub.proofs.DiskLemmas.{all_durable}
-use Rattle.journaled_hub.proofs.FaultLemmas.{leaves_weaker}
-
--- two runs of calls, one after another
-pub leaves_on : (old mid new : Past) (P Q R : List ℕ → Type 0) → ((c : List ℕ) → P c → R c) → ((c : List ℕ) → Q c → R c) → LeavesOnly old mid P → LeavesOnly mid new Q → LeavesOnly old new R
-leaves_on old mid new P Q R from_p from_q first second = record {
-  later = omega (arith, first.later, second.later);
-  each = λ c may. ⊎_elim (λ earlier. from_p c (first.each c earlier)) (λ now. from_q c now) (second.before (moment old) c first.later may);
-  before = λ since c le may.
-      ⊎_elim
-      (λ earlier. ⊎_elim (λ e. inl e) (λ p. inr (from_p c p)) (first.before since c le earlier))
-      (λ now. inr (from_q c now))
-      (second.before since c (let later = first.later in omega (arith, le, later)) may);
-}
+use Rattle.log_file.proofs.CrashLemmas.{leaves_weaker}
 
 -- a front of a history is one of each history that goes on
 pub front_of_more : (least : ℕ) (history more : List Entry) (bytes : List ℕ) → IsFrontOnDisk least history bytes → IsFrontOnDisk least (history ++ more) bytes

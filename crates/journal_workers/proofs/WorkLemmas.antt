@@ -4,7 +4,8 @@ use Rattle.journal.specs.Journals.{journal_past, lines_of, has_failed as journal
 use Rattle.journaled_hub.proofs.DiskLemmas.{all_durable}
 use Rattle.journal_workers.proofs.Common.{◌≡◌, ◌⊎◌, ◌+◌, ◌<◌, ◌^◌, List, [], ◌∷◌, ◌++◌, length, refl, sym, ap, ◌∙◌, subst, arith, append_assoc, append-nil, length-append, false, PassState, Job, LeavesOnly, StandsFor, lines_of_history, history_of, journal_of, past_of, has_failed, durable_lines, IsOnDisk, IsFrontOnDisk, JournaledHub, JournalWorker, AreAnswers, HasMadeCalls, HasWorked}
 use Rattle.journal_workers.proofs.AnswerLemmas.{answers_append, answers_grow}
-use Rattle.journal_workers.proofs.CrashLemmas.{leaves_on, front_of_more, front_of_fewer, nothing_done, batch_leaves}
+use Rattle.log_file.proofs.CrashLemmas.{leaves_on}
+use Rattle.journal_workers.proofs.CrashLemmas.{front_of_more, front_of_fewer, nothing_done, batch_leaves}
 
 -- nothing was done yet
 pub not_worked : {F : Type 0} (w : JournalWorker F) → IsOnDisk w.hub → HasWorked w w

@@ -1,11 +1,9 @@
 -- A fault of one line is a fault of the lines.
-use Rattle.std.proofs.Common.{◌≡◌, ℕ, ◌+◌, ◌<◌, List, ◌∷◌, ◌++◌, take, length, length-append, Some, refl, sym, ap, subst, ◌∙◌, arith, inl, inr, ⊎_elim}
+use Rattle.std.proofs.Common.{◌≡◌, ℕ, ◌+◌, ◌<◌, List, ◌∷◌, ◌++◌, take, length, length-append, Some, refl, sym, ap, subst, ◌∙◌, arith}
 use Rattle.std.specs.Prelude.{slice_get}
 use Rattle.std.proofs.lemmas.List.{take_at, get_or_at}
 use Rattle.std.proofs.lemmas.Option.{slice_get-get_or}
 use Rattle.hub_model.specs.declared.entry.Entry.{Entry}
-use Rattle.log_file.specs.declared.past.Past.{Past}
-use Rattle.log_file.specs.Crashes.{LeavesOnly}
 use Rattle.journal.specs.Lines.{recovered_lines}
 use Rattle.journal.specs.Journals.{IsDamage}
 use Rattle.journal.specs.declared.journal.JournalFault.{JournalFault}
@@ -69,11 +67,3 @@ fault_of_file Full bytes h = h
 pub journal_not_opened : (fault : JournalFault) (bytes : List ℕ) → IsDamage fault bytes → IsOpenFault (fault_of_journal fault) bytes
 journal_not_opened journals.Failed bytes h = tt
 journal_not_opened (journals.Damaged whole) bytes h = h
-
--- what a crash leaves has Q where it has P
-pub leaves_weaker : (old new : Past) (P Q : List ℕ → Type 0) → ((c : List ℕ) → P c → Q c) → LeavesOnly old new P → LeavesOnly old new Q
-leaves_weaker old new P Q weaker h = record {
-  later = h.later;
-  each = λ c may. weaker c (h.each c may);
-  before = λ since c le may. ⊎_elim (λ earlier. inl earlier) (λ now. inr (weaker c now)) (h.before since c le may);
-}

@@ -41,3 +41,23 @@ sync_leaves old mid P so_far here = call_leaves old mid (after_sync mid) P refl 
 
 pub failure_leaves : (old mid : Past) (P : List ℕ → Type 0) → LeavesOnly old mid P → ((c : List ℕ) → MayLeave mid c → P c) → LeavesOnly old (after_failure mid) P
 failure_leaves old mid P so_far here = call_leaves old mid (after_failure mid) P refl so_far (λ since c left. ⊎_elim (λ now. inl (here c now)) (λ past. inr past.1) left)
+
+-- what a crash leaves has Q where it has P
+pub leaves_weaker : (old new : Past) (P Q : List ℕ → Type 0) → ((c : List ℕ) → P c → Q c) → LeavesOnly old new P → LeavesOnly old new Q
+leaves_weaker old new P Q weaker h = record {
+  later = h.later;
+  each = λ c may. weaker c (h.each c may);
+  before = λ since c le may. ⊎_elim (λ earlier. inl earlier) (λ now. inr (weaker c now)) (h.before since c le may);
+}
+
+-- two runs of calls, one after another
+pub leaves_on : (old mid new : Past) (P Q R : List ℕ → Type 0) → ((c : List ℕ) → P c → R c) → ((c : List ℕ) → Q c → R c) → LeavesOnly old mid P → LeavesOnly mid new Q → LeavesOnly old new R
+leaves_on old mid new P Q R from_p from_q first second = record {
+  later = omega (arith, first.later, second.later);
+  each = λ c may. ⊎_elim (λ earlier. from_p c (first.each c earlier)) (λ now. from_q c now) (second.before (moment old) c first.later may);
+  before = λ since c le may.
+      ⊎_elim
+      (λ earlier. ⊎_elim (λ e. inl e) (λ p. inr (from_p c p)) (first.before since c le earlier))
+      (λ now. inr (from_q c now))
+      (second.before since c (let later = first.later in omega (arith, le, later)) may);
+}

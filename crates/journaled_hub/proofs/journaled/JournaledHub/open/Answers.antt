@@ -5,7 +5,8 @@ use Rattle.log_file.specs.Files.{after_open}
 use Rattle.journal.specs.Lines.{recovered_lines, text_lines, StandsFor}
 use Rattle.journal.specs.Journals.{journal_past}
 use Rattle.journaled_hub.specs.OpenFaults.{IsOpenFault, IsFaultOfLines}
-use Rattle.journaled_hub.proofs.FaultLemmas.{journal_not_opened, fault_of_file, leaves_weaker}
+use Rattle.log_file.proofs.CrashLemmas.{leaves_weaker}
+use Rattle.journaled_hub.proofs.FaultLemmas.{journal_not_opened, fault_of_file}
 use Rattle.journaled_hub.proofs.journaled.JournaledHub.open.Goals as goal
 
 pub returns-in-Err-clause-fault : goal.returns-in-Err-clause-fault
