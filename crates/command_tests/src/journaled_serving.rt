@@ -7,7 +7,6 @@ use hub_commands::{JournaledStart, ShiftSize, serve_journaled_on};
 use journal::{Failed, RawFile};
 use journaled_hub::JournaledHub;
 use seeded_state::SeededState;
-use std::alloc::Global;
 use std::net::{Ipv4Addr, TcpListener};
 use std::test::*;
 use std::thread;
@@ -60,19 +59,20 @@ impl RawFile for MemoryFile<'_> {
 
 // The hub of the journal in this memory.
 fn hub_in<'a>(
-    alloc: Global,
+    rt: &HostRuntime,
     bytes: &'a mut Vec<u8>,
     failing_from: u32,
 ) -> Result<JournaledHub<MemoryFile<'a>>, Fail>
     ensures { IfOk result (λ hub. IsOnDisk hub) }
 {
+    let alloc = rt.alloc();
     let found = Vec::from_slice(alloc, bytes.as_slice())?;
     let file = MemoryFile {
         bytes,
         calls: 0,
         failing_from,
     };
-    match JournaledHub::open(alloc, SeededState::fixed(), file, &found) {
+    match JournaledHub::open(rt, alloc, SeededState::fixed(), file, &found) {
         Ok(hub) => Ok(hub),
         Err(_) => Err(Fail::new("no hub")),
     }
@@ -95,7 +95,7 @@ fn serve_one(
     lines: &[u8],
 ) -> Result<Served, Fail> {
     let alloc = rt.alloc();
-    let hub = hub_in(alloc, bytes, failing_from)?;
+    let hub = hub_in(rt, bytes, failing_from)?;
     let Some(size) = ShiftSize::new(1, 1) else {
         return Err(Fail::new("no size"));
     };
@@ -130,7 +130,7 @@ fn two_railways_are_served_with_a_journal(rt: HostRuntime) -> Result<(), Fail> {
         return Err(Fail::new("no size"));
     };
     let mut bytes = Vec::new(alloc);
-    let hub = hub_in(alloc, &mut bytes, NEVER)?;
+    let hub = hub_in(&rt, &mut bytes, NEVER)?;
     let path = "hub.journal";
     let start = JournaledStart { size, hub, path };
     let mut output = Vec::new(alloc);
@@ -197,8 +197,7 @@ fn a_journal_that_fails_ends_the_shift(rt: HostRuntime) -> Result<(), Fail> {
         assert!(rt; failed.status == 7 && failed.output.is_empty());
         assert!(rt;
             failed.errors.as_slice()
-                == "hub.journal: a call of the journal's file failed\nfault: journal file\n"
-                    .as_bytes()
+                == "hub.journal: a call of the journal's file failed\nfault: journal file\n".as_bytes()
         );
         // The hello is no call.
         assert!(rt; failed.said.as_slice() == b"{\"hello\":\"R100\"}\n");

@@ -49,7 +49,12 @@ pub(crate) fn said_to<R: Net>(
 }
 
 // Whether the railway that sends the lines of a script is said those that are wanted, each byte.
-pub(crate) fn is_answered<R: Net>(rt: &R, alloc: Global, address: SocketAddr, script: &Script) -> bool {
+pub(crate) fn is_answered<R: Net>(
+    rt: &R,
+    alloc: Global,
+    address: SocketAddr,
+    script: &Script,
+) -> bool {
     match said_to(rt, alloc, address, script.input.as_slice()) {
         Ok(said) => said.as_slice() == script.wanted.as_slice(),
         Err(_) => false,

@@ -62,7 +62,7 @@ where
         sessions,
         workers,
     };
-    let LanesRun { open, back } = run_lanes(rt, alloc, &(), places)?;
+    let LanesRun { to_end, back } = run_lanes(rt, alloc, &(), places)?;
     let Back { served, worked } = back;
     let mut worked = worked;
     let worker = worked.take_last();
@@ -70,7 +70,7 @@ where
     let (pass, hub) = worker.into_parts();
     // The list has room for the pass that it had.
     passes.push_reserved(pass);
-    let LanesEnd { outcomes, left } = end_lanes(rt, open, served, passes);
+    let LanesEnd { outcomes, left } = end_lanes(rt, to_end, served, passes);
     let Outcomes { ends, tallies } = outcomes;
     let sum = hub.len() as u64 - earlier;
     hub.history_is_legal();

@@ -29,9 +29,9 @@ pub(crate) struct ShiftPlaces<W, S, K> {
     pub workers: Vec<W>,
 }
 
-// What the threads gave back, and the lanes, which are still open.
+// What the threads gave back, and the lanes, which are still to be closed.
 pub(crate) struct LanesRun<W, S, K> {
-    pub open: OpenLanes<S, K>,
+    pub to_end: LanesToEnd<S, K>,
     pub back: Back<W>,
 }
 
@@ -51,10 +51,10 @@ where
     requires begins { CanBegin W.pass W.can_begin places.lanes.items places.sessions.items
         places.workers.items }
     requires few { vec_len places.sessions ≤ 64 }
-    ensures lanes { IfOk result (λ r. r.open.lanes ≡ places.lanes) }
-    ensures starts { IfOk result (λ r. r.open.starts.value ≡ places.sessions) }
+    ensures lanes { IfOk result (λ r. r.to_end.lanes ≡ places.lanes) }
+    ensures starts { IfOk result (λ r. r.to_end.starts.value ≡ places.sessions) }
     ensures room { IfOk result (λ r. HasRoomFor (vec_len places.sessions) (vec_len places.lanes)
-        r.open.room) }
+        r.to_end.room) }
     ensures served { IfOk result (λ r. EachPair (IsServed S.remaining K.contents)
         places.sessions.items r.back.served.items) }
     ensures worked { IfOk result (λ r. EachPair (λ k s w. IsWorkOf W.pass W.has_worked s w)
@@ -76,12 +76,12 @@ where
     let starts = Snapshot::of(&sessions);
     let room = LanesEnd::with_room(alloc, sessions.len(), lanes.len())?;
     let back = run_threads(rt, alloc, context, sessions, workers)?;
-    let open = OpenLanes {
+    let to_end = LanesToEnd {
         starts,
         lanes,
         room,
     };
-    Ok(LanesRun { open, back })
+    Ok(LanesRun { to_end, back })
 }
 
 // A queue of answers for each session.
@@ -122,7 +122,7 @@ impl LanesEnd {
 
 // Lanes whose passes are still to come back, and the lists for what comes of them. Only contracts read what the sessions began
 // with.
-pub(crate) struct OpenLanes<S, K> {
+pub(crate) struct LanesToEnd<S, K> {
     pub starts: Snapshot<Vec<SessionStart<S, K>>>,
     pub lanes: Vec<Lane>,
     pub room: LanesEnd,
@@ -132,35 +132,35 @@ pub(crate) struct OpenLanes<S, K> {
 // takes no memory.
 pub(crate) fn end_lanes<S: Source, K: Sink>(
     rt: &impl Wait,
-    open: OpenLanes<S, K>,
+    to_end: LanesToEnd<S, K>,
     served: Vec<Served>,
     passes: Vec<Pass>,
 ) -> LanesEnd
-    requires some { 1 ≤ length open.lanes.items }
-    requires lanes { let lanes = open.lanes.items in EachAt (λ k l.
+    requires some { 1 ≤ length to_end.lanes.items }
+    requires lanes { let lanes = to_end.lanes.items in EachAt (λ k l.
         HandsOut (new_lane l.id l.capacity) l
         (1 + length (of_lane k (length lanes) 0 served.items))) lanes }
-    requires starts { let lanes = open.lanes.items in EachAt (λ i s. (d : _)
+    requires starts { let lanes = to_end.lanes.items in EachAt (λ i s. (d : _)
         → s.pass ≡ new_pass (slice_index_or lanes (i % length lanes) d).id 1)
-        open.starts.value.items }
-    requires served { EachPair (IsServed S.remaining K.contents) open.starts.value.items
+        to_end.starts.value.items }
+    requires served { EachPair (IsServed S.remaining K.contents) to_end.starts.value.items
         served.items }
-    requires passes { let lanes = open.lanes.items in (length passes.items ≡ length lanes)
+    requires passes { let lanes = to_end.lanes.items in (length passes.items ≡ length lanes)
         × EachAt (λ k p. (d : _) → TakesOnly (new_pass (slice_index_or lanes k d).id 1) p)
         passes.items }
     requires few { vec_len served ≤ 64 }
-    requires room { HasRoomFor (vec_len served) (vec_len open.lanes) open.room }
+    requires room { HasRoomFor (vec_len served) (vec_len to_end.lanes) to_end.room }
     ensures { let streams = map (λ s. streams_of (S.remaining s.reader) (K.contents s.writer))
-        open.starts.value.items in (sessions : List SessionState)
-        × IsServedByLanes streams (length open.lanes.items) sessions
+        to_end.starts.value.items in (sessions : List SessionState)
+        × IsServedByLanes streams (length to_end.lanes.items) sessions
         (map (λ p. p.taken) passes.items) result.outcomes.ends.items
         result.outcomes.tallies.items result.left.items }
 {
-    let OpenLanes {
+    let LanesToEnd {
         starts: _,
         lanes,
         room,
-    } = open;
+    } = to_end;
     let LanesEnd { outcomes, left } = room;
     let mut lanes = lanes;
     let outcomes = take_sessions(lanes.as_mut_slice(), served, outcomes);

@@ -10,7 +10,7 @@ ghost use Rattle.hub_shifts.specs.Room.{HasRoomFor};
 ghost use Rattle.hub_shifts.specs.Shifts.{IsShift};
 ghost use Rattle.hub_shifts.specs.declared.shift.ShiftFault.TheVariants as faults;
 
-use crate::lanes::{LanesEnd, LanesRun, OpenLanes, ShiftPlaces, end_lanes, run_lanes};
+use crate::lanes::{LanesEnd, LanesRun, LanesToEnd, ShiftPlaces, end_lanes, run_lanes};
 use crate::threads::Back;
 use hub_core::Hub;
 use hub_shared::{Seat, SharedHub, Tally};
@@ -147,9 +147,9 @@ where
         sessions,
         workers,
     };
-    let LanesRun { open, back } = run_lanes(rt, alloc, &shared, places)?;
+    let LanesRun { to_end, back } = run_lanes(rt, alloc, &shared, places)?;
     let to_close = ToClose {
-        open,
+        to_end,
         hub,
         seat,
         parts,
@@ -159,7 +159,7 @@ where
 
 // What a shift closes at its end: its lanes, and the hub, by the seat that it kept; and the lists for what its workers had.
 struct ToClose<L: Ledger, S, K> {
-    open: OpenLanes<S, K>,
+    to_end: LanesToEnd<S, K>,
     hub: SharedHub<L>,
     seat: Seat<L>,
     parts: WorkerParts<L>,
@@ -171,32 +171,32 @@ fn end_shift<L: Ledger, S: Source, K: Sink>(
     to_close: ToClose<L, S, K>,
     back: Back<Worker<L>>,
 ) -> Shift
-    requires some { let lanes = to_close.open.lanes.items in (1 ≤ length lanes)
+    requires some { let lanes = to_close.to_end.lanes.items in (1 ≤ length lanes)
         × (length lanes ≤ 8) }
-    requires lanes { let lanes = to_close.open.lanes.items in EachAt (λ k l.
+    requires lanes { let lanes = to_close.to_end.lanes.items in EachAt (λ k l.
         HandsOut (new_lane l.id l.capacity) l
         (1 + length (of_lane k (length lanes) 0 back.served.items))) lanes }
-    requires starts { let lanes = to_close.open.lanes.items in EachAt (λ i s. (d : _)
+    requires starts { let lanes = to_close.to_end.lanes.items in EachAt (λ i s. (d : _)
         → s.pass ≡ new_pass (slice_index_or lanes (i % length lanes) d).id 1)
-        to_close.open.starts.value.items }
+        to_close.to_end.starts.value.items }
     requires served { EachPair (IsServed S.remaining K.contents)
-        to_close.open.starts.value.items back.served.items }
-    requires worked { let lanes = to_close.open.lanes.items in
+        to_close.to_end.starts.value.items back.served.items }
+    requires worked { let lanes = to_close.to_end.lanes.items in
         (length back.worked.items ≡ length lanes)
         × EachAt (λ k r. (d : _) → IsWorked (new_pass (slice_index_or lanes k d).id 1)
         r.pass r.seat) back.worked.items }
     requires seat { (to_close.seat ≡ new_seat 1)
-        × (L.parts ≡ length to_close.open.lanes.items + 1) }
+        × (L.parts ≡ length to_close.to_end.lanes.items + 1) }
     requires few { vec_len back.served ≤ 64 }
-    requires room { HasRoomFor (vec_len back.served) (vec_len to_close.open.lanes)
-        to_close.open.room }
+    requires room { HasRoomFor (vec_len back.served) (vec_len to_close.to_end.lanes)
+        to_close.to_end.room }
     requires passes { IsEmptyWithRoom to_close.parts.passes (vec_len back.worked) }
     requires seats { IsEmptyWithRoom to_close.parts.seats (vec_len back.worked + 1) }
     ensures { IsShift (map (λ s. streams_of (S.remaining s.reader) (K.contents s.writer))
-        to_close.open.starts.value.items) (length to_close.open.lanes.items) result }
+        to_close.to_end.starts.value.items) (length to_close.to_end.lanes.items) result }
 {
     let ToClose {
-        open,
+        to_end,
         hub,
         seat,
         parts,
@@ -207,7 +207,7 @@ fn end_shift<L: Ledger, S: Source, K: Sink>(
     seats.push_reserved(seat);
     let refused = add_refused(seats.as_slice());
     let (hub, sum) = hub.close(seats);
-    let LanesEnd { outcomes, left } = end_lanes(rt, open, served, passes);
+    let LanesEnd { outcomes, left } = end_lanes(rt, to_end, served, passes);
     let Outcomes { ends, tallies } = outcomes;
     Shift {
         hub,

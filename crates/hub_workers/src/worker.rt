@@ -6,7 +6,7 @@ ghost use Rattle.hub_workers.specs.Work.{IsWorked};
 use crate::gate::Gate;
 use hub_shared::{Seat, SharedHub};
 use inbox::{Job, Pass};
-use session_lanes::{AnswerQueue, JobQueue, Work};
+use session_lanes::{AnswerQueue, JobQueue, Work, push_to_session};
 use session_lines::Done;
 use std::sync::Wait;
 use std::sync::ledger::Ledger;
@@ -87,9 +87,7 @@ fn answer<L: Ledger, G: Gate, R: Wait>(
 {
     context.gate.before(&job);
     let done = make_call(rt, context.hub, seat, job);
-    if let Some(queue) = answers.get(done.session as usize) {
-        queue.push(rt, done);
-    }
+    push_to_session(rt, answers, done);
 }
 
 /// Makes the call of a job on the hub, and gives the Done of this job.

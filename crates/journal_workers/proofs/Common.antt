@@ -1,8 +1,7 @@
 -- What the proofs of this crate have in common: the names of other crates, of the standard library and of its own definitions.
-pub use Rattle.std.proofs.Common.{◌≡◌, ℕ, ◌+◌, ◌<◌, ◌≤◌, ◌^◌, List, [], ◌∷◌, ◌++◌, length, refl, sym, ap, ◌∙◌, subst, arith, append_assoc, append-nil, length-append, ⊎_elim, ◌⊎◌, inl, inr, Result, Ok, Err, false}
-pub use Rattle.log_file.specs.declared.past.Past.{Past}
-pub use Rattle.log_file.specs.Crashes.{content_of, moment, LeavesOnly}
-pub use Rattle.journal.specs.Lines.{StandsFor, recovered_lines}
+pub use Rattle.std.proofs.Common.{◌≡◌, ℕ, ◌+◌, ◌<◌, ◌≤◌, ◌^◌, List, [], ◌∷◌, ◌++◌, length, refl, sym, ap, ◌∙◌, subst, arith, append_assoc, append-nil, length-append, ◌⊎◌, Result, Ok, Err, false}
+pub use Rattle.log_file.specs.Crashes.{LeavesOnly}
+pub use Rattle.journal.specs.Lines.{StandsFor}
 pub use Rattle.taf_messages.specs.declared.call.Call.{Call}
 pub use Rattle.taf_messages.specs.declared.reply.Reply.{Reply}
 pub use Rattle.tallies.specs.declared.fault.HubFault.{HubFault}
@@ -10,7 +9,6 @@ pub use Rattle.hub_model.specs.declared.entry.Entry.{Entry}
 pub use Rattle.inbox.specs.States.{PassState}
 pub use Rattle.inbox.specs.declared.rule.Job.{Job}
 pub use Rattle.session_lines.specs.declared.session.Done.{Done}
-pub use Rattle.journaled_hub.specs.Crashes.{IsFrontOnDisk}
 pub use Rattle.journaled_hub.specs.HistoryLines.{lines_of_history}
 pub use Rattle.journaled_hub.specs.JournaledHubs.{history_of, journal_of, past_of, has_failed, durable_lines, IsOnDisk}
 pub use Rattle.journaled_hub.specs.declared.journaled.JournaledHub.{JournaledHub}

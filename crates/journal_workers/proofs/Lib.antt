@@ -1,4 +1,3 @@
 mod Common
 pub mod AnswerLemmas
-mod CrashLemmas
 mod WorkLemmas

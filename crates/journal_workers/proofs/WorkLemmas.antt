@@ -1,11 +1,9 @@
 -- The work of a worker, one batch after another.
 use Rattle.inbox.specs.States.{after_take}
-use Rattle.journal.specs.Journals.{journal_past, lines_of, has_failed as journal_failed}
-use Rattle.journaled_hub.proofs.DiskLemmas.{all_durable}
-use Rattle.journal_workers.proofs.Common.{◌≡◌, ◌⊎◌, ◌+◌, ◌<◌, ◌^◌, List, [], ◌∷◌, ◌++◌, length, refl, sym, ap, ◌∙◌, subst, arith, append_assoc, append-nil, length-append, false, PassState, Job, LeavesOnly, StandsFor, lines_of_history, history_of, journal_of, past_of, has_failed, durable_lines, IsOnDisk, IsFrontOnDisk, JournaledHub, JournalWorker, AreAnswers, HasMadeCalls, HasWorked}
+use Rattle.journal_workers.proofs.Common.{◌≡◌, ◌⊎◌, ◌+◌, ◌<◌, ◌^◌, List, [], ◌∷◌, ◌++◌, length, refl, sym, ap, ◌∙◌, subst, arith, append_assoc, append-nil, length-append, false, PassState, Job, LeavesOnly, StandsFor, lines_of_history, history_of, journal_of, past_of, has_failed, durable_lines, IsOnDisk, JournaledHub, JournalWorker, AreAnswers, HasMadeCalls, HasWorked}
 use Rattle.journal_workers.proofs.AnswerLemmas.{answers_append, answers_grow}
-use Rattle.log_file.proofs.CrashLemmas.{leaves_on}
-use Rattle.journal_workers.proofs.CrashLemmas.{front_of_more, front_of_fewer, nothing_done, batch_leaves}
+use Rattle.journaled_hub.specs.Crashes.{HasGoneOn}
+use Rattle.journaled_hub.proofs.CrashLemmas.{gone_nowhere, gone_by_batch, gone_on}
 
 -- nothing was done yet
 pub not_worked : {F : Type 0} (w : JournalWorker F) → IsOnDisk w.hub → HasWorked w w
@@ -15,17 +13,20 @@ not_worked w d = record {
   took_only = ap (λ (l : List Job). record w.pass { taken = l }) (sym (append-nil w.pass.taken));
   answers = refl;
   on_disk = λ sound. d;
-  any_moment = nothing_done w.hub d;
+  any_moment = (gone_nowhere w.hub d).any_moment;
   counted = λ few. omega arith;
   before = λ few. few;
 }
 
+-- the hub of a worker goes on
+goes_on : {F : Type 0} (a b : JournalWorker F) → HasWorked a b → HasGoneOn a.hub b.hub
+goes_on a b p =
+    let more = answers_grow (history_of a.hub) p.jobs p.dones (history_of b.hub) p.answers in
+    record { more = more.0; grows = more.1; any_moment = p.any_moment }
+
 -- work, and then further work
 pub works_on : {F : Type 0} (a b c : JournalWorker F) → HasWorked a b → HasWorked b c → HasWorked a c
 works_on a b c p q =
-    let more = answers_grow (history_of b.hub) q.jobs q.dones (history_of c.hub) q.answers in
-    let first = answers_grow (history_of a.hub) p.jobs p.dones (history_of b.hub) p.answers in
-    let least = length (history_of a.hub) in
     record {
       jobs = p.jobs ++ q.jobs;
       dones = p.dones ++ q.dones;
@@ -34,11 +35,7 @@ works_on a b c p q =
           ∙ ap (λ (l : List Job). record a.pass { taken = l }) (append_assoc a.pass.taken p.jobs q.jobs);
       answers = answers_append (history_of a.hub) p.jobs p.dones (history_of b.hub) q.jobs q.dones (history_of c.hub) p.answers q.answers;
       on_disk = q.on_disk;
-      any_moment =
-          leaves_on (past_of a.hub) (past_of b.hub) (past_of c.hub) (IsFrontOnDisk least (history_of b.hub)) (IsFrontOnDisk (length (history_of b.hub)) (history_of c.hub)) (IsFrontOnDisk least (history_of c.hub))
-          (λ l front. subst (λ h. IsFrontOnDisk least h l) (sym more.1) (front_of_more least (history_of b.hub) more.0 l front))
-          (λ l front. front_of_fewer (length (history_of b.hub)) least (history_of c.hub) l (let long = ap length first.1 in let sum = length-append (history_of a.hub) first.0 in omega (arith, long, sum)) front)
-          p.any_moment q.any_moment;
+      any_moment = (gone_on a.hub b.hub c.hub (goes_on a b p) (goes_on b c q)).any_moment;
       counted = λ few.
           let now = q.counted few in
           let then = p.counted (q.before few) in
@@ -64,12 +61,6 @@ batch_worked {F} began mid calls w first disk same_hub same_refused took made pa
     let answers : AreAnswers old jobs dones new = subst (AreAnswers old jobs dones) (sym history) (subst (λ h. AreAnswers h jobs dones (history_of calls.hub)) begun made.answers) in
     let more = answers_grow old jobs dones new answers in
     let journal : journal_of calls.hub ≡ journal_of began.hub = made.journal ∙ ap (λ (h : JournaledHub F). journal_of h) same_hub in
-    let sound : has_failed calls.hub ≡ false = ap journal_failed journal ∙ disk.sound in
-    let past : past_of calls.hub ≡ past_of began.hub = ap journal_past journal in
-    let durable : durable_lines calls.hub ≡ lines_of_history old = ap lines_of journal ∙ all_durable began.hub disk in
-    let left : LeavesOnly (past_of began.hub) (past_of w.hub) (λ c. StandsFor c (durable_lines calls.hub) ⊎ StandsFor c (lines_of_history new)) =
-    subst (λ p. LeavesOnly p (past_of w.hub) (λ c. StandsFor c (durable_lines calls.hub) ⊎ StandsFor c (lines_of_history new))) past
-    (subst (λ h. LeavesOnly (past_of calls.hub) (past_of w.hub) (λ c. StandsFor c (durable_lines calls.hub) ⊎ StandsFor c (lines_of_history h))) (sym history) (leaves sound)) in
     record {
       jobs = jobs;
       dones = dones;
@@ -78,7 +69,7 @@ batch_worked {F} began mid calls w first disk same_hub same_refused took made pa
           ∙ ap (λ (l : List Job). record began.pass { taken = l }) (append_assoc began.pass.taken (first ∷ []) made.rest)));
       answers = answers;
       on_disk = on_disk;
-      any_moment = batch_leaves (past_of began.hub) (past_of w.hub) old more.0 new (durable_lines calls.hub) more.1 durable left;
+      any_moment = (gone_by_batch began.hub calls.hub w.hub more.0 disk journal (sym history ∙ more.1) history leaves).any_moment;
       counted = λ few.
           let counted = made.counted (subst (λ n. n < 2 ^ 60) refused few) in
           let long = ap length history in

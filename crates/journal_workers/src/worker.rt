@@ -10,7 +10,7 @@ ghost use Rattle.journal_workers.specs.Work.{HasMadeCalls, HasRoom, HasWorked, I
 use inbox::{Job, Pass};
 use journal::{Failed, RawFile};
 use journaled_hub::JournaledHub;
-use session_lanes::{AnswerQueue, JobQueue, Work};
+use session_lanes::{AnswerQueue, JobQueue, Work, push_to_session};
 use session_lines::Done;
 use std::alloc::Global;
 use std::collections::VecDeque;
@@ -190,9 +190,7 @@ fn answer_sessions<R: Wait>(rt: &R, answers: &[AnswerQueue], dones: &mut VecDequ
     ensures room { deque_capacity dones.new ≡ deque_capacity dones.old }
 {
     while let Some(done) = dones.pop_front() {
-        if let Some(queue) = answers.get(done.session as usize) {
-            queue.push(rt, done);
-        }
+        push_to_session(rt, answers, done);
     }
 }
 

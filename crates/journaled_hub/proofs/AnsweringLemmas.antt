@@ -7,7 +7,7 @@ use Rattle.call_lines.specs.declared.parsed.ParsedLine.{ParsedLine}
 use Rattle.call_lines.specs.declared.parsed.ParsedLine.TheVariants.{Blank, TooLong, Fault, Called}
 use Rattle.hub_replay.specs.declared.counts.Counts.{Counts}
 use Rattle.hub_replay.specs.Lines.{parsed_lines}
-use Rattle.hub_replay.specs.Outcomes.{Outcome, outcome, after, start_of, with_fault_line, with_reply_line, entry_of, Answers}
+use Rattle.hub_replay.specs.Outcomes.{Outcome, outcome, after, start_of, with_fault_line, with_reply_line, entry_of, Answers, IsStopped}
 use Rattle.hub_replay.proofs.RunLemmas.{outcome-append}
 use Rattle.journaled_hub.specs.Answering.{LeadsTo, IsStoppedOnDisk}
 
@@ -89,6 +89,12 @@ pub history_goes_on : (old : List Entry) (lines : List ParsedLine) (new : List E
 history_goes_on old lines new written l =
     let g = grows (start_of old) lines in
     (g.0, sym l.entries ∙ g.1)
+
+-- so it does where the answers stop
+pub stopped_goes_on : (old : List Entry) (lines : List ParsedLine) (written : List ℕ) (new : List Entry) → IsStopped (start_of old) lines written new → (more : List Entry) × (new ≡ old ++ more)
+stopped_goes_on old lines written new s =
+    let g = grows (start_of old) (s.complete ++ s.last) in
+    (g.0, s.entered ∙ g.1)
 
 -- a stop at the first of the lines
 pub stopped_at_once : (old : List Entry) (lines : List ParsedLine) → IsStoppedOnDisk old lines [] old

@@ -6,3 +6,4 @@ mod WholeLineLemmas
 pub mod DiskLemmas
 mod AheadLemmas
 mod RunFaultLemmas
+pub mod CrashLemmas

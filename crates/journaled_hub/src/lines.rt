@@ -1,5 +1,6 @@
 //! Lines that are answered together, and noted.
-ghost use Rattle.std.specs.Prelude.{◌≡◌, List, take, length, ◌≤◌, IfOk, OnOk};
+ghost use Rattle.std.specs.Prelude.{◌≡◌, ◌++◌, List, take, length, ◌≤◌, IfOk, OnOk};
+ghost use Rattle.hub_model.specs.declared.entry.Entry.{Entry};
 ghost use Rattle.hub_replay.specs.Lines.{parsed_lines};
 ghost use Rattle.journaled_hub.specs.Answering.{LeadsTo};
 ghost use Rattle.journaled_hub.specs.JournaledHubs.{history_of, journal_of, HasNoted, IsJournaled};
@@ -22,6 +23,8 @@ impl<F: RawFile> JournaledHub<F> {
         ensures journaled { OnOk result (IsJournaled self.new) }
         ensures answers { IfOk result (λ replies. LeadsTo (history_of self.old)
             (parsed_lines lines.now) (history_of self.new) replies.items) }
+        ensures grows { (more : List Entry)
+            × (history_of self.new ≡ history_of self.old ++ more) }
         ensures journal { journal_of self.new ≡ journal_of self.old }
     {
         let from = self.hub.len();

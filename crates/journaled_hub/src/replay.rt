@@ -5,6 +5,7 @@ ghost use Rattle.hub_model.specs.declared.entry.Entry.{Entry};
 ghost use Rattle.call_lines.specs.Lines.{has_no_newline};
 ghost use Rattle.hub_replay.specs.Lines.{parsed_lines, IsTaken};
 ghost use Rattle.journaled_hub.specs.Answering.{LeadsTo, IsStoppedOnDisk};
+ghost use Rattle.journaled_hub.specs.Crashes.{HasGoneOn};
 ghost use Rattle.journaled_hub.specs.HistoryLines.{lines_of_history};
 ghost use Rattle.journaled_hub.specs.JournaledHubs.{history_of, durable_lines, has_failed, IsOnDisk};
 ghost use Rattle.journaled_hub.specs.RunFaults.{IsFaultOfTurn, ExplainsJournaledFault};
@@ -55,6 +56,8 @@ pub fn run_journaled<R: Source, W: Sink, F: RawFile>(
         × (has_failed hub.new ≡ false → durable_lines hub.new ≡ lines_of_history durable)
         × ExplainsJournaledFault fault (has_failed hub.new) (R.failures reader.old)
         (R.failures reader.new) (W.failures writer.old) (W.failures writer.new) (length read)) }
+    // A crash at any moment of the call leaves a front of the history that has all that was there before.
+    ensures crash { HasGoneOn hub.old hub.new }
 {
     let Ok(mut buffer) = vec![in hub.alloc; 0u8; BUFFER] else {
         return Err(JournaledRunFault::Run(RunFault::Memory));
@@ -121,6 +124,7 @@ fn answer_turn<W: Sink, F: RawFile>(
         × (has_failed hub.new ≡ false → durable_lines hub.new ≡ lines_of_history durable)) }
     ensures fault { IfErr result (λ fault. IsFaultOfTurn fault (has_failed hub.new)
         (W.failures writer.old) (W.failures writer.new)) }
+    ensures crash { HasGoneOn hub.old hub.new }
 {
     let replies = match hub.answer_lines(rt, lines) {
         Ok(replies) => replies,

@@ -46,7 +46,7 @@ pub use closing::{Outcomes, close_lanes, take_passes, take_sessions};
 pub use ends::{Served, SessionEnd, SessionStart};
 pub use lane::{Lane, make_lanes, start_sessions};
 pub use places::{LanePlaces, make_lane_places};
-pub use queues::{AnswerQueue, JobQueue, Opening};
+pub use queues::{AnswerQueue, JobQueue, Opening, push_to_session};
 pub use room::with_room;
 pub use session::{SessionContext, serve};
 pub use work::Work;

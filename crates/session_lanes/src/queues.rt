@@ -269,3 +269,10 @@ impl Opening {
         unreachable!()
     }
 }
+
+/// Puts an answer into the queue of its session, the one at the session's place. Where there is none it is dropped.
+pub fn push_to_session<R: Wait>(rt: &R, answers: &[AnswerQueue], done: Done) {
+    if let Some(queue) = answers.get(done.session as usize) {
+        queue.push(rt, done);
+    }
+}

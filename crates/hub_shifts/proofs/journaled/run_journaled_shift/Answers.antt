@@ -55,14 +55,14 @@ pub end_lanes-outcomes-requires-clause-lanes : goal.end_lanes-outcomes-requires-
 end_lanes-outcomes-requires-clause-lanes g c =
     let lanes = c.in_ok-lanes.field-0.lanes in
     let sessions = c.in_ok-lanes.field-0.sessions.items in
-    let served = c.in_ok-open.field-0.back.served.items in
-    let opened = c.in_ok-open.field-0.open.lanes.items in
-    let same : opened ≡ lanes.items = ap (λ (v : Vec LaneState Global). v.items) c.in_ok-open.ensures.lanes in
+    let served = c.in_ok-to_end.field-0.back.served.items in
+    let opened = c.in_ok-to_end.field-0.to_end.lanes.items in
+    let same : opened ≡ lanes.items = ap (λ (v : Vec LaneState Global). v.items) c.in_ok-to_end.ensures.lanes in
     let size : length lanes.items ≡ 1 = sym lanes.ok.0 ∙ c.in_ok-lanes.ensures.counts.0 in
     let known : EachAt (λ k l. HandsOut (new_lane l.id l.capacity) l (1 + length (of_lane k (length lanes.items) 0 served))) lanes.items =
     λ k l low.
     let at = c.in_ok-lanes.ensures.lanes k l low in
-    let alike = of_lane-alike k 1 0 sessions served (sym c.in_ok-open.ensures.served.0) in
+    let alike = of_lane-alike k 1 0 sessions served (sym c.in_ok-to_end.ensures.served.0) in
     let lane = get_or lanes.items k l in
     subst (λ m. HandsOut (new_lane lane.id lane.capacity) lane (1 + m)) (alike ∙ ap (λ n. length (of_lane k n 0 served)) (sym size))
     (subst (λ n. HandsOut (new_lane lane.id n) lane (1 + length (of_lane k 1 0 sessions))) (sym at.capacity) at) in
@@ -72,25 +72,25 @@ pub end_lanes-outcomes-requires-clause-starts : goal.end_lanes-outcomes-requires
 end_lanes-outcomes-requires-clause-starts g c =
     let lanes = c.in_ok-lanes.field-0.lanes in
     let starts = c.in_ok-lanes.field-0.sessions.items in
-    let opened = c.in_ok-open.field-0.open in
-    let same : opened.lanes.items ≡ lanes.items = ap (λ (v : Vec LaneState Global). v.items) c.in_ok-open.ensures.lanes in
+    let opened = c.in_ok-to_end.field-0.to_end in
+    let same : opened.lanes.items ≡ lanes.items = ap (λ (v : Vec LaneState Global). v.items) c.in_ok-to_end.ensures.lanes in
     let size : length lanes.items ≡ 1 = sym lanes.ok.0 ∙ c.in_ok-lanes.ensures.counts.0 in
     let known : EachAt (λ i (s : SessionStart g.row.S.Denot g.row.K.Denot). (d : LaneState) → s.pass ≡ new_pass (get_or lanes.items (i % length lanes.items) d).id 1) starts =
     λ i s low d. (c.in_ok-lanes.ensures.sessions i s low).1 d ∙ ap (λ n. new_pass (get_or lanes.items (i % n) d).id 1) (sym size) in
-    let kept : opened.starts.value.items ≡ starts = ap (λ (v : Vec (SessionStart g.row.S.Denot g.row.K.Denot) Global). v.items) c.in_ok-open.ensures.starts in
+    let kept : opened.starts.value.items ≡ starts = ap (λ (v : Vec (SessionStart g.row.S.Denot g.row.K.Denot) Global). v.items) c.in_ok-to_end.ensures.starts in
     subst (λ l. EachAt (λ i (s : SessionStart g.row.S.Denot g.row.K.Denot). (d : LaneState) → s.pass ≡ new_pass (get_or l (i % length l) d).id 1) opened.starts.value.items) (sym same)
     (subst (λ l. EachAt (λ i (s : SessionStart g.row.S.Denot g.row.K.Denot). (d : LaneState) → s.pass ≡ new_pass (get_or lanes.items (i % length lanes.items) d).id 1) l) (sym kept) known)
 
 pub end_lanes-outcomes-requires-clause-served : goal.end_lanes-outcomes-requires-clause-served
 end_lanes-outcomes-requires-clause-served g c =
-    let kept : c.in_ok-open.field-0.open.starts.value.items ≡ c.in_ok-lanes.field-0.sessions.items = ap (λ (v : Vec (SessionStart g.row.S.Denot g.row.K.Denot) Global). v.items) c.in_ok-open.ensures.starts in
-    subst (λ l. EachPair (IsServed g.S.Source.remaining g.K.Sink.contents) l c.in_ok-open.field-0.back.served.items) (sym kept) c.in_ok-open.ensures.served
+    let kept : c.in_ok-to_end.field-0.to_end.starts.value.items ≡ c.in_ok-lanes.field-0.sessions.items = ap (λ (v : Vec (SessionStart g.row.S.Denot g.row.K.Denot) Global). v.items) c.in_ok-to_end.ensures.starts in
+    subst (λ l. EachPair (IsServed g.S.Source.remaining g.K.Sink.contents) l c.in_ok-to_end.field-0.back.served.items) (sym kept) c.in_ok-to_end.ensures.served
 
 pub end_lanes-outcomes-requires-clause-passes : goal.end_lanes-outcomes-requires-clause-passes
 end_lanes-outcomes-requires-clause-passes g c =
     let lanes = c.in_ok-lanes.field-0.lanes in
-    let opened = c.in_ok-open.field-0.open.lanes.items in
-    let same : opened ≡ lanes.items = ap (λ (v : Vec LaneState Global). v.items) c.in_ok-open.ensures.lanes in
+    let opened = c.in_ok-to_end.field-0.to_end.lanes.items in
+    let same : opened ≡ lanes.items = ap (λ (v : Vec LaneState Global). v.items) c.in_ok-to_end.ensures.lanes in
     let size : length lanes.items ≡ 1 = sym lanes.ok.0 ∙ c.in_ok-lanes.ensures.counts.0 in
     let passes = c.in_ok-lanes.field-0.passes in
     let pass = c.take_last.result in
@@ -101,8 +101,8 @@ end_lanes-outcomes-requires-clause-passes g c =
     let made = c.in_ok-workers.ensures in
     let worker = made.0 in
     let w = c.take_last-worker.result in
-    let back = c.in_ok-open.field-0.back.worked.items in
-    let work = only_work c.in_ok-workers.workers.items back c.take_last-worker.new.self.items worker w made.1 c.take_last-worker.ensures.items c.in_ok-open.ensures.worked in
+    let back = c.in_ok-to_end.field-0.back.worked.items in
+    let work = only_work c.in_ok-workers.workers.items back c.take_last-worker.new.self.items worker w made.1 c.take_last-worker.ensures.items c.in_ok-to_end.ensures.worked in
     let left = c.take_last.ensures.len in
     let rest = c.take_last.new.self.ok.0 in
     let none : c.take_last.new.self.items ≡ [] = none_before c.take_last.new.self.items (omega (arith, left, rest, one_pass)) in
@@ -110,11 +110,10 @@ end_lanes-outcomes-requires-clause-passes g c =
     let items : c.push_reserved.new.self.items ≡ again ∷ [] = c.push_reserved.ensures.items ∙ ap (λ (l : List PassState). l ++ again ∷ []) none in
     let takes : (d : LaneState) → TakesOnly (new_pass (get_or lanes.items 0 d).id 1) again =
     λ d. subst (λ (t : PassState). TakesOnly (new_pass (get_or lanes.items 0 d).id 1) t) (sym c.into_parts-pass.ensures.pass)
-        (work.takes_only ∙ ap (λ (t : PassState). record t { taken = w.pass.taken }) (made.3 ∙ own d)) in
+    (work.takes_only ∙ ap (λ (t : PassState). record t { taken = w.pass.taken }) (made.3 ∙ own d)) in
     let known : EachAt (λ k (t : PassState). (d : LaneState) → TakesOnly (new_pass (get_or lanes.items k d).id 1) t) c.push_reserved.new.self.items =
     only_each (λ k (t : PassState). (d : LaneState) → TakesOnly (new_pass (get_or lanes.items k d).id 1) t) c.push_reserved.new.self.items again items takes in
-    subst (λ l. (length c.push_reserved.new.self.items ≡ length l) × EachAt (λ k (t : PassState). (d : LaneState) → TakesOnly (new_pass (get_or l k d).id 1) t) c.push_reserved.new.self.items) (sym same)
-    (
+    subst (λ l. (length c.push_reserved.new.self.items ≡ length l) × EachAt (λ k (t : PassState). (d : LaneState) → TakesOnly (new_pass (get_or l k d).id 1) t) c.push_reserved.new.self.items) (sym same) (
       ap (λ (l : List PassState). length l) items ∙ sym size,
       known,
     )
@@ -124,8 +123,8 @@ overflow_sub-sum g c =
     let made = c.in_ok-workers.ensures in
     let worker = made.0 in
     let w = c.take_last-worker.result in
-    let back = c.in_ok-open.field-0.back.worked.items in
-    let work = only_work c.in_ok-workers.workers.items back c.take_last-worker.new.self.items worker w made.1 c.take_last-worker.ensures.items c.in_ok-open.ensures.worked in
+    let back = c.in_ok-to_end.field-0.back.worked.items in
+    let work = only_work c.in_ok-workers.workers.items back c.take_last-worker.new.self.items worker w made.1 c.take_last-worker.ensures.items c.in_ok-to_end.ensures.worked in
     let hub = c.into_parts-pass.result.1 in
     let same = c.into_parts-pass.ensures.hub in
     let grown = grown_back {F = g.row.F.Denot} c.args.hub worker w (history_of hub) (journal_of hub) made.4 work.worked (ap (λ (h : JournaledHub g.row.F.Denot). history_of h) same) (ap (λ (h : JournaledHub g.row.F.Denot). journal_of h) same) in
@@ -139,13 +138,13 @@ pub returns : goal.returns
 returns g c =
     let lanes = c.in_ok-lanes.field-0.lanes in
     let starts = c.in_ok-lanes.field-0.sessions.items in
-    let opened = c.in_ok-open.field-0.open in
-    let same : length opened.lanes.items ≡ length lanes.items = ap (λ (v : Vec LaneState Global). length v.items) c.in_ok-open.ensures.lanes in
+    let opened = c.in_ok-to_end.field-0.to_end in
+    let same : length opened.lanes.items ≡ length lanes.items = ap (λ (v : Vec LaneState Global). length v.items) c.in_ok-to_end.ensures.lanes in
     let size : length opened.lanes.items ≡ 1 = same ∙ (sym lanes.ok.0 ∙ c.in_ok-lanes.ensures.counts.0) in
     let of_ends : g.row.S.Denot × g.row.K.Denot → Streams = λ p. streams_of (g.S.Source.remaining p.0) (g.K.Sink.contents p.1) in
     let ends_of : SessionStart g.row.S.Denot g.row.K.Denot → g.row.S.Denot × g.row.K.Denot = λ s. (s.reader, s.writer) in
     let of_start : SessionStart g.row.S.Denot g.row.K.Denot → Streams = λ s. of_ends (ends_of s) in
-    let kept : opened.starts.value.items ≡ starts = ap (λ (v : Vec (SessionStart g.row.S.Denot g.row.K.Denot) Global). v.items) c.in_ok-open.ensures.starts in
+    let kept : opened.starts.value.items ≡ starts = ap (λ (v : Vec (SessionStart g.row.S.Denot g.row.K.Denot) Global). v.items) c.in_ok-to_end.ensures.starts in
     let given : map of_start opened.starts.value.items ≡ map of_ends c.args.sessions.items =
     ap (λ l. map of_start l) kept ∙ (sym (map-map of_ends ends_of starts) ∙ ap (λ l. map of_ends l) c.in_ok-lanes.ensures.ends) in
     let passes = c.in_ok-lanes.field-0.passes in
@@ -157,8 +156,8 @@ returns g c =
     let made = c.in_ok-workers.ensures in
     let worker = made.0 in
     let w = c.take_last-worker.result in
-    let back = c.in_ok-open.field-0.back.worked.items in
-    let work = (only_work c.in_ok-workers.workers.items back c.take_last-worker.new.self.items worker w made.1 c.take_last-worker.ensures.items c.in_ok-open.ensures.worked).worked in
+    let back = c.in_ok-to_end.field-0.back.worked.items in
+    let work = (only_work c.in_ok-workers.workers.items back c.take_last-worker.new.self.items worker w made.1 c.take_last-worker.ensures.items c.in_ok-to_end.ensures.worked).worked in
     let none_taken : worker.pass.taken ≡ [] = ap (λ (t : PassState). t.taken) (made.3 ∙ own (new_lane c.take_last.result.inbox 0)) in
     let jobs_taken : w.pass.taken ≡ work.jobs = ap (λ (t : PassState). t.taken) work.took_only ∙ ap (λ (l : List Job). l ++ work.jobs) none_taken in
     let left = c.take_last.ensures.len in

@@ -71,7 +71,7 @@ few_back first ts served none same each k d low =
 
 pub take_sessions-outcomes-requires : goal.take_sessions-outcomes-requires
 take_sessions-outcomes-requires g c =
-    let items = c.args.open.lanes.items in
+    let items = c.args.to_end.lanes.items in
     let first : c.as_mut_slice.result.now ≡ items = c.as_mut_slice.ensures.value in
     record {
       some = subst (λ (l : List LaneState). 1 ≤ length l) (sym first) c.requires.some;
@@ -83,12 +83,12 @@ take_sessions-outcomes-requires g c =
 
 pub take_passes-requires : goal.take_passes-requires
 take_passes-requires g c =
-    let items = c.args.open.lanes.items in
+    let items = c.args.to_end.lanes.items in
     let ts = c.take_sessions-outcomes.new.lanes in
     let first : c.as_mut_slice.result.now ≡ items = c.as_mut_slice.ensures.value in
     let len_ts : length ts ≡ length items = c.take_sessions-outcomes.auto.lanes ∙ ap (λ (l : List LaneState). length l) first in
-    let long : c.args.open.lanes.len ≡ length items = c.args.open.lanes.ok.0 in
-    let back : take c.args.open.lanes.len (ts ++ drop (length ts) items) ≡ ts = whole_slice c.args.open.lanes.len ts items len_ts long in
+    let long : c.args.to_end.lanes.len ≡ length items = c.args.to_end.lanes.ok.0 in
+    let back : take c.args.to_end.lanes.len (ts ++ drop (length ts) items) ≡ ts = whole_slice c.args.to_end.lanes.len ts items len_ts long in
     let mid : c.as_mut_slice-2.result.now ≡ ts = c.as_mut_slice-2.ensures.value ∙ back in
     let none = subst (λ (l : List LaneState). EachAt (λ k (r : LaneState). r.back ≡ []) l) (sym first) (none_back items c.args.served.items c.requires.lanes) in
     let few = few_back c.as_mut_slice.result.now ts c.args.served.items none c.take_sessions-outcomes.auto.lanes c.take_sessions-outcomes.ensures.lanes in
@@ -104,20 +104,20 @@ take_passes-requires g c =
 
 pub close_lanes-left-requires : goal.close_lanes-left-requires
 close_lanes-left-requires g c =
-    let items = c.args.open.lanes.items in
+    let items = c.args.to_end.lanes.items in
     let ts = c.take_sessions-outcomes.new.lanes in
     let tw = c.take_passes.new.lanes in
-    let starts = c.args.open.starts.value.items in
+    let starts = c.args.to_end.starts.value.items in
     let served = c.args.served.items in
     let owns = c.args.passes.items in
     let first : c.as_mut_slice.result.now ≡ items = c.as_mut_slice.ensures.value in
     let len_ts : length ts ≡ length items = c.take_sessions-outcomes.auto.lanes ∙ ap (λ (l : List LaneState). length l) first in
-    let long : c.args.open.lanes.len ≡ length items = c.args.open.lanes.ok.0 in
-    let back : take c.args.open.lanes.len (ts ++ drop (length ts) items) ≡ ts = whole_slice c.args.open.lanes.len ts items len_ts long in
+    let long : c.args.to_end.lanes.len ≡ length items = c.args.to_end.lanes.ok.0 in
+    let back : take c.args.to_end.lanes.len (ts ++ drop (length ts) items) ≡ ts = whole_slice c.args.to_end.lanes.len ts items len_ts long in
     let mid : c.as_mut_slice-2.result.now ≡ ts = c.as_mut_slice-2.ensures.value ∙ back in
     let len_tw : length tw ≡ length ts = c.take_passes.auto.lanes ∙ ap (λ (l : List LaneState). length l) mid in
-    let end : take c.args.open.lanes.len (tw ++ drop (length tw) (take c.args.open.lanes.len (ts ++ drop (length ts) items))) ≡ tw =
-    ap (λ l. take c.args.open.lanes.len (tw ++ drop (length tw) l)) back ∙ whole_slice c.args.open.lanes.len tw ts len_tw (long ∙ sym len_ts) in
+    let end : take c.args.to_end.lanes.len (tw ++ drop (length tw) (take c.args.to_end.lanes.len (ts ++ drop (length ts) items))) ≡ tw =
+    ap (λ l. take c.args.to_end.lanes.len (tw ++ drop (length tw) l)) back ∙ whole_slice c.args.to_end.lanes.len tw ts len_tw (long ∙ sym len_ts) in
     let many : length owns ≡ length items = c.requires.passes.0 in
     let hands = handed g.S.Source.remaining g.K.Sink.contents items starts served c.requires.starts c.requires.served in
     let came = came_of items ts tw c.as_mut_slice.result.now c.as_mut_slice-2.result.now served owns first mid len_ts many c.requires.lanes hands c.requires.passes.1 c.take_sessions-outcomes.ensures.lanes c.take_passes.ensures in
@@ -145,20 +145,20 @@ close_lanes-left-requires g c =
 
 pub returns : goal.returns
 returns g c =
-    let items = c.args.open.lanes.items in
+    let items = c.args.to_end.lanes.items in
     let ts = c.take_sessions-outcomes.new.lanes in
     let tw = c.take_passes.new.lanes in
-    let starts = c.args.open.starts.value.items in
+    let starts = c.args.to_end.starts.value.items in
     let served = c.args.served.items in
     let owns = c.args.passes.items in
     let first : c.as_mut_slice.result.now ≡ items = c.as_mut_slice.ensures.value in
     let len_ts : length ts ≡ length items = c.take_sessions-outcomes.auto.lanes ∙ ap (λ (l : List LaneState). length l) first in
-    let long : c.args.open.lanes.len ≡ length items = c.args.open.lanes.ok.0 in
-    let back : take c.args.open.lanes.len (ts ++ drop (length ts) items) ≡ ts = whole_slice c.args.open.lanes.len ts items len_ts long in
+    let long : c.args.to_end.lanes.len ≡ length items = c.args.to_end.lanes.ok.0 in
+    let back : take c.args.to_end.lanes.len (ts ++ drop (length ts) items) ≡ ts = whole_slice c.args.to_end.lanes.len ts items len_ts long in
     let mid : c.as_mut_slice-2.result.now ≡ ts = c.as_mut_slice-2.ensures.value ∙ back in
     let len_tw : length tw ≡ length ts = c.take_passes.auto.lanes ∙ ap (λ (l : List LaneState). length l) mid in
-    let end : take c.args.open.lanes.len (tw ++ drop (length tw) (take c.args.open.lanes.len (ts ++ drop (length ts) items))) ≡ tw =
-    ap (λ l. take c.args.open.lanes.len (tw ++ drop (length tw) l)) back ∙ whole_slice c.args.open.lanes.len tw ts len_tw (long ∙ sym len_ts) in
+    let end : take c.args.to_end.lanes.len (tw ++ drop (length tw) (take c.args.to_end.lanes.len (ts ++ drop (length ts) items))) ≡ tw =
+    ap (λ l. take c.args.to_end.lanes.len (tw ++ drop (length tw) l)) back ∙ whole_slice c.args.to_end.lanes.len tw ts len_tw (long ∙ sym len_ts) in
     let many : length owns ≡ length items = c.requires.passes.0 in
     let hands = handed g.S.Source.remaining g.K.Sink.contents items starts served c.requires.starts c.requires.served in
     let came = came_of items ts tw c.as_mut_slice.result.now c.as_mut_slice-2.result.now served owns first mid len_ts many c.requires.lanes hands c.requires.passes.1 c.take_sessions-outcomes.ensures.lanes c.take_passes.ensures in

@@ -51,7 +51,7 @@ close-hub-requires g c =
 -- the workers' passes took jobs alone
 pub end_lanes-outcomes-requires-clause-passes : goal.end_lanes-outcomes-requires-clause-passes
 end_lanes-outcomes-requires-clause-passes g c =
-    let items = c.args.to_close.open.lanes.items in
+    let items = c.args.to_close.to_end.lanes.items in
     let worked = c.args.back.worked.items in
     let own_of : Worker g.row.L.Denot → PassState = λ w. w.pass in
     let is = c.split_workers-passes.ensures.passes in
@@ -62,7 +62,7 @@ end_lanes-outcomes-requires-clause-passes g c =
 
 pub returns : goal.returns
 returns g c =
-    let items = c.args.to_close.open.lanes.items in
+    let items = c.args.to_close.to_end.lanes.items in
     let worked = c.args.back.worked.items in
     let own_of : Worker g.row.L.Denot → PassState = λ w. w.pass in
     let seat_of : Worker g.row.L.Denot → SeatState = λ w. w.seat in
@@ -72,7 +72,7 @@ returns g c =
     let refused : SeatState → ℕ = λ s. s.refused in
     let seats : c.push_reserved.new.self.items ≡ map seat_of worked ++ c.args.to_close.seat ∷ [] = (let a : c.push_reserved.new.self.items ≡ c.split_workers-passes.result.seats.items ++ c.args.to_close.seat ∷ [] = search rules in a ∙ ap (λ l. l ++ c.args.to_close.seat ∷ []) c.split_workers-passes.ensures.seats) in
     let of_start : SessionStart g.row.S.Denot g.row.K.Denot → Streams = λ s. streams_of (g.S.Source.remaining s.reader) (g.K.Sink.contents s.writer) in
-    let streams : List Streams = map of_start c.args.to_close.open.starts.value.items in
+    let streams : List Streams = map of_start c.args.to_close.to_end.starts.value.items in
     let end = c.end_lanes-outcomes.result in
     let by_lanes = c.end_lanes-outcomes.ensures in
     let taken : map taken_of c.split_workers-passes.result.passes.items ≡ taken_lists (map worker_of worked) =

@@ -42,14 +42,14 @@ pub end_shift-requires-clause-lanes : goal.end_shift-requires-clause-lanes
 end_shift-requires-clause-lanes g c =
     let lanes = c.in_ok-lanes.field-0.lanes in
     let sessions = c.in_ok-lanes.field-0.sessions.items in
-    let served = c.in_ok-open.field-0.back.served.items in
-    let opened = c.in_ok-open.field-0.open.lanes.items in
-    let same : opened ≡ lanes.items = ap (λ (v : Vec LaneState Global). v.items) c.in_ok-open.ensures.lanes in
+    let served = c.in_ok-to_end.field-0.back.served.items in
+    let opened = c.in_ok-to_end.field-0.to_end.lanes.items in
+    let same : opened ≡ lanes.items = ap (λ (v : Vec LaneState Global). v.items) c.in_ok-to_end.ensures.lanes in
     let size : length lanes.items ≡ c.args.setup.workers = sym lanes.ok.0 ∙ c.in_ok-lanes.ensures.counts.0 in
     let known : EachAt (λ k l. HandsOut (new_lane l.id l.capacity) l (1 + length (of_lane k (length lanes.items) 0 served))) lanes.items =
     λ k l low.
     let at = c.in_ok-lanes.ensures.lanes k l low in
-    let alike = of_lane-alike k c.args.setup.workers 0 sessions served (sym c.in_ok-open.ensures.served.0) in
+    let alike = of_lane-alike k c.args.setup.workers 0 sessions served (sym c.in_ok-to_end.ensures.served.0) in
     let lane = get_or lanes.items k l in
     subst (λ m. HandsOut (new_lane lane.id lane.capacity) lane (1 + m)) (alike ∙ ap (λ n. length (of_lane k n 0 served)) (sym size))
     (subst (λ n. HandsOut (new_lane lane.id n) lane (1 + length (of_lane k c.args.setup.workers 0 sessions))) (sym at.capacity) at) in
@@ -59,19 +59,19 @@ pub end_shift-requires-clause-starts : goal.end_shift-requires-clause-starts
 end_shift-requires-clause-starts g c =
     let lanes = c.in_ok-lanes.field-0.lanes in
     let starts = c.in_ok-lanes.field-0.sessions.items in
-    let opened = c.in_ok-open.field-0.open in
-    let same : opened.lanes.items ≡ lanes.items = ap (λ (v : Vec LaneState Global). v.items) c.in_ok-open.ensures.lanes in
+    let opened = c.in_ok-to_end.field-0.to_end in
+    let same : opened.lanes.items ≡ lanes.items = ap (λ (v : Vec LaneState Global). v.items) c.in_ok-to_end.ensures.lanes in
     let size : length lanes.items ≡ c.args.setup.workers = sym lanes.ok.0 ∙ c.in_ok-lanes.ensures.counts.0 in
     let known : EachAt (λ i (s : SessionStart g.row.S.Denot g.row.K.Denot). (d : LaneState) → s.pass ≡ new_pass (get_or lanes.items (i % length lanes.items) d).id 1) starts =
     λ i s low d. (c.in_ok-lanes.ensures.sessions i s low).1 d ∙ ap (λ n. new_pass (get_or lanes.items (i % n) d).id 1) (sym size) in
-    let kept : opened.starts.value.items ≡ starts = ap (λ (v : Vec (SessionStart g.row.S.Denot g.row.K.Denot) Global). v.items) c.in_ok-open.ensures.starts in
+    let kept : opened.starts.value.items ≡ starts = ap (λ (v : Vec (SessionStart g.row.S.Denot g.row.K.Denot) Global). v.items) c.in_ok-to_end.ensures.starts in
     subst (λ l. EachAt (λ i (s : SessionStart g.row.S.Denot g.row.K.Denot). (d : LaneState) → s.pass ≡ new_pass (get_or l (i % length l) d).id 1) opened.starts.value.items) (sym same)
     (subst (λ l. EachAt (λ i (s : SessionStart g.row.S.Denot g.row.K.Denot). (d : LaneState) → s.pass ≡ new_pass (get_or lanes.items (i % length lanes.items) d).id 1) l) (sym kept) known)
 
 pub end_shift-requires-clause-some : goal.end_shift-requires-clause-some
 end_shift-requires-clause-some g c =
     let lanes = c.in_ok-lanes.field-0.lanes in
-    let same : length c.in_ok-open.field-0.open.lanes.items ≡ length lanes.items = ap (λ (v : Vec LaneState Global). length v.items) c.in_ok-open.ensures.lanes in
+    let same : length c.in_ok-to_end.field-0.to_end.lanes.items ≡ length lanes.items = ap (λ (v : Vec LaneState Global). length v.items) c.in_ok-to_end.ensures.lanes in
     let size : length lanes.items ≡ c.args.setup.workers = sym lanes.ok.0 ∙ c.in_ok-lanes.ensures.counts.0 in
     let some = c.requires.workers.0 in
     let few = c.requires.workers.1 in (
@@ -82,7 +82,7 @@ end_shift-requires-clause-some g c =
 pub end_shift-requires-clause-seat : goal.end_shift-requires-clause-seat
 end_shift-requires-clause-seat g c =
     let lanes = c.in_ok-lanes.field-0.lanes in
-    let same : length c.in_ok-open.field-0.open.lanes.items ≡ length lanes.items = ap (λ (v : Vec LaneState Global). length v.items) c.in_ok-open.ensures.lanes in
+    let same : length c.in_ok-to_end.field-0.to_end.lanes.items ≡ length lanes.items = ap (λ (v : Vec LaneState Global). length v.items) c.in_ok-to_end.ensures.lanes in
     let size : length lanes.items ≡ c.args.setup.workers = sym lanes.ok.0 ∙ c.in_ok-lanes.ensures.counts.0 in (
       c.in_ok-lanes.ensures.seat,
       sym c.requires.blank.1 ∙ (c.requires.blank.2 ∙ ap (λ n. n + 1) (sym (same ∙ size))),
@@ -90,8 +90,8 @@ end_shift-requires-clause-seat g c =
 
 pub end_shift-requires-clause-few : goal.end_shift-requires-clause-few
 end_shift-requires-clause-few g c =
-    let back = c.in_ok-open.field-0.back.served.ok.0 in
-    let same = c.in_ok-open.ensures.served.0 in
+    let back = c.in_ok-to_end.field-0.back.served.ok.0 in
+    let same = c.in_ok-to_end.ensures.served.0 in
     let starts = c.in_ok-lanes.field-0.sessions.ok.0 in
     let counted = c.in_ok-lanes.ensures.counts.2 in
     let few = c.requires.sessions.1 in
@@ -99,51 +99,50 @@ end_shift-requires-clause-few g c =
 
 pub end_shift-requires-clause-room : goal.end_shift-requires-clause-room
 end_shift-requires-clause-room g c =
-    let room = c.in_ok-open.ensures.room in
-    let back = c.in_ok-open.field-0.back.served.ok.0 in
-    let same = c.in_ok-open.ensures.served.0 in
+    let room = c.in_ok-to_end.ensures.room in
+    let back = c.in_ok-to_end.field-0.back.served.ok.0 in
+    let same = c.in_ok-to_end.ensures.served.0 in
     let starts = c.in_ok-lanes.field-0.sessions.ok.0 in
-    let served : vec_len c.in_ok-lanes.field-0.sessions ≡ vec_len c.in_ok-open.field-0.back.served = omega (arith, back, same, starts) in
-    let lanes : vec_len c.in_ok-lanes.field-0.lanes ≡ vec_len c.in_ok-open.field-0.open.lanes = sym (ap (λ (v : Vec LaneState Global). vec_len v) c.in_ok-open.ensures.lanes) in
-    subst (λ n. HasRoomFor (vec_len c.in_ok-open.field-0.back.served) n c.in_ok-open.field-0.open.room) lanes
-    (subst (λ n. HasRoomFor n (vec_len c.in_ok-lanes.field-0.lanes) c.in_ok-open.field-0.open.room) served room)
+    let served : vec_len c.in_ok-lanes.field-0.sessions ≡ vec_len c.in_ok-to_end.field-0.back.served = omega (arith, back, same, starts) in
+    let lanes : vec_len c.in_ok-lanes.field-0.lanes ≡ vec_len c.in_ok-to_end.field-0.to_end.lanes = sym (ap (λ (v : Vec LaneState Global). vec_len v) c.in_ok-to_end.ensures.lanes) in
+    subst (λ n. HasRoomFor (vec_len c.in_ok-to_end.field-0.back.served) n c.in_ok-to_end.field-0.to_end.room) lanes
+    (subst (λ n. HasRoomFor n (vec_len c.in_ok-lanes.field-0.lanes) c.in_ok-to_end.field-0.to_end.room) served room)
 
 pub end_shift-requires-clause-passes : goal.end_shift-requires-clause-passes
 end_shift-requires-clause-passes g c =
     let room = c.in_ok-parts.ensures.passes in
-    let back = c.in_ok-open.field-0.back.worked.ok.0 in
-    let same = c.in_ok-open.ensures.worked.0 in
+    let back = c.in_ok-to_end.field-0.back.worked.ok.0 in
+    let same = c.in_ok-to_end.ensures.worked.0 in
     let starts = c.in_ok-lanes.field-0.workers.ok.0 in
-    let many : vec_len c.in_ok-lanes.field-0.workers ≡ vec_len c.in_ok-open.field-0.back.worked = omega (arith, back, same, starts) in
+    let many : vec_len c.in_ok-lanes.field-0.workers ≡ vec_len c.in_ok-to_end.field-0.back.worked = omega (arith, back, same, starts) in
     search (rules, room, many)
 
 pub end_shift-requires-clause-seats : goal.end_shift-requires-clause-seats
 end_shift-requires-clause-seats g c =
     let room = c.in_ok-parts.ensures.seats in
-    let back = c.in_ok-open.field-0.back.worked.ok.0 in
-    let same = c.in_ok-open.ensures.worked.0 in
+    let back = c.in_ok-to_end.field-0.back.worked.ok.0 in
+    let same = c.in_ok-to_end.ensures.worked.0 in
     let starts = c.in_ok-lanes.field-0.workers.ok.0 in
-    let many : vec_len c.in_ok-lanes.field-0.workers ≡ vec_len c.in_ok-open.field-0.back.worked = omega (arith, back, same, starts) in
+    let many : vec_len c.in_ok-lanes.field-0.workers ≡ vec_len c.in_ok-to_end.field-0.back.worked = omega (arith, back, same, starts) in
     search (rules, room, many)
 
 pub end_shift-requires-clause-served : goal.end_shift-requires-clause-served
 end_shift-requires-clause-served g c =
-    let kept : c.in_ok-open.field-0.open.starts.value.items ≡ c.in_ok-lanes.field-0.sessions.items = ap (λ (v : Vec (SessionStart g.row.S.Denot g.row.K.Denot) Global). v.items) c.in_ok-open.ensures.starts in
-    subst (λ l. EachPair (IsServed g.S.Source.remaining g.K.Sink.contents) l c.in_ok-open.field-0.back.served.items) (sym kept) c.in_ok-open.ensures.served
+    let kept : c.in_ok-to_end.field-0.to_end.starts.value.items ≡ c.in_ok-lanes.field-0.sessions.items = ap (λ (v : Vec (SessionStart g.row.S.Denot g.row.K.Denot) Global). v.items) c.in_ok-to_end.ensures.starts in
+    subst (λ l. EachPair (IsServed g.S.Source.remaining g.K.Sink.contents) l c.in_ok-to_end.field-0.back.served.items) (sym kept) c.in_ok-to_end.ensures.served
 
 pub end_shift-requires-clause-worked : goal.end_shift-requires-clause-worked
 end_shift-requires-clause-worked g c =
     let lanes = c.in_ok-lanes.field-0.lanes in
     let workers = c.in_ok-lanes.field-0.workers in
-    let opened = c.in_ok-open.field-0.open.lanes.items in
-    let same : opened ≡ lanes.items = ap (λ (v : Vec LaneState Global). v.items) c.in_ok-open.ensures.lanes in
+    let opened = c.in_ok-to_end.field-0.to_end.lanes.items in
+    let same : opened ≡ lanes.items = ap (λ (v : Vec LaneState Global). v.items) c.in_ok-to_end.ensures.lanes in
     let size : length lanes.items ≡ c.args.setup.workers = sym lanes.ok.0 ∙ c.in_ok-lanes.ensures.counts.0 in
     let many : length workers.items ≡ c.args.setup.workers = sym workers.ok.0 ∙ c.in_ok-lanes.ensures.counts.1 in
-    let back = c.in_ok-open.field-0.back.worked.items in
+    let back = c.in_ok-to_end.field-0.back.worked.items in
     let pass_of : Worker g.row.L.Denot → PassState = λ w. w.pass in
-    let worked = c.in_ok-open.ensures.worked in
-    let known : (length back ≡ length lanes.items) × EachAt (λ k (r : Worker g.row.L.Denot). (d : LaneState) → IsWorked (new_pass (get_or lanes.items k d).id 1) r.pass r.seat) back =
-    (
+    let worked = c.in_ok-to_end.ensures.worked in
+    let known : (length back ≡ length lanes.items) × EachAt (λ k (r : Worker g.row.L.Denot). (d : LaneState) → IsWorked (new_pass (get_or lanes.items k d).id 1) r.pass r.seat) back = (
       worked.0 ∙ (many ∙ sym size),
       each_given (λ k t (r : Worker g.row.L.Denot). IsWorked t r.pass r.seat) pass_of (λ k (d : LaneState). new_pass (get_or lanes.items k d).id 1)
           workers.items back
@@ -156,13 +155,13 @@ pub returns : goal.returns
 returns g c =
     let lanes = c.in_ok-lanes.field-0.lanes in
     let starts = c.in_ok-lanes.field-0.sessions.items in
-    let opened = c.in_ok-open.field-0.open in
-    let same : length opened.lanes.items ≡ length lanes.items = ap (λ (v : Vec LaneState Global). length v.items) c.in_ok-open.ensures.lanes in
+    let opened = c.in_ok-to_end.field-0.to_end in
+    let same : length opened.lanes.items ≡ length lanes.items = ap (λ (v : Vec LaneState Global). length v.items) c.in_ok-to_end.ensures.lanes in
     let size : length opened.lanes.items ≡ c.args.setup.workers = same ∙ (sym lanes.ok.0 ∙ c.in_ok-lanes.ensures.counts.0) in
     let of_ends : g.row.S.Denot × g.row.K.Denot → Streams = λ p. streams_of (g.S.Source.remaining p.0) (g.K.Sink.contents p.1) in
     let ends_of : SessionStart g.row.S.Denot g.row.K.Denot → g.row.S.Denot × g.row.K.Denot = λ s. (s.reader, s.writer) in
     let of_start : SessionStart g.row.S.Denot g.row.K.Denot → Streams = λ s. of_ends (ends_of s) in
-    let kept : opened.starts.value.items ≡ starts = ap (λ (v : Vec (SessionStart g.row.S.Denot g.row.K.Denot) Global). v.items) c.in_ok-open.ensures.starts in
+    let kept : opened.starts.value.items ≡ starts = ap (λ (v : Vec (SessionStart g.row.S.Denot g.row.K.Denot) Global). v.items) c.in_ok-to_end.ensures.starts in
     let given : map of_start opened.starts.value.items ≡ map of_ends c.args.setup.sessions.items =
     ap (λ l. map of_start l) kept ∙ (sym (map-map of_ends ends_of starts) ∙ ap (λ l. map of_ends l) c.in_ok-lanes.ensures.ends) in
     subst (λ n. IsShift (map of_ends c.args.setup.sessions.items) n c.end_shift.result) size

@@ -18,8 +18,8 @@ returns-clause-workers g c =
     λ k w low. (
       c.in_ok-workers.ensures.seats k w low,
       let d = pass_of w in
-      let size = ap (λ (l : List PassState). length l) is in
-      let long = length-map workers pass_of in
-      let there : get_or passes k d ≡ pass_of (get_or workers k w) = ap (λ (l : List PassState). get_or l k d) (sym is) ∙ pass_at pass_of workers k w d low in
-      subst (λ t. IsPassOf lanes k t) there (c.in_ok-lanes.ensures.passes k d (omega (arith, low, size, long))),
+          let size = ap (λ (l : List PassState). length l) is in
+          let long = length-map workers pass_of in
+          let there : get_or passes k d ≡ pass_of (get_or workers k w) = ap (λ (l : List PassState). get_or l k d) (sym is) ∙ pass_at pass_of workers k w d low in
+          subst (λ t. IsPassOf lanes k t) there (c.in_ok-lanes.ensures.passes k d (omega (arith, low, size, long))),
     )

@@ -2,6 +2,7 @@ use Rattle.std.proofs.Common.{◌≡◌, ◌++◌, sym, subst, ◌∙◌}
 use Rattle.hub_replay.specs.Lines.{parsed_lines}
 use Rattle.journaled_hub.specs.Answering.{LeadsTo}
 use Rattle.journaled_hub.proofs.AnsweringLemmas.{stopped_in_writing}
+use Rattle.journaled_hub.proofs.CrashLemmas.{gone_unwritten, gone_by_batch}
 use Rattle.journaled_hub.proofs.replay.answer_turn.Goals as goal
 
 -- all of the calls are on the disk, and a front of the answers was written
@@ -19,3 +20,19 @@ returns-clause-err g c =
       stopped_in_writing old lines new wrote.0 wrote.1 leads,
       λ sound. c.in-Ok-sync.ensures.durable,
     )
+
+-- what a crash leaves: calls that were not noted, a batch whose sync failed, and one that was synced
+pub returns-in-Err-clause-crash : goal.returns-in-Err-clause-crash
+returns-in-Err-clause-crash g c =
+    let made = c.answer_lines.ensures in
+    gone_unwritten c.args.hub.now c.answer_lines.new.self made.grows.0 c.requires made.journal made.grows.1
+
+pub returns-in_default-clause-crash : goal.returns-in_default-clause-crash
+returns-in_default-clause-crash g c =
+    let made = c.answer_lines.ensures in
+    gone_by_batch c.args.hub.now c.answer_lines.new.self c.sync.new.self made.grows.0 c.requires made.journal made.grows.1 c.sync.ensures.history c.sync.ensures.any_moment
+
+pub returns-clause-crash : goal.returns-clause-crash
+returns-clause-crash g c =
+    let made = c.answer_lines.ensures in
+    gone_by_batch c.args.hub.now c.answer_lines.new.self c.sync.new.self made.grows.0 c.requires made.journal made.grows.1 c.sync.ensures.history c.sync.ensures.any_moment

@@ -8,6 +8,7 @@ use Rattle.hub_replay.proofs.StreamLemmas.{Consumes-none, Consumes-append, Appen
 use Rattle.hub_replay.proofs.LineLemmas.{parsed_taken, chunk_split, length-chunk, nothing_more, rest_kept, IsTaken-none}
 use Rattle.journaled_hub.specs.Answering.{LeadsTo, IsStoppedOnDisk}
 use Rattle.journaled_hub.proofs.AnsweringLemmas.{leads_nowhere, leads_on, stopped_at_once, stopped_here, stopped_on, stopped_before}
+use Rattle.journaled_hub.proofs.CrashLemmas.{gone_nowhere, gone_on}
 use Rattle.journaled_hub.proofs.DiskLemmas.{all_durable}
 use Rattle.journaled_hub.proofs.RunFaultLemmas.{turn_explains, read_explains}
 use Rattle.journaled_hub.proofs.WholeLineLemmas.{taken_more, kept_taken}
@@ -27,6 +28,7 @@ chunks-init g c = (
   refl,
   refl,
   ([], [], [], Consumes-none _, Appends-none _, IsTaken-none [], refl, leads_nowhere c.args.hub.now.hub, refl),
+  gone_nowhere c.args.hub.now c.requires,
 )
 
 -- nothing more was read
@@ -155,7 +157,27 @@ chunks-preserved g c =
         leads_on c.args.hub.now.hub c.chunks.hub.hub c.answer_turn-in-chunks.new.hub.hub r.2 more r.1 f.ok.0 r.7 f.ok.2,
         length-append r.0 new ∙ omega (arith, size, r.8),
       ),
+      gone_on c.args.hub.now c.chunks.hub c.answer_turn-in-chunks.new.hub i.7 f.crash,
     )
+
+-- what a crash leaves, wherever it ends
+pub returns-in_default-clause-crash : goal.returns-in_default-clause-crash
+returns-in_default-clause-crash g c = gone_nowhere c.args.hub.now c.requires
+
+pub returns-in-Err-clause-crash : goal.returns-in-Err-clause-crash
+returns-in-Err-clause-crash g c = c.chunks.invariant.7
+
+pub returns-clause-crash : goal.returns-clause-crash
+returns-clause-crash g c = c.chunks.invariant.7
+
+pub returns-in-Ok-answer_turn-clause-crash : goal.returns-in-Ok-answer_turn-clause-crash
+returns-in-Ok-answer_turn-clause-crash g c = gone_on c.args.hub.now c.chunks.hub c.answer_turn.new.hub c.chunks.invariant.7 c.in-Ok-answer_turn.ensures.crash
+
+pub returns-in-Err-answer_turn-clause-crash : goal.returns-in-Err-answer_turn-clause-crash
+returns-in-Err-answer_turn-clause-crash g c = gone_on c.args.hub.now c.chunks.hub c.answer_turn.new.hub c.chunks.invariant.7 c.in-Err-answer_turn.ensures.crash
+
+pub returns-in-Err-answer_turn-2-clause-crash : goal.returns-in-Err-answer_turn-2-clause-crash
+returns-in-Err-answer_turn-2-clause-crash g c = gone_on c.args.hub.now c.chunks.hub c.answer_turn-in-chunks.new.hub c.chunks.invariant.7 c.in-Err-answer_turn-2.ensures.crash
 
 -- The check would find each of these too, but only after long searches.
 pub slice_bounds-line-end : goal.slice_bounds-line-end

@@ -4,10 +4,12 @@ use Rattle.call_lines.specs.Lines.{has_no_newline}
 use Rattle.call_lines.specs.declared.parsed.ParsedLine.{ParsedLine}
 use Rattle.hub_replay.specs.Lines.{IsTaken}
 use Rattle.journaled_hub.specs.Answering.{LeadsTo}
+use Rattle.journaled_hub.specs.Crashes.{HasGoneOn}
 use Rattle.journaled_hub.specs.JournaledHubs.{history_of, IsOnDisk}
 use Rattle.journaled_hub.proofs.replay.run_journaled.Given as goal
 
--- what was read is answered up to the beginning of a line that is kept, all calls are on the disk, and nothing has failed
+-- what was read is answered up to the beginning of a line that is kept, all calls are on the disk, nothing has failed, and a crash left
+-- all that was there before
 abbrev pub invariant-chunks : goal.invariant-chunks
 invariant-chunks g l =
     (l.kept_len ≤ 65537) × (length l.buffer ≡ 2162689) × (l.total ≤ 2 ^ 40)
@@ -21,6 +23,7 @@ invariant-chunks g l =
     × (has_no_newline (take l.kept_len l.buffer) ≡ true)
     × LeadsTo (history_of l.initial.hub) lines (history_of l.hub) written
     × (length read ≡ l.total))
+    × HasGoneOn l.initial.hub l.hub
 
 abbrev pub decreases-chunks : goal.decreases-chunks
 decreases-chunks g l = 2 ^ 40 - l.total

@@ -4,7 +4,7 @@ use Rattle.hub_model.specs.declared.entry.Entry.{Entry}
 use Rattle.hub_replay.specs.Lines.{parsed_lines}
 use Rattle.journal_lines.specs.CallLines.{last_sum}
 use Rattle.journaled_hub.specs.HistoryLines.{calls_of, lines_of_history}
-use Rattle.journaled_hub.proofs.AnsweringLemmas.{answers_lead, history_goes_on}
+use Rattle.journaled_hub.proofs.AnsweringLemmas.{answers_lead, history_goes_on, stopped_goes_on}
 use Rattle.journaled_hub.proofs.journaled.JournaledHub.answer_lines.Goals as goal
 
 -- what was in the history is noted
@@ -19,3 +19,16 @@ note_from-requires-clause-noted g c =
       lines = λ sound. c.requires.lines sound ∙ ap lines_of_history (sym front);
       last = c.requires.last ∙ ap (λ (h : List Entry). last_sum (calls_of h)) (sym front);
     }
+
+-- the history grows, wherever it ends
+pub returns-in_err-run-clause-grows : goal.returns-in_err-run-clause-grows
+returns-in_err-run-clause-grows g c =
+    let e = c.in_err-run.ensures.err in
+    stopped_goes_on c.args.self.now.hub (parsed_lines e.0) e.1 c.run.new.hub e.4
+
+pub returns-clause-grows : goal.returns-clause-grows
+returns-clause-grows g c =
+    let old = c.args.self.now.hub in
+    let ok = c.in_ok-run.ensures.ok in
+    let more = history_goes_on old (parsed_lines ok.0) c.run.new.hub ok.1 (answers_lead old ok.0 c.run.new.hub ok.1 c.in_ok-run.field-0 ok.5) in
+    (more.0, c.note_from.ensures.history ∙ more.1)
