@@ -6,7 +6,7 @@ ghost use Rattle.journaled_hub.specs.Answering.{LeadsTo};
 ghost use Rattle.journaled_hub.specs.JournaledHubs.{history_of, journal_of, HasNoted, IsJournaled};
 
 use crate::journaled::JournaledHub;
-use hub_replay::{RunFault, run};
+use hub_replay::run;
 use journal::RawFile;
 use journal_lines::line_of;
 use std::thread::Threads;
@@ -18,7 +18,7 @@ impl<F: RawFile> JournaledHub<F> {
     ///
     /// An `Err` tells that memory was refused: calls may be in the history then that are not noted, so the hub is of no use any
     /// more. Nothing is done with the file.
-    pub fn answer_lines(&mut self, rt: &impl Threads, lines: &[u8]) -> Result<Vec<u8>, RunFault>
+    pub fn answer_lines(&mut self, rt: &impl Threads, lines: &[u8]) -> Result<Vec<u8>, Memory>
         requires { IsJournaled self.old }
         ensures journaled { OnOk result (IsJournaled self.new) }
         ensures answers { IfOk result (λ replies. LeadsTo (history_of self.old)
@@ -30,7 +30,10 @@ impl<F: RawFile> JournaledHub<F> {
         let from = self.hub.len();
         let mut reader = Std::new(lines);
         let mut replies = Std::new(Vec::new(self.alloc));
-        run(rt, self.alloc, &mut reader, &mut replies, &mut self.hub)?;
+        // The lines and what is to be written are in memory, so nothing else is refused.
+        let Ok(_counts) = run(rt, self.alloc, &mut reader, &mut replies, &mut self.hub) else {
+            return Err(Memory);
+        };
         self.note_from(from)?;
         Ok(replies.into_inner())
     }

@@ -17,7 +17,7 @@ use hub_replay::{MAX_BYTES, RunFault, move_to_front, read_chunk, write_all};
 use journal::RawFile;
 use memchr::memrchr;
 use std::thread::Threads;
-use taf_codes::{Failed, Sink, Source};
+use taf_codes::{Failed, Memory, Sink, Source};
 
 // How many bytes of a line are kept whose end was not read yet: so many tell that it is too long.
 const KEPT: usize = LONGEST + 1;
@@ -128,8 +128,7 @@ fn answer_turn<W: Sink, F: RawFile>(
 {
     let replies = match hub.answer_lines(rt, lines) {
         Ok(replies) => replies,
-        // The lines and what is to be written are in memory, so nothing else was refused.
-        Err(_refused) => return Err(JournaledRunFault::Run(RunFault::Memory)),
+        Err(Memory) => return Err(JournaledRunFault::Run(RunFault::Memory)),
     };
     let Ok(()) = hub.sync() else {
         return Err(JournaledRunFault::Journal);

@@ -11,8 +11,8 @@ use Rattle.journaled_hub.proofs.journaled.JournaledHub.answer_lines.Goals as goa
 pub note_from-requires-clause-noted : goal.note_from-requires-clause-noted
 note_from-requires-clause-noted g c =
     let old = c.args.self.now.hub in
-    let ok = c.in_ok-run.ensures.ok in
-    let more = history_goes_on old (parsed_lines ok.0) c.run.new.hub ok.1 (answers_lead old ok.0 c.run.new.hub ok.1 c.in_ok-run.field-0 ok.5) in
+    let ok = c.in-Ok.ensures.ok in
+    let more = history_goes_on old (parsed_lines ok.0) c.run.new.hub ok.1 (answers_lead old ok.0 c.run.new.hub ok.1 c.in-Ok._counts ok.5) in
     let front : take c.len-from.result c.run.new.hub ≡ old = ap (λ n. take n c.run.new.hub) c.len-from.ensures.value ∙ (ap (take (length old)) more.1 ∙ take-append_seam old more.0) in
     record {
       on_disk = c.requires.on_disk;
@@ -21,14 +21,14 @@ note_from-requires-clause-noted g c =
     }
 
 -- the history grows, wherever it ends
-pub returns-in_err-run-clause-grows : goal.returns-in_err-run-clause-grows
-returns-in_err-run-clause-grows g c =
-    let e = c.in_err-run.ensures.err in
+pub returns-in_default-clause-grows : goal.returns-in_default-clause-grows
+returns-in_default-clause-grows g c =
+    let e = c.in_default.ensures.err in
     stopped_goes_on c.args.self.now.hub (parsed_lines e.0) e.1 c.run.new.hub e.4
 
 pub returns-clause-grows : goal.returns-clause-grows
 returns-clause-grows g c =
     let old = c.args.self.now.hub in
-    let ok = c.in_ok-run.ensures.ok in
-    let more = history_goes_on old (parsed_lines ok.0) c.run.new.hub ok.1 (answers_lead old ok.0 c.run.new.hub ok.1 c.in_ok-run.field-0 ok.5) in
+    let ok = c.in-Ok.ensures.ok in
+    let more = history_goes_on old (parsed_lines ok.0) c.run.new.hub ok.1 (answers_lead old ok.0 c.run.new.hub ok.1 c.in-Ok._counts ok.5) in
     (more.0, c.note_from.ensures.history ∙ more.1)
