@@ -32,6 +32,7 @@ pub(crate) fn end_of<H>(rt: &H, line: &str, input: &str) -> Result<Ended, Fail>
 where
     H: Files<File = File> + Net + Threads + Wait + Sync + RandomSource + AllocGlobal,
     H::Stream: Send,
+    H::Listener: Send,
 {
     let arguments = arguments(rt.alloc(), line)?;
     let mut output = Vec::new(rt.alloc());

@@ -204,6 +204,7 @@ fn end_at<H>(rt: &H, words: &str, path: &str, input: &str) -> Result<Ended, Fail
 where
     H: Files<File = File> + Net + Threads + Wait + Sync + RandomSource + AllocGlobal,
     H::Stream: Send,
+    H::Listener: Send,
 {
     let line = joined(rt.alloc(), &[words, path])?;
     end_of(rt, line.as_str(), input)
@@ -225,6 +226,7 @@ fn does<H>(rt: &H, case: &Case, path: &str, copy: &str) -> Result<bool, Fail>
 where
     H: Files<File = File> + Net + Threads + Wait + Sync + RandomSource + AllocGlobal,
     H::Stream: Send,
+    H::Listener: Send,
 {
     let alloc = rt.alloc();
     if !case.before.is_empty() {
@@ -311,6 +313,7 @@ fn is_busy<H>(rt: &H, path: &str) -> Result<bool, Fail>
 where
     H: Files<File = File> + Net + Threads + Wait + Sync + RandomSource + AllocGlobal,
     H::Stream: Send,
+    H::Listener: Send,
 {
     let input = joined(rt.alloc(), &[RELEASE, FETCH])?;
     let first = end_at(rt, REPLAY, path, input.as_str())?;
@@ -338,6 +341,7 @@ fn is_kept<H>(rt: &H, path: &str) -> Result<bool, Fail>
 where
     H: Files<File = File> + Net + Threads + Wait + Sync + RandomSource + AllocGlobal,
     H::Stream: Send,
+    H::Listener: Send,
 {
     let line = joined(rt.alloc(), &[REPLAY, path])?;
     let arguments = arguments(rt.alloc(), line.as_str())?;

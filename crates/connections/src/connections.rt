@@ -1,61 +1,152 @@
-//! Connections accepted, and their two ends.
-ghost use Rattle.std.specs.Prelude.{◌≡◌, vec_len, IfOk};
+//! The two ends of connections that are accepted as their sessions begin.
+ghost use Rattle.std.specs.Prelude.{◌≡◌, length, vec_len, IfOk};
 
-use crate::fault::AcceptFault;
+use crate::acceptor::Acceptor;
 use crate::guard::RequestGuard;
 use std::alloc::Global;
+use std::io;
 use std::io::{ErrorKind, Read, Write};
 use std::net::{OpenListener, OpenStream};
-use std::sync::Wait;
-use taf_codes::Std;
+use std::sync::{Mutex, Wait};
+use taf_codes::{Memory, Std};
 
 /// A session's reader and writer, the two ends of its connection. The reader gives nothing where a request of HTTP comes first.
-pub type Ends<T> = (RequestGuard<Std<T>>, Std<T>);
+pub type Ends<'a, L, R> = (
+    RequestGuard<Std<ConnectionReader<'a, L, R>>>,
+    Std<ConnectionWriter<'a, L, R>>,
+);
 
-/// Accepts so many connections, in the order in which they come, and waits for each.
-///
-/// The fault is [`AcceptFault::Socket`] where a connection could not be accepted or its two ends not be had, and
-/// [`AcceptFault::Memory`] where memory was refused.
-pub fn accept_all<L: OpenListener>(
-    rt: &impl Wait,
-    alloc: Global,
-    listener: &L,
-    count: usize,
-) -> Result<Vec<Ends<L::Stream>>, AcceptFault>
+/// Where the reader of a session leaves the other end of its connection for the writer.
+#[derive(Drop)]
+pub struct OtherEnd<T> {
+    stream: Mutex<Option<T>>,
+}
+
+impl<T: OpenStream + Drop> OtherEnd<T> {
+    fn new() -> OtherEnd<T> {
+        OtherEnd {
+            stream: Mutex::new(None),
+        }
+    }
+
+    // Leaves the other end of this connection. An answer is sent on at once: Nagle's delay is off.
+    fn leave<R: Wait>(&self, rt: &R, stream: &T) -> io::Result<()> {
+        // A connection that was broken meanwhile is a session all the same, which ends at once.
+        let _ = stream.set_nodelay(true);
+        let other = stream.try_clone()?;
+        *self.stream.lock(rt) = Some(other);
+        Ok(())
+    }
+
+    fn take<R: Wait>(&self, rt: &R) -> Option<T> {
+        self.stream.lock(rt).take()
+    }
+}
+
+/// Reads from the connection of a session. Its first read accepts it: it waits for the sessions before, and for the client.
+#[derive(Drop)]
+pub struct ConnectionReader<'a, L: OpenListener, R> {
+    rt: &'a R,
+    acceptor: &'a Acceptor<L>,
+    session: u64,
+    other_end: &'a OtherEnd<L::Stream>,
+    stream: Option<L::Stream>,
+}
+
+impl<'a, L: OpenListener + Drop, R: Wait> Read for ConnectionReader<'a, L, R>
 where
-    L::Stream: Read + Write + OpenStream + Drop,
+    L::Stream: Read + OpenStream,
+{
+    fn read(&mut self, buf: &mut [u8]) -> io::Result<usize> {
+        if self.stream.is_none() {
+            let stream = self.acceptor.accept(self.rt, self.session)?;
+            self.other_end.leave(self.rt, &stream)?;
+            self.stream = Some(stream);
+        }
+        match self.stream.as_mut() {
+            Some(stream) => stream.read(buf),
+            None => Err(io::Error::from(ErrorKind::NotConnected)),
+        }
+    }
+}
+
+/// Writes to the connection of a session, once its reader has accepted it.
+#[derive(Drop)]
+pub struct ConnectionWriter<'a, L: OpenListener, R> {
+    rt: &'a R,
+    other_end: &'a OtherEnd<L::Stream>,
+    stream: Option<L::Stream>,
+}
+
+impl<'a, L: OpenListener, R: Wait> Write for ConnectionWriter<'a, L, R>
+where
+    L::Stream: Write + OpenStream,
+{
+    fn write(&mut self, buf: &[u8]) -> io::Result<usize> {
+        if self.stream.is_none() {
+            self.stream = self.other_end.take(self.rt);
+        }
+        match self.stream.as_mut() {
+            Some(stream) => stream.write(buf),
+            None => Err(io::Error::from(ErrorKind::NotConnected)),
+        }
+    }
+
+    fn flush(&mut self) -> io::Result<()> {
+        match self.stream.as_mut() {
+            Some(stream) => stream.flush(),
+            None => Ok(()),
+        }
+    }
+}
+
+/// A place for the other end of each of so many connections.
+pub fn other_ends<T: OpenStream + Drop>(
+    alloc: Global,
+    count: usize,
+) -> Result<Vec<OtherEnd<T>>, Memory>
     ensures { IfOk result (λ v. vec_len v ≡ count) }
 {
-    let mut connections = Vec::new(alloc);
-    for _accepted in 0..count {
-        let ends = both_ends(accept(rt, listener)?)?;
-        if connections.push(ends).is_err() {
-            return Err(AcceptFault::Memory);
+    let mut ends = Vec::new(alloc);
+    for _made in 0..count {
+        if ends.push(OtherEnd::new()).is_err() {
+            return Err(Memory);
         }
     }
-    Ok(connections)
+    Ok(ends)
 }
 
-// The next connection. One that was taken back before it was accepted is passed over.
-fn accept<L: OpenListener>(rt: &impl Wait, listener: &L) -> Result<L::Stream, AcceptFault> {
-    for _ in rt.forever() {
-        match listener.accept() {
-            Ok((stream, _)) => return Ok(stream),
-            Err(error) => match error.kind() {
-                ErrorKind::ConnectionAborted | ErrorKind::Interrupted => {}
-                _ => return Err(AcceptFault::Socket),
-            },
+/// The readers and writers of sessions whose connections the acceptor will accept, one session for each other end.
+pub fn ends_of<'a, L, R>(
+    rt: &'a R,
+    alloc: Global,
+    acceptor: &'a Acceptor<L>,
+    other_ends: &'a [OtherEnd<L::Stream>],
+) -> Result<Vec<Ends<'a, L, R>>, Memory>
+where
+    L: OpenListener + Drop,
+    L::Stream: Read + Write + OpenStream,
+    R: Wait,
+    ensures { IfOk result (λ v. vec_len v ≡ length other_ends.now) }
+{
+    let mut ends = Vec::new(alloc);
+    for (session, other_end) in other_ends.iter().enumerate() {
+        let reader = ConnectionReader {
+            rt,
+            acceptor,
+            session: session as u64,
+            other_end,
+            stream: None,
+        };
+        let writer = ConnectionWriter {
+            rt,
+            other_end,
+            stream: None,
+        };
+        let both = (RequestGuard::new(Std::new(reader)), Std::new(writer));
+        if ends.push(both).is_err() {
+            return Err(Memory);
         }
     }
-    unreachable!()
-}
-
-// What reads from a connection and what writes to it. An answer is sent on at once: Nagle's delay is off.
-fn both_ends<T: Read + Write + OpenStream + Drop>(stream: T) -> Result<Ends<T>, AcceptFault> {
-    // A connection that was broken meanwhile is a session all the same, which ends at once.
-    let _ = stream.set_nodelay(true);
-    match stream.try_clone() {
-        Ok(reader) => Ok((RequestGuard::new(Std::new(reader)), Std::new(stream))),
-        Err(_) => Err(AcceptFault::Socket),
-    }
+    Ok(ends)
 }

@@ -22,6 +22,7 @@ pub fn perform<H, R, W, E>(rt: &H, arguments: &[String], input: R, output: W, er
 where
     H: Files<File = File> + Net + Threads + Wait + Sync + RandomSource + AllocGlobal,
     H::Stream: Send,
+    H::Listener: Send,
     R: Read + Drop,
     W: Write + Drop,
     E: Write,
@@ -58,10 +59,10 @@ where
 }
 
 /// Serves one shift over the connections of a listener, as the command `serve` does on its port, and gives the status. It listens
-/// until all connections of the shift are there.
+/// until each session of the shift has its connection.
 pub fn serve_on<L, H, W, E>(rt: &H, listener: L, size: ShiftSize, output: W, errors: &mut E) -> u8
 where
-    L: OpenListener + Drop,
+    L: OpenListener + Send + Drop,
     L::Stream: Read + Write + OpenStream + Send + Drop,
     H: Threads + Wait + Sync + RandomSource + AllocGlobal,
     W: Write + Drop,
@@ -84,7 +85,7 @@ pub fn serve_journaled_on<F, L, H, W, E>(
 ) -> u8
 where
     F: RawFile + Send + Drop,
-    L: OpenListener + Drop,
+    L: OpenListener + Send + Drop,
     L::Stream: Read + Write + OpenStream + Send + Drop,
     H: Threads + Wait + Sync + RandomSource + AllocGlobal,
     W: Write + Drop,

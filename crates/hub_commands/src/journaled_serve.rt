@@ -45,6 +45,7 @@ pub fn perform<R, W, E>(
 where
     R: Files<File = File> + Net + Threads + Wait + Sync + RandomSource + AllocGlobal,
     R::Stream: Send,
+    R::Listener: Send,
     W: Write + Drop,
     E: Write,
 {
@@ -67,7 +68,7 @@ pub(crate) fn serve_journaled<F, L, R, W, E>(
 ) -> Result<u8, Fault>
 where
     F: RawFile + Send + Drop,
-    L: OpenListener + Drop,
+    L: OpenListener + Send + Drop,
     L::Stream: Read + Write + OpenStream + Send + Drop,
     R: Threads + Wait + Sync + RandomSource + AllocGlobal,
     W: Write + Drop,

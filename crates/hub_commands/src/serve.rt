@@ -21,6 +21,7 @@ pub fn perform<R, W, E>(
 where
     R: Net + Threads + Wait + Sync + RandomSource + AllocGlobal,
     R::Stream: Send,
+    R::Listener: Send,
     W: Write + Drop,
     E: Write,
 {
@@ -55,7 +56,7 @@ pub(crate) fn serve<L, R, W, E>(
     errors: &mut E,
 ) -> Result<u8, Fault>
 where
-    L: OpenListener + Drop,
+    L: OpenListener + Send + Drop,
     L::Stream: Read + Write + OpenStream + Send + Drop,
     R: Threads + Wait + Sync + RandomSource + AllocGlobal,
     W: Write + Drop,

@@ -50,7 +50,6 @@ fault_of_run of_run.NoEnd = NoEnd
 fault_of_run of_run.Memory = Memory
 
 abbrev pub fault_of_server : ServerFault → Fault
-fault_of_server of_server.Socket = Socket
 fault_of_server of_server.Thread = Thread
 fault_of_server of_server.Memory = Memory
 fault_of_server (of_server.NotSettled why) = NotSettled

@@ -123,7 +123,6 @@ impl From<ServerFault> for Fault {
 
     fn from(fault: ServerFault) -> Fault {
         match fault {
-            ServerFault::Socket => Fault::Socket,
             ServerFault::Thread => Fault::Thread,
             ServerFault::Memory => Fault::Memory,
             ServerFault::NotSettled(_) => Fault::NotSettled,

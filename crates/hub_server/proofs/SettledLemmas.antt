@@ -1,8 +1,6 @@
 -- A shift that settled, and one that did not.
 use Rattle.std.proofs.Common.{◌∙◌, ◌≡◌, ◌+◌, ◌≤◌, ℕ, List, length, map, ap, subst, arith}
 use Rattle.std.proofs.lemmas.List.{length-map}
-use Rattle.connections.specs.declared.fault.AcceptFault.{AcceptFault}
-use Rattle.connections.specs.declared.fault.AcceptFault.TheVariants as of_accepting
 use Rattle.session_lanes.specs.Ends.{Streams}
 use Rattle.hub_shared.specs.declared.settling.SettleFault.{SettleFault}
 use Rattle.hub_shared.specs.declared.settling.SettleFault.TheVariants as of_settling
@@ -14,8 +12,8 @@ use Rattle.hub_shifts.specs.Shifts.{IsShift}
 use Rattle.hub_shifts.proofs.OrderLemmas.{lanes_in_order}
 use Rattle.hub_shifts.proofs.TellingLemmas.{in_order}
 use Rattle.hub_server.specs.declared.fault.ServerFault.{ServerFault}
-use Rattle.hub_server.specs.declared.fault.ServerFault.TheVariants.{NotSettled}
-use Rattle.hub_server.specs.Faults.{fault_of_accepting, fault_of_shift, fault_of_settling}
+use Rattle.hub_server.specs.declared.fault.ServerFault.TheVariants.{NotSettled, Memory}
+use Rattle.hub_server.specs.Faults.{fault_of_shift, fault_of_settling}
 use Rattle.hub_server.specs.Settled.{IsSettledShift, IsUnsettledShift}
 
 -- a shift of these sessions, whose tallies settled
@@ -61,9 +59,8 @@ unsettled streams_of ends given sessions workers s f why many same shift told sh
   shows = subst (λ (f : SettleFault). IsSettleFault f s.hub s.earlier s.tallies.items) (why_is f why is) shows;
 }
 
-pub no_shift : (f : AcceptFault) (why : SettleFault) → fault_of_accepting f ≡ NotSettled why → ⊥
-no_shift of_accepting.Socket why is = cc is
-no_shift of_accepting.Memory why is = cc is
+pub no_shift : (why : SettleFault) → Memory ≡ NotSettled why → ⊥
+no_shift why is = cc is
 
 pub no_end : (f : ShiftFault) (why : SettleFault) → fault_of_shift f ≡ NotSettled why → ⊥
 no_end of_shift.Thread why is = cc is

@@ -1,16 +1,10 @@
 -- The faults of the server.
-use Rattle.connections.specs.declared.fault.AcceptFault.{AcceptFault}
-use Rattle.connections.specs.declared.fault.AcceptFault.TheVariants as of_accepting
 use Rattle.hub_shared.specs.declared.settling.SettleFault.{SettleFault}
 use Rattle.hub_shared.specs.declared.settling.SettleFault.TheVariants as of_settling
 use Rattle.hub_shifts.specs.declared.shift.ShiftFault.{ShiftFault}
 use Rattle.hub_shifts.specs.declared.shift.ShiftFault.TheVariants as of_shift
 use Rattle.hub_server.specs.declared.fault.ServerFault.{ServerFault}
-use Rattle.hub_server.specs.declared.fault.ServerFault.TheVariants.{Socket, Thread, Memory, NotSettled}
-
-abbrev pub fault_of_accepting : AcceptFault → ServerFault
-fault_of_accepting of_accepting.Socket = Socket
-fault_of_accepting of_accepting.Memory = Memory
+use Rattle.hub_server.specs.declared.fault.ServerFault.TheVariants.{Thread, Memory, NotSettled}
 
 abbrev pub fault_of_shift : ShiftFault → ServerFault
 fault_of_shift of_shift.Thread = Thread

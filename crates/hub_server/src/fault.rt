@@ -1,19 +1,16 @@
 //! Why there is no settled shift.
 ghost use Rattle.std.specs.Prelude.{◌≡◌};
-ghost use Rattle.hub_server.specs.Faults.{fault_of_accepting, fault_of_shift, fault_of_settling};
+ghost use Rattle.hub_server.specs.Faults.{fault_of_shift, fault_of_settling};
 ghost use Rattle.hub_server.specs.declared.fault.ServerFault.TheVariants as faults;
 
-use connections::AcceptFault;
 use hub_shared::SettleFault;
 use hub_shifts::ShiftFault;
+use taf_codes::Memory;
 use thiserror::Error;
 
 /// Why the connections of a listener came to no settled shift.
 #[derive(Clone, Copy, Debug, PartialEq, Eq, Error)]
 pub enum ServerFault {
-    /// A connection could not be accepted, or not be had twice, to read and to write.
-    #[error("a connection could not be accepted")]
-    Socket,
     #[error("a thread could not be started")]
     Thread,
     #[error("memory was refused")]
@@ -26,14 +23,11 @@ pub enum ServerFault {
     Journal,
 }
 
-impl From<AcceptFault> for ServerFault {
-    ghost from_gives = { λ accepting fault. fault ≡ fault_of_accepting accepting };
+impl From<Memory> for ServerFault {
+    ghost from_gives = { λ _ fault. fault ≡ faults.Memory };
 
-    fn from(fault: AcceptFault) -> ServerFault {
-        match fault {
-            AcceptFault::Socket => ServerFault::Socket,
-            AcceptFault::Memory => ServerFault::Memory,
-        }
+    fn from(_: Memory) -> ServerFault {
+        ServerFault::Memory
     }
 }
 

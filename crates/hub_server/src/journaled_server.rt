@@ -7,7 +7,7 @@ ghost use Rattle.hub_shared.specs.declared.settling.SettleFault.{SettleFault};
 ghost use Rattle.hub_server.specs.Settled.{IsSettledShift, IsUnsettledShift};
 
 use crate::fault::ServerFault;
-use connections::accept_all;
+use connections::{Acceptor, ends_of, other_ends};
 use hub_shifts::{JournaledShift, SettledShift, run_journaled_shift, settle_shift};
 use journal::{Journal, RawFile};
 use journaled_hub::JournaledHub;
@@ -26,8 +26,8 @@ pub struct SettledJournaledShift<F> {
     pub journal: Journal<F>,
 }
 
-/// Accepts as many connections as the size has sessions, serves them all on the hub of a journal, by one worker, and settles the
-/// calls since. An answer is written once its call is in the journal, on the disk.
+/// Accepts a connection for each session of the size, serves each on the hub of a journal, by one worker, and settles the calls
+/// since. An answer is written once its call is in the journal, on the disk.
 ///
 /// It waits for clients, and ends sessions, as [`crate::serve_connections`] does. The answer is [`ServerFault::Journal`] where a
 /// call of the journal's file failed: what was answered is in the journal, nothing was answered since, and nothing is settled.
@@ -40,7 +40,7 @@ pub fn serve_journaled_connections<F, L, R>(
 ) -> Result<SettledJournaledShift<F>, ServerFault>
 where
     F: RawFile + Send + Drop,
-    L: OpenListener + Drop,
+    L: OpenListener + Send + Drop,
     R: Threads + Wait + Sync + RandomSource,
     L::Stream: Read + Write + OpenStream + Send + Drop,
     requires { IsOnDisk hub }
@@ -53,9 +53,9 @@ where
     ensures not_settled { IfErr result (λ f. (why : SettleFault)
         → f ≡ ServerFault.NotSettled why → IsUnsettledShift size.sessions 1 why) }
 {
-    let connections = accept_all(rt, alloc, &listener, size.sessions())?;
-    // Who comes now is refused at once, and does not wait for an answer that never comes.
-    drop(listener);
+    let other_ends = other_ends(alloc, size.sessions())?;
+    let acceptor = Acceptor::new(listener, size.sessions());
+    let connections = ends_of(rt, alloc, &acceptor, other_ends.as_slice())?;
     let JournaledShift { shift, journal } = run_journaled_shift(rt, alloc, connections, hub)?;
     if journal.has_failed() {
         return Err(ServerFault::Journal);

@@ -1,8 +1,8 @@
 //! The server: a shift over connections.
 //!
-//! [`serve_connections`] has as many connections accepted as the shift has sessions, one after another (`connections`). Each is
-//! a session: its lines come by the connection, and their answers go out by it. All of them are served by one shift, with as many
-//! workers as its size says; then the tallies of the sessions are settled against the hub's history.
+//! [`serve_connections`] has a connection accepted for each session of the shift, as the session begins (`connections`): its lines
+//! come by the connection, and their answers go out by it. All of them are served by one shift, with as many workers as its size
+//! says; then the tallies of the sessions are settled against the hub's history.
 //! [`serve_journaled_connections`] serves them on the hub of a journal, by one worker, and settles the calls since.
 //!
 //! # What is promised

@@ -4,7 +4,7 @@ ghost use Rattle.hub_shared.specs.declared.settling.SettleFault.{SettleFault};
 ghost use Rattle.hub_server.specs.Settled.{IsSettledShift, IsUnsettledShift};
 
 use crate::fault::ServerFault;
-use connections::accept_all;
+use connections::{Acceptor, ends_of, other_ends};
 use hub_shifts::{OpenGate, SettledShift, run_shift, settle_shift};
 use shift_size::ShiftSize;
 use std::alloc::Global;
@@ -14,12 +14,12 @@ use std::random::RandomSource;
 use std::sync::Wait;
 use std::thread::Threads;
 
-/// Accepts as many connections as the shift has sessions, serves them all, and settles.
+/// Accepts a connection for each session of the shift, serves each as soon as it is there, and settles.
 ///
 /// It waits for each client, before it connects and while it is connected. A connection that is reset, silent, slow or sends
-/// noise is a session that ends or is answered by fault lines; the others are served all the same. The answer is
-/// [`ServerFault::Socket`] where a connection could not be accepted, and [`ServerFault::NotSettled`] only where there was a shift
-/// whose tallies do not tell its history; what else it is says [`ServerFault`].
+/// noise is a session that ends or is answered by fault lines, and one that could not be accepted is a session whose reader failed;
+/// the others are served all the same. The answer is [`ServerFault::NotSettled`] only where there was a shift whose tallies do not
+/// tell its history; what else it is says [`ServerFault`].
 pub fn serve_connections<L, R>(
     rt: &R,
     alloc: Global,
@@ -27,7 +27,7 @@ pub fn serve_connections<L, R>(
     size: ShiftSize,
 ) -> Result<SettledShift, ServerFault>
 where
-    L: OpenListener + Drop,
+    L: OpenListener + Send + Drop,
     R: Threads + Wait + Sync + RandomSource,
     L::Stream: Read + Write + OpenStream + Send + Drop,
     ensures settled { IfOk result
@@ -35,9 +35,9 @@ where
     ensures not_settled { IfErr result (λ f. (why : SettleFault)
         → f ≡ ServerFault.NotSettled why → IsUnsettledShift size.sessions size.workers why) }
 {
-    let connections = accept_all(rt, alloc, &listener, size.sessions())?;
-    // Who comes now is refused at once, and does not wait for an answer that never comes.
-    drop(listener);
+    let other_ends = other_ends(alloc, size.sessions())?;
+    let acceptor = Acceptor::new(listener, size.sessions());
+    let connections = ends_of(rt, alloc, &acceptor, other_ends.as_slice())?;
     let shift = run_shift(rt, alloc, &OpenGate, connections, size.workers())?;
     let settled = settle_shift(alloc, shift)?;
     Ok(settled)
