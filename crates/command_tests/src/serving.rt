@@ -106,8 +106,33 @@ fn a_taken_port_is_a_fault(rt: HostRuntime) -> Result<(), Fail> {
     Ok(())
 }
 
-// The status of a shift of three railways of which so many connect, on a listener that then waits for no other.
-fn status_of_some<H>(rt: &H, listener: TcpListener, connected: usize) -> Result<u8, Fail>
+// One railway after the other: the first has all its answers before the second is there.
+#[test]
+fn a_railway_is_served_before_the_next_comes(rt: HostRuntime) -> Result<(), Fail> {
+    let alloc = rt.alloc();
+    let first = Script::of(alloc, &[FIRST_HELLO, test_scripts::FIRST])?;
+    let second = Script::of(alloc, &[SECOND_HELLO, test_scripts::SECOND])?;
+    let listener = TcpListener::bind(&rt, (Ipv4Addr::LOCALHOST, 0))?;
+    let address = listener.local_addr()?;
+    let Some(size) = ShiftSize::new(2, 2) else {
+        return Err(Fail::new("no size"));
+    };
+    let mut output = Vec::new(alloc);
+    let mut errors = Vec::new(alloc);
+    let (answered, status) = thread::join(
+        &rt,
+        || {
+            is_answered(&rt, alloc, address, &first) && is_answered(&rt, alloc, address, &second)
+        },
+        || serve_on(&rt, listener, size, &mut output, &mut errors),
+    );
+    assert!(rt; answered && status == 0 && errors.is_empty());
+    assert!(rt; output.as_slice() == PRINTED[0].as_bytes());
+    Ok(())
+}
+
+// What a shift of three railways reports of which so many connect, say nothing and end, on a listener that then waits for no other.
+fn reported_of_some<H>(rt: &H, listener: TcpListener, connected: usize) -> Result<Vec<u8>, Fail>
 where
     H: Net + Threads + Wait + Sync + RandomSource + AllocGlobal,
 {
@@ -116,20 +141,42 @@ where
     };
     let mut clients = Vec::new(rt.alloc());
     for _ in 0..connected {
-        clients.push(TcpStream::connect(rt, listener.local_addr()?)?)?;
+        let client = TcpStream::connect(rt, listener.local_addr()?)?;
+        client.shutdown(Shutdown::Write)?;
+        clients.push(client)?;
     }
     listener.set_nonblocking(true)?;
-    let (output, mut errors) = (Vec::new(rt.alloc()), Vec::new(rt.alloc()));
-    Ok(serve_on(rt, listener, size, output, &mut errors))
+    let (mut output, mut errors) = (Vec::new(rt.alloc()), Vec::new(rt.alloc()));
+    if serve_on(rt, listener, size, &mut output, &mut errors) != 0 {
+        return Err(Fail::new("another status"));
+    }
+    if output.as_slice() != b"settled 0\nwagons 0\n" {
+        return Err(Fail::new("another output"));
+    }
+    Ok(errors)
 }
 
-// Each accept fails in turn.
+// What is reported where none, one or two of three connect.
+static FAILED: [&str; 3] = [
+    "session 0: the reader failed
+session 1: the reader failed
+session 2: the reader failed
+",
+    "session 1: the reader failed
+session 2: the reader failed
+",
+    "session 2: the reader failed
+",
+];
+
+// Each session whose connection cannot be accepted ends by itself, and no other.
 #[test]
-fn an_accept_that_fails_is_a_fault(rt: HostRuntime) -> Result<(), Fail> {
+fn an_accept_that_fails_ends_its_session(rt: HostRuntime) -> Result<(), Fail> {
     for connected in 0..3usize {
         let listener = TcpListener::bind(&rt, (Ipv4Addr::LOCALHOST, 0))?;
+        let reported = reported_of_some(&rt, listener, connected)?;
         assert!(rt;
-            status_of_some(&rt, listener, connected)? == 5,
+            reported.as_slice() == FAILED[connected].as_bytes(),
             "at {connected}"
         );
     }
