@@ -32,3 +32,10 @@ returns-clause-grows g c =
     let ok = c.in-Ok.ensures.ok in
     let more = history_goes_on old (parsed_lines ok.0) c.run.new.hub ok.1 (answers_lead old ok.0 c.run.new.hub ok.1 c.in-Ok._counts ok.5) in
     (more.0, c.note_from.ensures.history ∙ more.1)
+
+pub returns-in_err-note_from-clause-grows : goal.returns-in_err-note_from-clause-grows
+returns-in_err-note_from-clause-grows g c =
+    let old = c.args.self.now.hub in
+    let ok = c.in-Ok.ensures.ok in
+    let more = history_goes_on old (parsed_lines ok.0) c.run.new.hub ok.1 (answers_lead old ok.0 c.run.new.hub ok.1 c.in-Ok._counts ok.5) in
+    (more.0, c.note_from.ensures.history ∙ more.1)
