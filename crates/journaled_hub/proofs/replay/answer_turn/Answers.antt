@@ -32,6 +32,11 @@ returns-in_default-clause-crash g c =
     let made = c.answer_lines.ensures in
     gone_by_batch c.args.hub.now c.answer_lines.new.self c.sync.new.self made.grows.0 c.requires made.journal made.grows.1 c.sync.ensures.history c.sync.ensures.any_moment
 
+pub returns-in-Ok-write_and_flush-clause-crash : goal.returns-in-Ok-write_and_flush-clause-crash
+returns-in-Ok-write_and_flush-clause-crash g c =
+    let made = c.answer_lines.ensures in
+    gone_by_batch c.args.hub.now c.answer_lines.new.self c.sync.new.self made.grows.0 c.requires made.journal made.grows.1 c.sync.ensures.history c.sync.ensures.any_moment
+
 pub returns-clause-crash : goal.returns-clause-crash
 returns-clause-crash g c =
     let made = c.answer_lines.ensures in
