@@ -11,11 +11,11 @@ returns-clause-settled g c =
     let ends = c.in_ok-connections.connections in
     let many : length ends.items ≡ c.args.size.sessions = sym ends.ok.0 ∙ (c.in_ok-connections.ensures ∙ (c.as_slice.ensures.len ∙ (c.in_ok-other_ends.ensures ∙ c.sessions.ensures))) in
     subst (λ (s : Shift). IsSettledShift c.args.size.sessions 1 s c.in_ok-settled.settled.calls) (sym c.in_ok-settled.ensures.same)
-    (settled _ ends.items 1 c.args.size.sessions 1 _ _ many refl (omega arith) c.in_ok-run_journaled_shift.ensures.shift c.in_ok-settled.ensures.ok c.in_ok-settled.ensures.calls)
+    (settled _ ends.items 1 c.args.size.sessions 1 _ _ many refl (omega arith) c.in_ok-shift.ensures.shift c.in_ok-settled.ensures.ok c.in_ok-settled.ensures.calls)
 
 pub returns-clause-durable : goal.returns-clause-durable
 returns-clause-durable g c =
-    c.in_ok-run_journaled_shift.ensures.on_disk c.has_failed.false ∙ ap (λ (s : Shift). lines_of_history s.hub) (sym c.in_ok-settled.ensures.same)
+    c.in_ok-shift.ensures.on_disk (sym c.has_failed.ensures ∙ c.if-has_failed.false) ∙ ap (λ (s : Shift). lines_of_history s.hub) (sym c.in_ok-settled.ensures.same)
 
 pub returns-in_err-other_ends-clause-not_settled : goal.returns-in_err-other_ends-clause-not_settled
 returns-in_err-other_ends-clause-not_settled g c =
@@ -27,9 +27,9 @@ returns-in_err-connections-clause-not_settled g c =
     let p = err_from_is_err_and c.from_residual-in_err-connections.result c.from_residual-in_err-connections.ensures.1 in
     rw (p.1, p.2) (λ why is. absurd (no_shift why is))
 
-pub returns-in_err-run_journaled_shift-clause-not_settled : goal.returns-in_err-run_journaled_shift-clause-not_settled
-returns-in_err-run_journaled_shift-clause-not_settled g c =
-    let p = err_from_is_err_and c.from_residual-in_err-run_journaled_shift.result c.from_residual-in_err-run_journaled_shift.ensures.1 in
+pub returns-in_err-shift-clause-not_settled : goal.returns-in_err-shift-clause-not_settled
+returns-in_err-shift-clause-not_settled g c =
+    let p = err_from_is_err_and c.from_residual-in_err-shift.result c.from_residual-in_err-shift.ensures.1 in
     rw (p.1, p.2) (λ why is. absurd (no_end _ why is))
 
 pub returns-in_err-settled-clause-not_settled : goal.returns-in_err-settled-clause-not_settled
@@ -37,7 +37,7 @@ returns-in_err-settled-clause-not_settled g c =
     let ends = c.in_ok-connections.connections in
     let many : length ends.items ≡ c.args.size.sessions = sym ends.ok.0 ∙ (c.in_ok-connections.ensures ∙ (c.as_slice.ensures.len ∙ (c.in_ok-other_ends.ensures ∙ c.sessions.ensures))) in
     let p = err_from_is_err_and c.from_residual-in_err-settled.result c.from_residual-in_err-settled.ensures.1 in
-    rw (p.1, p.2) (λ why is. unsettled _ ends.items 1 c.args.size.sessions 1 _ _ why many refl c.in_ok-run_journaled_shift.ensures.shift c.in_err-settled.ensures.told c.in_err-settled.ensures.err is)
+    rw (p.1, p.2) (λ why is. unsettled _ ends.items 1 c.args.size.sessions 1 _ _ why many refl c.in_ok-shift.ensures.shift c.in_err-settled.ensures.told c.in_err-settled.ensures.err is)
 
-pub settle_shift-settled-requires : goal.settle_shift-settled-requires
-settle_shift-settled-requires g c = fits _ _ _ c.in_ok-run_journaled_shift.ensures.shift
+pub settle_shift-requires : goal.settle_shift-requires
+settle_shift-requires g c = record { within = fits _ _ _ c.in_ok-shift.ensures.shift }
