@@ -13,38 +13,30 @@ pub(crate) const OWNER_ONLY: u32 = 0o600;
 /// A file has at most so many copies beside it.
 const MAX_COPIES: u32 = 999;
 
-/// Copies what is behind `start` bytes of the file into a new file, `PATH.cut-1` or the first number that is free, and syncs it.
-pub(crate) fn keep_end<R: Files<File = File>>(
-    rt: &R,
-    alloc: Global,
-    path: &str,
-    file: &File,
-    start: usize,
-) -> io::Result<()> {
-    let mut copy = new_copy(rt, alloc, path)?;
-    copy_end(file, &mut copy, start)?;
-    copy.sync_all()?;
-    sync_folder(rt, path)
+/// A new file for what a cut drops, and its path.
+#[derive(Drop)]
+pub(crate) struct NewCopy {
+    pub(crate) name: String,
+    pub(crate) file: File,
 }
 
-/// The path of the copy that is made next, as long as no other is made.
-pub(crate) fn next_copy<R: Files>(rt: &R, alloc: Global, path: &str) -> io::Result<String> {
-    for number in 1..=MAX_COPIES {
-        let name = copy_name(alloc, path, number)?;
-        match fs::symlink_metadata(rt, name.as_str()) {
-            Ok(_) => {}
-            Err(error) if error.kind() == io::ErrorKind::NotFound => return Ok(name),
-            Err(error) => return Err(error),
-        }
-    }
-    Err(io::ErrorKind::AlreadyExists.into())
+/// Copies what is behind `start` bytes of the file into the copy, and syncs it.
+pub(crate) fn keep_end(file: &File, copy: File, start: usize) -> io::Result<()> {
+    let mut copy = copy;
+    copy_end(file, &mut copy, start)?;
+    copy.sync_all()
 }
 
 fn copy_name(alloc: Global, path: &str, number: u32) -> io::Result<String> {
     Ok(format!(in alloc; "{path}.cut-{number}")?)
 }
 
-fn new_copy<R: Files<File = File>>(rt: &R, alloc: Global, path: &str) -> io::Result<File> {
+/// A new file beside that of this path: `PATH.cut-1`, or the first number that is free.
+pub(crate) fn new_copy<R: Files<File = File>>(
+    rt: &R,
+    alloc: Global,
+    path: &str,
+) -> io::Result<NewCopy> {
     for number in 1..=MAX_COPIES {
         let name = copy_name(alloc, path, number)?;
         let opened = OpenOptions::new()
@@ -53,7 +45,7 @@ fn new_copy<R: Files<File = File>>(rt: &R, alloc: Global, path: &str) -> io::Res
             .mode(OWNER_ONLY)
             .open(rt, name.as_str());
         match opened {
-            Ok(copy) => return Ok(copy),
+            Ok(file) => return Ok(NewCopy { name, file }),
             Err(error) if error.kind() == io::ErrorKind::AlreadyExists => {}
             Err(error) => return Err(error),
         }

@@ -24,5 +24,5 @@ mod disk;
 mod fault;
 mod kept_end;
 
-pub use disk::{DiskFile, OpenedFile, open};
+pub use disk::{DiskFile, OpenedFile, open, read_all};
 pub use fault::OpenFault;

@@ -1,13 +1,13 @@
 //! `check`: a journal is read, and nothing is written to it.
 use crate::journal_file::{NO_JOURNAL, may_be_journal, report_file, torn_len};
-use disk_file::OpenFault as FileFault;
+use disk_file::{OpenFault as FileFault, read_all};
 use hub_faults::Fault;
 use journal::{Failed, RawFile};
 use journaled_hub::{JournaledHub, OpenFault};
 use seeded_state::SeededState;
 use std::alloc::Global;
 use std::fs;
-use std::io::{ErrorKind, Read, Write};
+use std::io::Write;
 use std::mem::forget;
 use std::random::RandomSource;
 use std::rt::Files;
@@ -55,12 +55,7 @@ fn read<H: Files>(rt: &H, alloc: Global, path: &str) -> Result<Vec<u8>, FileFaul
         return Err(FileFault::NotRegular);
     }
     let mut file = fs::open(rt, path).map_err(|_| FileFault::File)?;
-    let mut bytes = Vec::new(alloc);
-    match file.read_to_end(&mut bytes) {
-        Ok(_) => Ok(bytes),
-        Err(error) if error.kind() == ErrorKind::OutOfMemory => Err(FileFault::Memory),
-        Err(_) => Err(FileFault::File),
-    }
+    read_all(&mut file, alloc)
 }
 
 // Takes no call: the torn end of a journal that is only read stays where it is.

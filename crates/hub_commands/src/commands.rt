@@ -1,5 +1,6 @@
 ghost use Rattle.std.specs.Prelude.{◌≡◌};
 ghost use Rattle.hub_faults.specs.Statuses.{status_of};
+ghost use Rattle.journaled_hub.specs.JournaledHubs.{IsOnDisk};
 
 use crate::journaled_serve::{JournaledServe, JournaledStart, serve_journaled};
 use crate::{check, journaled_replay, journaled_serve, number, replay, serve};
@@ -90,6 +91,7 @@ where
     H: Threads + Wait + Sync + RandomSource + AllocGlobal,
     W: Write + Drop,
     E: Write,
+    requires { IsOnDisk start.hub }
 {
     match serve_journaled(rt, listener, start, output, errors) {
         Ok(status) => status,

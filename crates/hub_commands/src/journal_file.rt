@@ -1,5 +1,5 @@
 //! The file of a journal, as the commands look at it.
-use journal::find_batches;
+use journal::{FoundBatches, find_batches};
 use std::fmt::Display;
 use std::io::Write;
 
@@ -18,9 +18,14 @@ pub(crate) fn may_be_journal(bytes: &[u8]) -> bool {
         .all(|(byte, own)| *byte == *own || *byte == 0)
 }
 
-/// How many bytes stand behind the whole batches of a journal: those of its torn end.
+/// How many bytes the torn end of a journal has. Where whole batches follow behind damage, there is none.
 pub(crate) fn torn_len(bytes: &[u8]) -> usize {
-    bytes.len().saturating_sub(find_batches(bytes).whole)
+    let FoundBatches { whole, torn } = find_batches(bytes);
+    if torn {
+        bytes.len().saturating_sub(whole)
+    } else {
+        0
+    }
 }
 
 /// Prints why the file of this path is not taken.

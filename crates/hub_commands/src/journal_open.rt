@@ -17,18 +17,18 @@ use std::thread::Threads;
 
 /// Opens the journal or makes it, and prints what it had. Where it is not taken, the line before that of the fault says why, behind
 /// the path.
-pub(crate) fn open<'a, H, E>(
-    rt: &'a H,
+pub(crate) fn open<H, E>(
+    rt: &H,
     alloc: Global,
     path: &str,
     errors: &mut E,
-) -> Result<JournaledHub<DiskFile<&'a H>>, Fault>
+) -> Result<JournaledHub<DiskFile>, Fault>
 where
     H: Files<File = File> + Threads + RandomSource,
     E: Write,
     ensures { IfOk result (λ hub. IsOnDisk hub) }
 {
-    let OpenedFile { file, bytes } = match disk_file::open(rt, alloc, path) {
+    let OpenedFile { mut file, bytes } = match disk_file::open(rt, alloc, path) {
         Ok(opened) => opened,
         Err(fault) => {
             report_file(path, &fault, errors);
@@ -39,10 +39,14 @@ where
         report_file(path, &NO_JOURNAL, errors);
         return Err(Fault::JournalRefused);
     }
-    let torn = match torn_end(&file, bytes.as_slice()) {
-        Ok(torn) => torn,
-        Err(fault) => return Err(refused(path, fault, errors)),
-    };
+    let mut torn = None;
+    let len = torn_len(bytes.as_slice());
+    if len > 0 {
+        match file.make_copy(rt, alloc, path) {
+            Ok(copy) => torn = Some(TornEnd { len, copy }),
+            Err(Failed) => return Err(refused(path, OpenFault::Failed, errors)),
+        }
+    }
     match JournaledHub::open(rt, alloc, SeededState::drawn(rt), file, &bytes) {
         Ok(hub) => {
             report_journal(path, hub.len(), &torn, errors);
@@ -63,21 +67,6 @@ fn refused<E: Write>(path: &str, fault: OpenFault, errors: &mut E) -> Fault {
 struct TornEnd {
     len: usize,
     copy: String,
-}
-
-// The torn end of the journal, if it has one.
-fn torn_end<R: Files<File = File>>(
-    file: &DiskFile<R>,
-    bytes: &[u8],
-) -> Result<Option<TornEnd>, OpenFault> {
-    let len = torn_len(bytes);
-    if len == 0 {
-        return Ok(None);
-    }
-    match file.next_copy() {
-        Ok(copy) => Ok(Some(TornEnd { len, copy })),
-        Err(Failed) => Err(OpenFault::Failed),
-    }
 }
 
 // Prints how many calls the journal had, and what was cut off.

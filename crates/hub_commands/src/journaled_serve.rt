@@ -31,7 +31,6 @@ pub struct JournaledStart<'a, F> {
     pub size: ShiftSize,
     pub hub: JournaledHub<F>,
     pub path: &'a str,
-    ghost on_disk: { IsOnDisk hub },
 }
 
 /// Opens the journal or makes it, and prints what it had. Then it listens on the port of this machine alone, serves one shift there
@@ -73,6 +72,7 @@ where
     R: Threads + Wait + Sync + RandomSource + AllocGlobal,
     W: Write + Drop,
     E: Write,
+    requires { IsOnDisk start.hub }
 {
     let JournaledStart { size, hub, path } = start;
     match serve_journaled_connections(rt, rt.alloc(), listener, size, hub) {

@@ -10,11 +10,14 @@ use std::{env, fs, process};
 
 // Opens the journal, and compares the lines that it has; then commits a line, while the file can't be opened a second time.
 fn serve(rt: HostRuntime, path: &str, wanted: &[&[u8]], line: &[u8]) -> Result<bool, Fail> {
-    let OpenedFile { file, bytes } = open(rt, rt.alloc(), path)?;
+    let OpenedFile { mut file, bytes } = open(&rt, rt.alloc(), path)?;
+    if !bytes.is_empty() && !bytes.as_slice().ends_with(b"\n\n") {
+        file.make_copy(&rt, rt.alloc(), path)?;
+    }
     let opened = open_journal(file, &bytes)?;
     let same = has_lines(&bytes.as_slice()[..opened.whole.min(bytes.len())], wanted);
     let mut journal = opened.journal;
-    let busy = matches!(open(rt, rt.alloc(), path), Err(OpenFault::Busy));
+    let busy = matches!(open(&rt, rt.alloc(), path), Err(OpenFault::Busy));
     let taken = commit_line(rt.alloc(), &mut journal, line)?;
     Ok(same && busy && taken)
 }
@@ -56,6 +59,6 @@ fn a_file_is_made_locked_and_repaired(rt: HostRuntime) -> Result<(), Fail> {
 
 #[test]
 fn a_device_is_no_journal(rt: HostRuntime) {
-    let opened = open(rt, rt.alloc(), "/dev/null");
+    let opened = open(&rt, rt.alloc(), "/dev/null");
     assert!(rt; matches!(opened, Err(OpenFault::NotRegular)));
 }
