@@ -7,9 +7,12 @@ use hub_commands::{JournaledStart, ShiftSize, serve_journaled_on};
 use journal::{Failed, RawFile};
 use journaled_hub::JournaledHub;
 use seeded_state::SeededState;
-use std::net::{Ipv4Addr, TcpListener};
+use std::net::{Ipv4Addr, Net, OpenListener, TcpListener};
+use std::random::RandomSource;
+use std::sync::Wait;
 use std::test::*;
 use std::thread;
+use std::thread::Threads;
 use test_scripts::Script;
 
 // A file over memory, of which each call from this one on fails, counted from 1. An append that fails leaves half of the bytes.
@@ -58,8 +61,8 @@ impl RawFile for MemoryFile<'_> {
 }
 
 // The hub of the journal in this memory.
-fn hub_in<'a>(
-    rt: &HostRuntime,
+fn hub_in<'a, H: Threads + AllocGlobal>(
+    rt: &H,
     bytes: &'a mut Vec<u8>,
     failing_from: u32,
 ) -> Result<JournaledHub<MemoryFile<'a>>, Fail>
@@ -88,12 +91,17 @@ struct Served {
 }
 
 // Serves the railway that sends these bytes, on the hub of the journal in this memory.
-fn serve_one(
-    rt: &HostRuntime,
+fn serve_one<H>(
+    rt: &H,
     bytes: &mut Vec<u8>,
     failing_from: u32,
     lines: &[u8],
-) -> Result<Served, Fail> {
+) -> Result<Served, Fail>
+where
+    H: Net + Threads + Wait + Sync + RandomSource + AllocGlobal,
+    H::Stream: Send,
+    H::Listener: Send,
+{
     let alloc = rt.alloc();
     let hub = hub_in(rt, bytes, failing_from)?;
     let Some(size) = ShiftSize::new(1, 1) else {
@@ -200,7 +208,7 @@ fn a_journal_that_fails_ends_the_shift(rt: HostRuntime) -> Result<(), Fail> {
                 == "hub.journal: a call of the journal's file failed\nfault: journal file\n".as_bytes()
         );
         // The hello is no call.
-        assert!(rt; failed.said.as_slice() == b"{\"hello\":\"R100\"}\n");
+        assert!(rt; failed.said.as_slice() == b"{\"hello\":\"R100\"}\n".as_slice());
         let whole = serve_one(&rt, &mut bytes, NEVER, script.input.as_slice())?;
         assert!(rt; whole.status == 0 && whole.said.as_slice() == script.wanted.as_slice());
     }

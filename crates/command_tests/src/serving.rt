@@ -150,7 +150,7 @@ where
     if serve_on(rt, listener, size, &mut output, &mut errors) != 0 {
         return Err(Fail::new("another status"));
     }
-    if output.as_slice() != b"settled 0\nwagons 0\n" {
+    if output.as_slice() != b"settled 0\nwagons 0\n".as_slice() {
         return Err(Fail::new("another output"));
     }
     Ok(errors)

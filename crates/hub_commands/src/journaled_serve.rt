@@ -27,6 +27,7 @@ pub struct JournaledServe<'a> {
 
 /// What a shift with a journal begins with: how large it is, the hub of the calls that the journal has, and the name of the journal's
 /// file, for what is printed.
+#[derive(Drop)]
 pub struct JournaledStart<'a, F> {
     pub size: ShiftSize,
     pub hub: JournaledHub<F>,
