@@ -1,5 +1,5 @@
 //! The two ends of connections that are accepted as their sessions begin.
-ghost use Rattle.std.specs.Prelude.{◌≡◌, length, vec_len, IfOk};
+ghost use Rattle.std.specs.Prelude.{◌≡◌, vec_len, IfOk};
 
 use crate::acceptor::Acceptor;
 use crate::guard::RequestGuard;
@@ -7,7 +7,7 @@ use std::alloc::Global;
 use std::io;
 use std::io::{ErrorKind, Read, Write};
 use std::net::{OpenListener, OpenStream};
-use std::sync::{Mutex, Wait};
+use std::sync::{Arc, Mutex, Wait};
 use taf_codes::{Memory, Std};
 
 /// A session's reader and writer, the two ends of its connection. The reader gives nothing where a request of HTTP comes first.
@@ -16,9 +16,10 @@ pub type Ends<'a, L, R> = (
     Std<ConnectionWriter<'a, L, R>>,
 );
 
-/// Where the reader of a session leaves the other end of its connection for the writer.
+// Where the reader of a session leaves the other end of its connection for the writer. It goes with both, so that the connection is
+// closed once the session has ended.
 #[derive(Drop)]
-pub struct OtherEnd<T> {
+struct OtherEnd<T> {
     stream: Mutex<Option<T>>,
 }
 
@@ -49,7 +50,7 @@ pub struct ConnectionReader<'a, L: OpenListener, R> {
     rt: &'a R,
     acceptor: &'a Acceptor<L>,
     session: u64,
-    other_end: &'a OtherEnd<L::Stream>,
+    other_end: Arc<OtherEnd<L::Stream>>,
     stream: Option<L::Stream>,
 }
 
@@ -74,7 +75,7 @@ where
 #[derive(Drop)]
 pub struct ConnectionWriter<'a, L: OpenListener, R> {
     rt: &'a R,
-    other_end: &'a OtherEnd<L::Stream>,
+    other_end: Arc<OtherEnd<L::Stream>>,
     stream: Option<L::Stream>,
 }
 
@@ -100,53 +101,58 @@ where
     }
 }
 
-/// A place for the other end of each of so many connections.
-pub fn other_ends<T: OpenStream + Drop>(
+/// The readers and writers of so many sessions, whose connections the acceptor will accept.
+pub fn ends_of<'a, L, R>(
+    rt: &'a R,
     alloc: Global,
-    count: usize,
-) -> Result<Vec<OtherEnd<T>>, Memory>
-    ensures { IfOk result (λ v. vec_len v ≡ count) }
+    acceptor: &'a Acceptor<L>,
+    sessions: usize,
+) -> Result<Vec<Ends<'a, L, R>>, Memory>
+where
+    L: OpenListener + Drop,
+    L::Stream: Read + Write + OpenStream,
+    R: Wait,
+    ensures { IfOk result (λ v. vec_len v ≡ sessions) }
 {
     let mut ends = Vec::new(alloc);
-    for _made in 0..count {
-        if ends.push(OtherEnd::new()).is_err() {
+    for session in 0..sessions {
+        let both = both_ends(rt, alloc, acceptor, session as u64)?;
+        if ends.push(both).is_err() {
             return Err(Memory);
         }
     }
     Ok(ends)
 }
 
-/// The readers and writers of sessions whose connections the acceptor will accept, one session for each other end.
-pub fn ends_of<'a, L, R>(
+// The reader and the writer of the session with this number.
+fn both_ends<'a, L, R>(
     rt: &'a R,
     alloc: Global,
     acceptor: &'a Acceptor<L>,
-    other_ends: &'a [OtherEnd<L::Stream>],
-) -> Result<Vec<Ends<'a, L, R>>, Memory>
+    session: u64,
+) -> Result<Ends<'a, L, R>, Memory>
 where
     L: OpenListener + Drop,
     L::Stream: Read + Write + OpenStream,
     R: Wait,
-    ensures { IfOk result (λ v. vec_len v ≡ length other_ends.now) }
 {
-    let mut ends = Vec::new(alloc);
-    for (session, other_end) in other_ends.iter().enumerate() {
-        let reader = ConnectionReader {
-            rt,
-            acceptor,
-            session: session as u64,
-            other_end,
-            stream: None,
-        };
-        let writer = ConnectionWriter {
-            rt,
-            other_end,
-            stream: None,
-        };
-        let both = (RequestGuard::new(Std::new(reader)), Std::new(writer));
-        if ends.push(both).is_err() {
-            return Err(Memory);
-        }
-    }
-    Ok(ends)
+    let Ok(other_end) = Arc::new(alloc, OtherEnd::new()) else {
+        return Err(Memory);
+    };
+    let Ok(for_writer) = Arc::try_clone(&other_end) else {
+        return Err(Memory);
+    };
+    let reader = ConnectionReader {
+        rt,
+        acceptor,
+        session,
+        other_end,
+        stream: None,
+    };
+    let writer = ConnectionWriter {
+        rt,
+        other_end: for_writer,
+        stream: None,
+    };
+    Ok((RequestGuard::new(Std::new(reader)), Std::new(writer)))
 }

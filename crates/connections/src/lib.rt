@@ -25,5 +25,5 @@ mod connections;
 mod guard;
 
 pub use acceptor::Acceptor;
-pub use connections::{ConnectionReader, ConnectionWriter, Ends, OtherEnd, ends_of, other_ends};
+pub use connections::{ConnectionReader, ConnectionWriter, Ends, ends_of};
 pub use guard::RequestGuard;

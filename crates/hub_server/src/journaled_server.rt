@@ -7,7 +7,7 @@ ghost use Rattle.hub_shared.specs.declared.settling.SettleFault.{SettleFault};
 ghost use Rattle.hub_server.specs.Settled.{IsSettledShift, IsUnsettledShift};
 
 use crate::fault::ServerFault;
-use connections::{Acceptor, ends_of, other_ends};
+use connections::{Acceptor, ends_of};
 use hub_shifts::{JournaledShift, SettledShift, run_journaled_shift, settle_shift};
 use journal::{Journal, RawFile};
 use journaled_hub::JournaledHub;
@@ -53,9 +53,8 @@ where
     ensures not_settled { IfErr result (λ f. (why : SettleFault)
         → f ≡ ServerFault.NotSettled why → IsUnsettledShift size.sessions 1 why) }
 {
-    let other_ends = other_ends(alloc, size.sessions())?;
     let acceptor = Acceptor::new(listener, size.sessions());
-    let connections = ends_of(rt, alloc, &acceptor, other_ends.as_slice())?;
+    let connections = ends_of(rt, alloc, &acceptor, size.sessions())?;
     let JournaledShift { shift, journal } = run_journaled_shift(rt, alloc, connections, hub)?;
     if journal.has_failed() {
         return Err(ServerFault::Journal);

@@ -4,7 +4,7 @@ ghost use Rattle.hub_shared.specs.declared.settling.SettleFault.{SettleFault};
 ghost use Rattle.hub_server.specs.Settled.{IsSettledShift, IsUnsettledShift};
 
 use crate::fault::ServerFault;
-use connections::{Acceptor, ends_of, other_ends};
+use connections::{Acceptor, ends_of};
 use hub_shifts::{OpenGate, SettledShift, run_shift, settle_shift};
 use shift_size::ShiftSize;
 use std::alloc::Global;
@@ -35,9 +35,8 @@ where
     ensures not_settled { IfErr result (λ f. (why : SettleFault)
         → f ≡ ServerFault.NotSettled why → IsUnsettledShift size.sessions size.workers why) }
 {
-    let other_ends = other_ends(alloc, size.sessions())?;
     let acceptor = Acceptor::new(listener, size.sessions());
-    let connections = ends_of(rt, alloc, &acceptor, other_ends.as_slice())?;
+    let connections = ends_of(rt, alloc, &acceptor, size.sessions())?;
     let shift = run_shift(rt, alloc, &OpenGate, connections, size.workers())?;
     let settled = settle_shift(alloc, shift)?;
     Ok(settled)

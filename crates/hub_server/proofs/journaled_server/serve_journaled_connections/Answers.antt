@@ -9,7 +9,7 @@ use Rattle.hub_server.proofs.journaled_server.serve_journaled_connections.Goals 
 pub returns-clause-settled : goal.returns-clause-settled
 returns-clause-settled g c =
     let ends = c.in_ok-connections.connections in
-    let many : length ends.items ≡ c.args.size.sessions = sym ends.ok.0 ∙ (c.in_ok-connections.ensures ∙ (c.as_slice.ensures.len ∙ (c.in_ok-other_ends.ensures ∙ c.sessions.ensures))) in
+    let many : length ends.items ≡ c.args.size.sessions = sym ends.ok.0 ∙ (c.in_ok-connections.ensures ∙ c.sessions-2.ensures) in
     subst (λ (s : Shift). IsSettledShift c.args.size.sessions 1 s c.in_ok-settled.settled.calls) (sym c.in_ok-settled.ensures.same)
     (settled _ ends.items 1 c.args.size.sessions 1 _ _ many refl (omega arith) c.in_ok-shift.ensures.shift c.in_ok-settled.ensures.ok c.in_ok-settled.ensures.calls)
 
@@ -17,14 +17,9 @@ pub returns-clause-durable : goal.returns-clause-durable
 returns-clause-durable g c =
     c.in_ok-shift.ensures.on_disk (sym c.has_failed.ensures ∙ c.if-has_failed.false) ∙ ap (λ (s : Shift). lines_of_history s.hub) (sym c.in_ok-settled.ensures.same)
 
-pub returns-in_err-other_ends-clause-not_settled : goal.returns-in_err-other_ends-clause-not_settled
-returns-in_err-other_ends-clause-not_settled g c =
-    let p = err_from_is_err_and c.from_residual.result c.from_residual.ensures.1 in
-    rw (p.1, p.2) (λ why is. absurd (no_shift why is))
-
 pub returns-in_err-connections-clause-not_settled : goal.returns-in_err-connections-clause-not_settled
 returns-in_err-connections-clause-not_settled g c =
-    let p = err_from_is_err_and c.from_residual-in_err-connections.result c.from_residual-in_err-connections.ensures.1 in
+    let p = err_from_is_err_and c.from_residual.result c.from_residual.ensures.1 in
     rw (p.1, p.2) (λ why is. absurd (no_shift why is))
 
 pub returns-in_err-shift-clause-not_settled : goal.returns-in_err-shift-clause-not_settled
@@ -35,7 +30,7 @@ returns-in_err-shift-clause-not_settled g c =
 pub returns-in_err-settled-clause-not_settled : goal.returns-in_err-settled-clause-not_settled
 returns-in_err-settled-clause-not_settled g c =
     let ends = c.in_ok-connections.connections in
-    let many : length ends.items ≡ c.args.size.sessions = sym ends.ok.0 ∙ (c.in_ok-connections.ensures ∙ (c.as_slice.ensures.len ∙ (c.in_ok-other_ends.ensures ∙ c.sessions.ensures))) in
+    let many : length ends.items ≡ c.args.size.sessions = sym ends.ok.0 ∙ (c.in_ok-connections.ensures ∙ c.sessions-2.ensures) in
     let p = err_from_is_err_and c.from_residual-in_err-settled.result c.from_residual-in_err-settled.ensures.1 in
     rw (p.1, p.2) (λ why is. unsettled _ ends.items 1 c.args.size.sessions 1 _ _ why many refl c.in_ok-shift.ensures.shift c.in_err-settled.ensures.told c.in_err-settled.ensures.err is)
 

@@ -8,21 +8,16 @@ use Rattle.hub_server.proofs.server.serve_connections.Goals as goal
 pub returns : goal.returns
 returns g c =
     let ends = c.in_ok-connections.connections in
-    let many : length ends.items ≡ c.args.size.sessions = sym ends.ok.0 ∙ (c.in_ok-connections.ensures ∙ (c.as_slice.ensures.len ∙ (c.in_ok-other_ends.ensures ∙ c.sessions.ensures))) in
+    let many : length ends.items ≡ c.args.size.sessions = sym ends.ok.0 ∙ (c.in_ok-connections.ensures ∙ c.sessions-2.ensures) in
     record {
       settled = subst (λ (s : Shift). IsSettledShift c.args.size.sessions c.args.size.workers s c.in_ok-settled.settled.calls) (sym c.in_ok-settled.ensures.same)
           (settled _ ends.items _ c.args.size.sessions c.args.size.workers _ c.in_ok-shift.shift many c.workers.ensures c.args.size.within.2 c.in_ok-shift.ensures c.in_ok-settled.ensures.ok c.in_ok-settled.ensures.calls);
       not_settled = tt;
     }
 
-pub returns-in_err-other_ends-clause-not_settled : goal.returns-in_err-other_ends-clause-not_settled
-returns-in_err-other_ends-clause-not_settled g c =
-    let p = err_from_is_err_and c.from_residual.result c.from_residual.ensures.1 in
-    rw (p.1, p.2) (λ why is. absurd (no_shift why is))
-
 pub returns-in_err-connections-clause-not_settled : goal.returns-in_err-connections-clause-not_settled
 returns-in_err-connections-clause-not_settled g c =
-    let p = err_from_is_err_and c.from_residual-in_err-connections.result c.from_residual-in_err-connections.ensures.1 in
+    let p = err_from_is_err_and c.from_residual.result c.from_residual.ensures.1 in
     rw (p.1, p.2) (λ why is. absurd (no_shift why is))
 
 pub returns-in_err-shift-clause-not_settled : goal.returns-in_err-shift-clause-not_settled
@@ -33,7 +28,7 @@ returns-in_err-shift-clause-not_settled g c =
 pub returns-in_err-settled-clause-not_settled : goal.returns-in_err-settled-clause-not_settled
 returns-in_err-settled-clause-not_settled g c =
     let ends = c.in_ok-connections.connections in
-    let many : length ends.items ≡ c.args.size.sessions = sym ends.ok.0 ∙ (c.in_ok-connections.ensures ∙ (c.as_slice.ensures.len ∙ (c.in_ok-other_ends.ensures ∙ c.sessions.ensures))) in
+    let many : length ends.items ≡ c.args.size.sessions = sym ends.ok.0 ∙ (c.in_ok-connections.ensures ∙ c.sessions-2.ensures) in
     let p = err_from_is_err_and c.from_residual-in_err-settled.result c.from_residual-in_err-settled.ensures.1 in
     rw (p.1, p.2) (λ why is. unsettled _ ends.items _ c.args.size.sessions c.args.size.workers _ _ why many c.workers.ensures c.in_ok-shift.ensures c.in_err-settled.ensures.told c.in_err-settled.ensures.err is)
 
