@@ -156,18 +156,11 @@ where
     Ok(errors)
 }
 
-// What is reported where none, one or two of three connect.
-static FAILED: [&str; 3] = [
-    "session 0: the reader failed
+// What is reported where none of three connects.
+const FAILED: &str = "session 0: the reader failed
 session 1: the reader failed
 session 2: the reader failed
-",
-    "session 1: the reader failed
-session 2: the reader failed
-",
-    "session 2: the reader failed
-",
-];
+";
 
 // Each session whose connection cannot be accepted ends by itself, and no other.
 #[test]
@@ -175,10 +168,9 @@ fn an_accept_that_fails_ends_its_session(rt: HostRuntime) -> Result<(), Fail> {
     for connected in 0..3usize {
         let listener = TcpListener::bind(&rt, (Ipv4Addr::LOCALHOST, 0))?;
         let reported = reported_of_some(&rt, listener, connected)?;
-        assert!(rt;
-            reported.as_slice() == FAILED[connected].as_bytes(),
-            "at {connected}"
-        );
+        // Which sessions have the connections is left open.
+        assert!(rt; reported.len() == FAILED.len() / 3 * (3 - connected), "at {connected}");
+        assert!(rt; connected > 0 || reported.as_slice() == FAILED.as_bytes());
     }
     Ok(())
 }

@@ -44,12 +44,11 @@ impl<T: OpenStream + Drop> OtherEnd<T> {
     }
 }
 
-/// Reads from the connection of a session. Its first read accepts it: it waits for the sessions before, and for the client.
+/// Reads from the connection of a session. Its first read accepts it, and waits for the client.
 #[derive(Drop)]
 pub struct ConnectionReader<'a, L: OpenListener, R> {
     rt: &'a R,
     acceptor: &'a Acceptor<L>,
-    session: u64,
     other_end: Arc<OtherEnd<L::Stream>>,
     stream: Option<L::Stream>,
 }
@@ -60,7 +59,7 @@ where
 {
     fn read(&mut self, buf: &mut [u8]) -> io::Result<usize> {
         if self.stream.is_none() {
-            let stream = self.acceptor.accept(self.rt, self.session)?;
+            let stream = self.acceptor.accept(self.rt)?;
             self.other_end.leave(self.rt, &stream)?;
             self.stream = Some(stream);
         }
@@ -115,8 +114,8 @@ where
     ensures { IfOk result (λ v. vec_len v ≡ sessions) }
 {
     let mut ends = Vec::new(alloc);
-    for session in 0..sessions {
-        let both = both_ends(rt, alloc, acceptor, session as u64)?;
+    for _session in 0..sessions {
+        let both = both_ends(rt, alloc, acceptor)?;
         if ends.push(both).is_err() {
             return Err(Memory);
         }
@@ -124,12 +123,11 @@ where
     Ok(ends)
 }
 
-// The reader and the writer of the session with this number.
+// The reader and the writer of one session.
 fn both_ends<'a, L, R>(
     rt: &'a R,
     alloc: Global,
     acceptor: &'a Acceptor<L>,
-    session: u64,
 ) -> Result<Ends<'a, L, R>, Memory>
 where
     L: OpenListener + Drop,
@@ -145,7 +143,6 @@ where
     let reader = ConnectionReader {
         rt,
         acceptor,
-        session,
         other_end,
         stream: None,
     };

@@ -1,8 +1,8 @@
 //! The connections of a listener: one for each session of a shift, with its two ends.
 //!
 //! [`ends_of`] gives a reader and a writer of each. The first read of a session's reader accepts its connection, by the [`Acceptor`]
-//! that all of them share: so a client is served as soon as it is there, and the connections fall to the sessions in order. What is
-//! served over them is described in the crates above: this one knows nothing of the hub.
+//! that all of them share: so a client is served as soon as it is there. What is served over them is described in the crates above:
+//! this one knows nothing of the hub.
 //!
 //! A browser connects to any port of its machine that a page names, and sends there a request of HTTP with lines that the page has
 //! chosen. So a [`RequestGuard`] stands before each reader: where the first bytes are a method of HTTP and a blank, it is at its end.
@@ -15,7 +15,7 @@
 //!
 //! | part | what it has |
 //! |---|---|
-//! | `acceptor` | the listener, and whose turn it is to accept |
+//! | `acceptor` | the listener, and how many connections are still to come |
 //! | `connections` | connections accepted by their readers, and their two ends |
 //! | `guard` | the guard against requests of HTTP |
 #![tactic(auto)]

@@ -106,7 +106,7 @@ pub(crate) fn explained<E: Write>(fault: ServerFault, errors: &mut E) -> Fault {
 }
 
 /// Prints how a session ended that could not be served to its end, as `session 3: the writer failed`. The sessions are counted
-/// from 0, in the order of their connections. Of one that ended complete it prints nothing.
+/// from 0. Of one that ended complete it prints nothing.
 pub fn report_end<E: Write>(session: usize, end: SessionEnd, errors: &mut E) {
     // Where standard error fails, nobody is told; the shift is reported all the same.
     let _ = match end {
