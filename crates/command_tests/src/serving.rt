@@ -169,7 +169,10 @@ fn an_accept_that_fails_ends_its_session(rt: HostRuntime) -> Result<(), Fail> {
         let listener = TcpListener::bind(&rt, (Ipv4Addr::LOCALHOST, 0))?;
         let reported = reported_of_some(&rt, listener, connected)?;
         // Which sessions have the connections is left open.
-        assert!(rt; reported.len() == FAILED.len() / 3 * (3 - connected), "at {connected}");
+        assert!(rt;
+            reported.len() == FAILED.len() / 3 * (3 - connected),
+            "at {connected}"
+        );
         assert!(rt; connected > 0 || reported.as_slice() == FAILED.as_bytes());
     }
     Ok(())
