@@ -185,7 +185,7 @@ fn with_path(alloc: Global, text: &str, path: &str) -> Result<String, AllocError
 }
 
 // A path that no other test takes.
-fn path_of(rt: HostRuntime, name: usize) -> Result<String, Fail> {
+pub(crate) fn path_of(rt: HostRuntime, name: usize) -> Result<String, Fail> {
     let folder = env::temp_dir(&rt)?;
     let process = process::id(rt.process());
     Ok(format!(in rt.alloc(); "{}/command-tests-{process}-{name}", folder.as_str())?)

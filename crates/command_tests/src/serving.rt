@@ -13,14 +13,14 @@ use std::thread::Threads;
 use std::{io, thread};
 use test_scripts::Script;
 
-const FIRST_HELLO: &str = r#"{"kind":"hello","from":"R100"}
+pub(crate) const FIRST_HELLO: &str = r#"{"kind":"hello","from":"R100"}
 > {"hello":"R100"}"#;
 
-const SECOND_HELLO: &str = r#"{"kind":"hello","from":"R200"}
+pub(crate) const SECOND_HELLO: &str = r#"{"kind":"hello","from":"R200"}
 > {"hello":"R200"}"#;
 
 // What is printed, in either order of the wagons: the plan that came first has its wagon first.
-static PRINTED: [&str; 2] = [
+pub(crate) static PRINTED: [&str; 2] = [
     "settled 10
 wagons 2
 218124712173 R100 ---- 0 released  DE00001 2025-03-01T14:30Z         0 loading
@@ -34,7 +34,7 @@ wagons 2
 ];
 
 // What is said to one that sends these bytes and ends.
-fn said_to<R: Net>(
+pub(crate) fn said_to<R: Net>(
     rt: &R,
     alloc: Global,
     address: SocketAddr,

@@ -4,10 +4,7 @@ use thiserror::Error;
 /// Why a file was not opened.
 #[derive(Clone, Copy, Debug, PartialEq, Eq, Error)]
 pub enum OpenFault {
-    /// Memory was refused.
-    #[error("memory was refused")]
-    Memory,
-    /// It could not be opened, made, locked, synced or read.
+    /// It could not be opened, made, locked or synced.
     #[error("the file could not be opened")]
     File,
     /// It is open already, here or in another process.

@@ -1,4 +1,5 @@
 //! The copy of what a cut drops.
+use log_file::Failed;
 use std::alloc::Global;
 use std::fs::{File, OpenOptions};
 use std::io::Write;
@@ -13,30 +14,46 @@ pub(crate) const OWNER_ONLY: u32 = 0o600;
 /// A file has at most so many copies beside it.
 const MAX_COPIES: u32 = 999;
 
-/// A new file for what a cut drops, and its path.
-#[derive(Drop)]
-pub(crate) struct NewCopy {
-    pub(crate) name: String,
-    pub(crate) file: File,
+/// Copies what the file of this path has behind so many bytes into a new file beside it, `PATH.cut-1` or the first number that is
+/// free, and gives the path of that one. At Ok the copy is on the disk. `Err` where a call of the system fails, memory is refused, or
+/// all numbers up to 999 are taken.
+pub fn keep_end<R: Files<File = File>>(
+    rt: &R,
+    alloc: Global,
+    path: &str,
+    start: usize,
+) -> Result<String, Failed> {
+    copy_end(rt, alloc, path, start).map_err(|_| Failed)
 }
 
-/// Copies what is behind `start` bytes of the file into the copy, and syncs it.
-pub(crate) fn keep_end(file: &File, copy: File, start: usize) -> io::Result<()> {
+fn copy_end<R: Files<File = File>>(
+    rt: &R,
+    alloc: Global,
+    path: &str,
+    start: usize,
+) -> io::Result<String> {
+    let file = fs::open(rt, path)?;
+    let NewCopy { name, file: copy } = new_copy(rt, alloc, path)?;
     let mut copy = copy;
-    copy_end(file, &mut copy, start)?;
-    copy.sync_all()
+    copy_bytes(&file, &mut copy, start)?;
+    copy.sync_all()?;
+    sync_folder(rt, path)?;
+    Ok(name)
+}
+
+// A new file for what a cut drops, and its path.
+#[derive(Drop)]
+struct NewCopy {
+    name: String,
+    file: File,
 }
 
 fn copy_name(alloc: Global, path: &str, number: u32) -> io::Result<String> {
     Ok(format!(in alloc; "{path}.cut-{number}")?)
 }
 
-/// A new file beside that of this path: `PATH.cut-1`, or the first number that is free.
-pub(crate) fn new_copy<R: Files<File = File>>(
-    rt: &R,
-    alloc: Global,
-    path: &str,
-) -> io::Result<NewCopy> {
+// A new file beside that of this path: `PATH.cut-1`, or the first number that is free.
+fn new_copy<R: Files<File = File>>(rt: &R, alloc: Global, path: &str) -> io::Result<NewCopy> {
     for number in 1..=MAX_COPIES {
         let name = copy_name(alloc, path, number)?;
         let opened = OpenOptions::new()
@@ -53,7 +70,8 @@ pub(crate) fn new_copy<R: Files<File = File>>(
     Err(io::ErrorKind::AlreadyExists.into())
 }
 
-fn copy_end(file: &File, copy: &mut File, start: usize) -> io::Result<()> {
+// Copies what a file has behind so many bytes.
+fn copy_bytes(file: &File, copy: &mut File, start: usize) -> io::Result<()> {
     let mut buffer = [0; 4096];
     let mut position = start as u64;
     for _ in 0..u64::MAX {

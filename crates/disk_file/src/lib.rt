@@ -1,10 +1,11 @@
 //! A file of the system to which is appended, and which one process has at a time.
 //!
-//! [`open`] opens or makes the file, locks it, and reads what is on the disk. [`DiskFile`] makes the calls of a `log_file`.
+//! [`open`] opens or makes the file, locks it, and has what it has on the disk. [`DiskFile`] makes the calls of a `log_file`. What is to
+//! be cut off is kept before ([`keep_end`]).
 //!
 //! | part | what it has |
 //! |---|---|
-//! | `disk` | opening, locking and reading the file, and its calls |
+//! | `disk` | opening and locking the file, and its calls |
 //! | `kept_end` | the copy of what a cut drops |
 //! | `fault` | why a file was not opened |
 //!
@@ -24,5 +25,6 @@ mod disk;
 mod fault;
 mod kept_end;
 
-pub use disk::{DiskFile, OpenedFile, open, read_all};
+pub use disk::{DiskFile, open, open_to_read};
 pub use fault::OpenFault;
+pub use kept_end::keep_end;

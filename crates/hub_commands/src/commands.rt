@@ -1,14 +1,12 @@
 ghost use Rattle.std.specs.Prelude.{◌≡◌};
 ghost use Rattle.hub_faults.specs.Statuses.{status_of};
-ghost use Rattle.journaled_hub.specs.JournaledHubs.{IsOnDisk};
 
-use crate::journaled_serve::{JournaledServe, JournaledStart, serve_journaled};
+use crate::journaled_serve::JournaledServe;
 use crate::{check, journaled_replay, journaled_serve, number, replay, serve};
 use clap::Error;
 use clap::error::ErrorKind;
 use hub_faults::Fault;
 use hub_tasks::{Task, task_of};
-use journal::RawFile;
 use shift_size::ShiftSize;
 use std::fs::File;
 use std::io::{Read, Write};
@@ -70,30 +68,6 @@ where
     E: Write,
 {
     match serve::serve(rt, listener, size, output, errors) {
-        Ok(status) => status,
-        Err(fault) => report_fault(fault, errors),
-    }
-}
-
-/// Serves one shift with a journal over the connections of a listener, as the command `serve --journal` does on its port, and gives
-/// the status.
-pub fn serve_journaled_on<F, L, H, W, E>(
-    rt: &H,
-    listener: L,
-    start: JournaledStart<'_, F>,
-    output: W,
-    errors: &mut E,
-) -> u8
-where
-    F: RawFile + Send + Drop,
-    L: OpenListener + Send + Drop,
-    L::Stream: Read + Write + OpenStream + Send + Drop,
-    H: Threads + Wait + Sync + RandomSource + AllocGlobal,
-    W: Write + Drop,
-    E: Write,
-    requires { IsOnDisk start.hub }
-{
-    match serve_journaled(rt, listener, start, output, errors) {
         Ok(status) => status,
         Err(fault) => report_fault(fault, errors),
     }

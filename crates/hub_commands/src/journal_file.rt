@@ -1,31 +1,34 @@
 //! The file of a journal, as the commands look at it.
-use journal::{FoundBatches, find_batches};
+use disk_file::DiskFile;
+use hub_faults::Fault;
 use std::fmt::Display;
 use std::io::Write;
 
 // How a journal begins.
-static BEGINNING: &[u8] = b"{\"_sum\":\"";
+static BEGINNING: &[u8; 9] = b"{\"_sum\":\"";
 
-/// What is told of a file that has no beginning of a journal.
-pub(crate) const NO_JOURNAL: &str = "the file is no journal of this program";
+/// Whether a file may be a journal of this program, by its beginning. Of its first batch a crash may have left a part, of which any
+/// byte may read as zero. Where the beginning can't be read, the file can't be read either.
+pub(crate) fn may_be_journal(file: &DiskFile) -> bool {
+    let mut first = [0; 9];
+    match file.first_bytes(&mut first) {
+        Ok(count) => begins_as_journal(&first[..count.min(first.len())]),
+        Err(_failed) => true,
+    }
+}
 
-/// Whether a journal of this program may have these bytes, by their beginning. Of its first batch a crash may have left a part, of
-/// which any byte may read as zero.
-pub(crate) fn may_be_journal(bytes: &[u8]) -> bool {
+// Whether a journal may begin with these bytes.
+fn begins_as_journal(bytes: &[u8]) -> bool {
     bytes
         .iter()
         .zip(BEGINNING)
         .all(|(byte, own)| *byte == *own || *byte == 0)
 }
 
-/// How many bytes the torn end of a journal has. Where whole batches follow behind damage, there is none.
-pub(crate) fn torn_len(bytes: &[u8]) -> usize {
-    let FoundBatches { whole, torn } = find_batches(bytes);
-    if torn {
-        bytes.len().saturating_sub(whole)
-    } else {
-        0
-    }
+/// Prints that the file of this path is no journal, and gives the fault of the command.
+pub(crate) fn report_foreign<E: Write>(path: &str, errors: &mut E) -> Fault {
+    report_file(path, &"the file is no journal of this program", errors);
+    Fault::JournalRefused
 }
 
 /// Prints why the file of this path is not taken.

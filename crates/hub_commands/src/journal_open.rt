@@ -2,11 +2,11 @@
 ghost use Rattle.std.specs.Prelude.{IfOk};
 ghost use Rattle.journaled_hub.specs.JournaledHubs.{IsOnDisk};
 
-use crate::journal_file::{NO_JOURNAL, may_be_journal, report_file, torn_len};
-use disk_file::{DiskFile, OpenedFile};
+use crate::journal_file::{may_be_journal, report_file, report_foreign};
+use disk_file::{DiskFile, keep_end};
 use hub_faults::Fault;
 use journal::Failed;
-use journaled_hub::{JournaledHub, OpenFault};
+use journaled_hub::{JournaledHub, OpenFault, RecoveredHub};
 use seeded_state::SeededState;
 use std::alloc::Global;
 use std::fs::File;
@@ -28,31 +28,31 @@ where
     E: Write,
     ensures { IfOk result (λ hub. IsOnDisk hub) }
 {
-    let OpenedFile { mut file, bytes } = match disk_file::open(rt, alloc, path) {
-        Ok(opened) => opened,
+    let file = match disk_file::open(rt, path) {
+        Ok(file) => file,
         Err(fault) => {
             report_file(path, &fault, errors);
             return Err(Fault::from(fault));
         }
     };
-    if !may_be_journal(bytes.as_slice()) {
-        report_file(path, &NO_JOURNAL, errors);
-        return Err(Fault::JournalRefused);
+    if !may_be_journal(&file) {
+        return Err(report_foreign(path, errors));
     }
-    let mut torn = None;
-    let len = torn_len(bytes.as_slice());
-    if len > 0 {
-        match file.make_copy(rt, alloc, path) {
-            Ok(copy) => torn = Some(TornEnd { len, copy }),
-            Err(Failed) => return Err(refused(path, OpenFault::Failed, errors)),
-        }
-    }
-    match JournaledHub::open(rt, alloc, SeededState::drawn(rt), file, &bytes) {
+    let recovered = match RecoveredHub::read(rt, alloc, SeededState::drawn(rt), file) {
+        Ok(recovered) => recovered,
+        Err((fault, _reader)) => return Err(refused(path, fault, errors)),
+    };
+    // What is cut off is kept before.
+    let torn = match keep_torn_end(rt, alloc, path, &recovered) {
+        Ok(torn) => torn,
+        Err(Failed) => return Err(refused(path, OpenFault::Failed, errors)),
+    };
+    match recovered.open() {
         Ok(hub) => {
             report_journal(path, hub.len(), &torn, errors);
             Ok(hub)
         }
-        Err((fault, _file)) => Err(refused(path, fault, errors)),
+        Err(_file) => Err(refused(path, OpenFault::Failed, errors)),
     }
 }
 
@@ -62,11 +62,26 @@ fn refused<E: Write>(path: &str, fault: OpenFault, errors: &mut E) -> Fault {
     Fault::from(fault)
 }
 
-// A torn end: how many bytes it has, and the path of the file that will keep them.
+// A torn end: how many bytes it has, and the path of the file that keeps them.
 #[derive(Drop)]
 struct TornEnd {
     len: usize,
     copy: String,
+}
+
+// Copies the torn end of a journal into a file beside it, where it has one.
+fn keep_torn_end<H: Files<File = File>>(
+    rt: &H,
+    alloc: Global,
+    path: &str,
+    recovered: &RecoveredHub<DiskFile>,
+) -> Result<Option<TornEnd>, Failed> {
+    let len = recovered.torn_len();
+    if len == 0 {
+        return Ok(None);
+    }
+    let copy = keep_end(rt, alloc, path, recovered.whole_len())?;
+    Ok(Some(TornEnd { len, copy }))
 }
 
 // Prints how many calls the journal had, and what was cut off.

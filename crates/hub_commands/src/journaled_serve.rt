@@ -1,17 +1,13 @@
 //! `serve` with a journal.
-ghost use Rattle.journaled_hub.specs.JournaledHubs.{IsOnDisk};
-
 use crate::journal_file::report_file;
 use crate::journal_open::open;
 use crate::serve::{explained, listen, print_settled};
 use hub_faults::Fault;
 use hub_server::{ServerFault, SettledJournaledShift, serve_journaled_connections};
-use journal::RawFile;
-use journaled_hub::JournaledHub;
 use shift_size::ShiftSize;
 use std::fs::File;
-use std::io::{Read, Write};
-use std::net::{Net, OpenListener, OpenStream};
+use std::io::Write;
+use std::net::Net;
 use std::random::RandomSource;
 use std::rt::Files;
 use std::sync::Wait;
@@ -25,17 +21,9 @@ pub struct JournaledServe<'a> {
     pub path: &'a str,
 }
 
-/// What a shift with a journal begins with: how large it is, the hub of the calls that the journal has, and the name of the journal's
-/// file, for what is printed.
-#[derive(Drop)]
-pub struct JournaledStart<'a, F> {
-    pub size: ShiftSize,
-    pub hub: JournaledHub<F>,
-    pub path: &'a str,
-}
-
 /// Opens the journal or makes it, and prints what it had. Then it listens on the port of this machine alone, serves one shift there
-/// on the hub of the journal, and prints what it comes to.
+/// on the hub of the journal, and prints what it comes to as `serve` without a journal does. Where a call of the journal's file failed,
+/// a line among the errors says so, and nothing else is printed.
 pub fn perform<R, W, E>(
     rt: &R,
     serve: JournaledServe<'_>,
@@ -52,30 +40,7 @@ where
     let JournaledServe { port, size, path } = serve;
     let hub = open(rt, rt.alloc(), path, errors)?;
     let listener = listen(rt, port, size, errors)?;
-    let start = JournaledStart { size, hub, path };
-    serve_journaled(rt, listener, start, output, errors)
-}
-
-/// Serves one shift over the connections of a listener, on the hub of a journal, and prints what it comes to as `serve` without a
-/// journal does. An answer is written once its call is in the journal, on the disk. Where a call of the journal's file failed, a line
-/// among the errors says so, and nothing else is printed.
-pub(crate) fn serve_journaled<F, L, R, W, E>(
-    rt: &R,
-    listener: L,
-    start: JournaledStart<'_, F>,
-    output: W,
-    errors: &mut E,
-) -> Result<u8, Fault>
-where
-    F: RawFile + Send + Drop,
-    L: OpenListener + Send + Drop,
-    L::Stream: Read + Write + OpenStream + Send + Drop,
-    R: Threads + Wait + Sync + RandomSource + AllocGlobal,
-    W: Write + Drop,
-    E: Write,
-    requires { IsOnDisk start.hub }
-{
-    let JournaledStart { size, hub, path } = start;
+    // An answer is written once its call is in the journal, on the disk.
     match serve_journaled_connections(rt, rt.alloc(), listener, size, hub) {
         Ok(SettledJournaledShift { settled, journal }) => {
             // Another process may go on with it from here.

@@ -10,7 +10,7 @@
 //! | `taf_hub number TEXT` | prints the vehicle number that TEXT shows in the marked form | 0; 1 TEXT shows none; 3 writing failed; 4 memory was refused |
 //!
 //! [`arguments`] gives the arguments of the command line, and [`perform`] does what they name, as `hub_tasks` reads them.
-//! [`serve_on`] is `serve` on a listener, and [`serve_journaled_on`] with a journal; a session that could not be served to its end is a line among the errors
+//! [`serve_on`] is `serve` on a listener; a session that could not be served to its end is a line among the errors
 //! ([`report_end`]). `--help` prints clap's help, which ends with an example and the statuses, and `--version` the version, both
 //! with status 0. Arguments that name no command end with status 2 and clap's text among the errors. A [`Fault`] is one line there,
 //! by [`report_fault`], which gives its status; where a journal is not taken, the line before says why, behind the file's path.
@@ -30,9 +30,8 @@ mod replay;
 mod serve;
 
 pub use command_line::arguments;
-pub use commands::{perform, report_fault, serve_journaled_on, serve_on};
+pub use commands::{perform, report_fault, serve_on};
 pub use hub_faults::Fault;
 pub use hub_server::SessionEnd;
-pub use journaled_serve::JournaledStart;
 pub use serve::report_end;
 pub use shift_size::ShiftSize;

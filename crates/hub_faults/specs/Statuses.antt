@@ -57,7 +57,6 @@ fault_of_server of_server.Journal = JournalFile
 
 -- why the file of a journal was not opened
 abbrev pub fault_of_file : FileFault → Fault
-fault_of_file of_file.Memory = Memory
 fault_of_file of_file.File = JournalFile
 fault_of_file of_file.Busy = JournalBusy
 fault_of_file of_file.NotRegular = JournalRefused

@@ -136,7 +136,6 @@ impl From<FileFault> for Fault {
 
     fn from(fault: FileFault) -> Fault {
         match fault {
-            FileFault::Memory => Fault::Memory,
             FileFault::File => Fault::JournalFile,
             FileFault::Busy => Fault::JournalBusy,
             FileFault::NotRegular => Fault::JournalRefused,

@@ -6,3 +6,4 @@ pub mod EndLemmas
 pub mod RunLemmas
 pub mod TextLemmas
 pub mod JournalLemmas
+pub mod ReaderLemmas

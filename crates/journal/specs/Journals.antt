@@ -1,12 +1,15 @@
 -- What contracts see of a journal.
-use Rattle.std.specs.Prelude.{◌≡◌, ℕ, Bool, false, List}
+use Rattle.std.specs.Prelude.{◌≡◌, ◌≤◌, ◌^◌, ℕ, Bool, true, false, List, length, take, drop}
 use Rattle.log_file.specs.declared.past.Past.{Past}
 use Rattle.log_file.specs.Crashes.{content_of, IsSynced}
-use Rattle.log_file.specs.Files.{past_of}
+use Rattle.log_file.specs.Files.{past_of, read_of, content_read, after_open}
 use Rattle.journal.specs.Lines.{recovered_lines, AreWhole, HasWholeBatches, IsNeverLeft}
 use Rattle.journal.specs.declared.journal.Journal.{Journal}
-use Rattle.journal.specs.declared.journal.JournalFault.{JournalFault}
-use Rattle.journal.specs.declared.journal.JournalFault.TheVariants.{Damaged}
+use Rattle.journal.specs.declared.reader.JournalReader.{JournalReader}
+use Rattle.journal.specs.declared.reader.JournalFault.{JournalFault}
+use Rattle.journal.specs.declared.reader.JournalFault.TheVariants.{Memory, Failed, Damaged}
+use Rattle.log_file.specs.declared.reader.ReadFault.{ReadFault}
+use Rattle.log_file.specs.declared.reader.ReadFault.TheVariants as read_fault
 
 -- what was done with its file
 abbrev pub journal_past : {F : Type 0} → Journal F → Past
@@ -29,3 +32,45 @@ pub record IsWholeOnDisk (past : Past) (failed : Bool) : Type 0 where
 abbrev pub IsDamage : JournalFault → List ℕ → Type 0
 IsDamage (Damaged whole) bytes = HasWholeBatches bytes (recovered_lines bytes) whole false × IsNeverLeft bytes
 IsDamage _ bytes = Unit {0}
+
+-- ---- a journal that is read
+
+-- what was read of its file
+abbrev pub bytes_read : {F : Type 0} → JournalReader F → List ℕ
+bytes_read reader = read_of reader.file
+
+-- the same, as what was done with the file
+abbrev pub past_read : {F : Type 0} → JournalReader F → Past
+past_read reader = after_open (content_read reader.file)
+
+-- how many bytes the batches have that were given
+abbrev pub whole_len : {F : Type 0} → JournalReader F → ℕ
+whole_len reader = reader.whole
+
+-- what was read behind them
+abbrev pub torn_bytes : {F : Type 0} → JournalReader F → List ℕ
+torn_bytes reader = reader.rest.items
+
+-- their lines
+abbrev pub given_lines : {F : Type 0} → JournalReader F → List (List ℕ)
+given_lines reader = recovered_lines (take (whole_len reader) (bytes_read reader))
+
+-- of these bytes, the first ones, so many, are whole batches, and this is the rest
+pub record IsSplit (bytes : List ℕ) (whole : ℕ) (rest : List ℕ) : Type 0 where
+  pub within : whole ≤ length bytes
+  pub few : length bytes ≤ 2 ^ 40
+  pub rest_is : rest ≡ drop whole bytes
+  pub front : AreWhole (take whole bytes) (recovered_lines (take whole bytes))
+
+-- the batches that were given are whole, and the reader has what was read behind them
+abbrev pub IsReading : {F : Type 0} → JournalReader F → Type 0
+IsReading reader = IsSplit (bytes_read reader) (whole_len reader) (torn_bytes reader)
+
+-- all whole batches were given, and what is behind them may be a torn end
+abbrev pub IsAtEnd : {F : Type 0} → JournalReader F → Type 0
+IsAtEnd reader = HasWholeBatches (bytes_read reader) (recovered_lines (bytes_read reader)) (whole_len reader) true
+
+-- why a journal is not read on, where a piece of its file was not read
+abbrev pub fault_of_read : ReadFault → JournalFault
+fault_of_read read_fault.Memory = Memory
+fault_of_read read_fault.Failed = Failed

@@ -7,15 +7,15 @@ use memchr::memchr;
 
 /// What the bytes of a file stand for.
 #[derive(Clone, Copy, Debug, PartialEq, Eq)]
-pub struct FoundBatches {
+pub(crate) struct FoundBatches {
     /// How many bytes the whole batches have: the index behind the last one.
-    pub whole: usize,
+    pub(crate) whole: usize,
     /// Whether what is behind them may be a torn end: no batch ends in it, but at its end.
-    pub torn: bool,
+    pub(crate) torn: bool,
 }
 
 /// Where the whole batches of the bytes end. Takes no memory.
-pub fn find_batches(bytes: &[u8]) -> FoundBatches
+pub(crate) fn find_batches(bytes: &[u8]) -> FoundBatches
     ensures found { HasWholeBatches bytes.now (recovered_lines bytes.now) result.whole result.torn }
     // What a crash may leave is never taken for damage.
     ensures damaged { result.torn ≡ false → IsNeverLeft bytes.now }

@@ -1,77 +1,49 @@
 //! The journal.
 ghost use Rattle.std.specs.Prelude.{◌≡◌, ◌⊎◌, ◌≤◌, ◌++◌, true, false, length, take, IfOk, IfErr, OnOk, OnErr};
 ghost use Rattle.log_file.specs.Crashes.{content_of, IsSynced, LeavesOnly};
-ghost use Rattle.log_file.specs.Files.{past_of, after_open, after_append, after_cut, after_sync, after_failure};
+ghost use Rattle.log_file.specs.Files.{past_of, after_append, after_cut, after_sync, after_failure};
 ghost use Rattle.journal.specs.Lines.{recovered_lines, text_lines, AreWhole, HasWholeBatches, StandsFor};
-ghost use Rattle.journal.specs.Journals.{lines_of, journal_past, has_failed, IsWholeOnDisk, IsDamage};
+ghost use Rattle.journal.specs.Journals.{lines_of, journal_past, has_failed, bytes_read, past_read, IsReading, IsAtEnd, IsWholeOnDisk};
 
 use crate::batch::Batch;
-use crate::found::{FoundBatches, find_batches};
+use crate::reader::JournalReader;
 use log_file::{Failed, LogFile, RawFile};
 
-/// Why a journal was not opened.
-#[derive(Clone, Copy, Debug, PartialEq, Eq)]
-pub enum JournalFault {
-    /// A call of the file failed.
-    Failed,
-    /// The whole batches end at this index, in bytes, and behind it a batch ends and more follows: the journal is damaged.
-    Damaged(usize),
-}
-
-/// Lines in a file, in batches. Opened by [`Journal::open`] of a file, or of a value over memory in a test.
+/// Lines in a file, in batches. Opened by [`Journal::open`] of what was read by a `JournalReader`.
 #[derive(Drop)]
 pub struct Journal<F> {
     file: LogFile<F>,
     has_failed: bool,
 }
 
-/// A journal that was opened, and where its lines are among the bytes that the file had.
-#[derive(Drop)]
-pub struct OpenedJournal<F> {
-    /// The journal.
-    pub journal: Journal<F>,
-    /// How many bytes its whole batches have. [`next_line`](crate::next_line) gives the lines of these, one after another.
-    pub whole: usize,
-}
-
 impl<F: RawFile> Journal<F> {
-    /// Opens the journal of a file that was opened and synced, and then had these bytes. A torn end is cut off, and the file
-    /// synced.
-    ///
-    /// An `Err` hands the file back: `Damaged` where what is behind the whole batches is no torn end, and no call of the file was
-    /// made then; `Failed` where the cut or its sync failed. Takes no memory.
-    pub fn open(raw: F, bytes: &Vec<u8>) -> Result<OpenedJournal<F>, (JournalFault, LogFile<F>)>
-        ensures whole { IfOk result (λ o.
-            HasWholeBatches bytes.now.items (recovered_lines bytes.now.items) o.whole true) }
-        ensures lines { IfOk result (λ o. text_lines (take o.whole bytes.now.items)
-            ≡ recovered_lines bytes.now.items) }
-        ensures same { IfOk result (λ o. lines_of o.journal ≡ recovered_lines bytes.now.items) }
-        ensures on_disk { IfOk result (λ o.
-            IsWholeOnDisk (journal_past o.journal) (has_failed o.journal)) }
-        ensures sound { IfOk result (λ o. has_failed o.journal ≡ false) }
-        // What a crash may leave is never refused as damage.
-        ensures damage { IfErr result (λ e. IsDamage e.0 bytes.now.items) }
-        // A crash at any moment of the call leaves a file that stands for the same lines, or the one that was there.
-        ensures any_moment { IfOk result (λ o.
-            LeavesOnly (after_open bytes.now) (journal_past o.journal)
-            (λ c. StandsFor c (recovered_lines bytes.now.items))) }
-        ensures any_moment_err { IfErr result (λ e. LeavesOnly (after_open bytes.now) (past_of e.1)
-            (λ c. StandsFor c (recovered_lines bytes.now.items) ⊎ (c ≡ bytes.now.items))) }
+    /// Opens the journal of a file that was read to its end. A torn end is cut off, and the file synced. `Err` hands the file back,
+    /// where the cut or its sync failed. Takes no memory.
+    pub fn open(reader: JournalReader<F>) -> Result<Journal<F>, LogFile<F>>
+        requires reading { IsReading reader }
+        requires at_end { IsAtEnd reader }
+        ensures same { IfOk result (λ j. lines_of j ≡ recovered_lines (bytes_read reader)) }
+        ensures on_disk { IfOk result (λ j. IsWholeOnDisk (journal_past j) (has_failed j)) }
+        ensures sound { IfOk result (λ j. has_failed j ≡ false) }
+        // A crash at any moment of the call leaves a file that stands for the same lines.
+        ensures any_moment { IfOk result (λ j. LeavesOnly (past_read reader) (journal_past j)
+            (λ c. StandsFor c (recovered_lines (bytes_read reader)))) }
+        ensures any_moment_err { IfErr result (λ f. LeavesOnly (past_read reader) (past_of f)
+            (λ c. StandsFor c (recovered_lines (bytes_read reader)))) }
     {
-        let mut file = LogFile::new(raw, bytes);
-        let FoundBatches { whole, torn } = find_batches(bytes.as_slice());
-        if !torn {
-            return Err((JournalFault::Damaged(whole), file));
-        }
-        match repair(&mut file, whole, bytes.len()) {
-            Ok(()) => {
-                let journal = Journal {
-                    file,
-                    has_failed: false,
-                };
-                Ok(OpenedJournal { journal, whole })
-            }
-            Err(Failed) => Err((JournalFault::Failed, file)),
+        let JournalReader {
+            file,
+            rest,
+            whole,
+            ..
+        } = reader;
+        let mut file = file.into_file();
+        match repair(&mut file, whole, whole + rest.len()) {
+            Ok(()) => Ok(Journal {
+                file,
+                has_failed: false,
+            }),
+            Err(Failed) => Err(file),
         }
     }
 

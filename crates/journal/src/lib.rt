@@ -9,25 +9,28 @@
 //! | `batch` | the lines that are to be on the disk together |
 //! | `found` | where the whole batches of a file's bytes end |
 //! | `lines` | the lines of a text, one after another |
+//! | `reader` | the file while it is read, whole batches at a time |
 //! | `journal` | opening a journal, and committing batches |
 //!
 //! Promised of [`Journal::commit`]: at Ok the file stands for the lines from before and then those of the batch, and all of it is
 //! on the disk; a crash at any moment of the call leaves a file that stands for the lines from before, with all of the batch or
-//! none; after an Err no batch is taken. Of [`Journal::open`]: it tells how many of the bytes are whole batches, whose lines, which
-//! [`next_line`] gives, are those that the bytes stand for, and a crash at any moment of it leaves a file that stands for the same;
-//! a file that a crash may leave is never refused as damaged. What a crash leaves of a file is the model of `log_file`, which is
-//! trusted. A line that turned into another one is not found out: a journal has no sums.
+//! none; after an Err no batch is taken. Of [`JournalReader::next_batches`]: the texts that it gives have, one after another, the lines
+//! that the file stands for, which [`next_line`] gives, and a file that a crash may leave is never refused as damaged. Of
+//! [`Journal::open`]: the file stands for these lines, and so does what a crash leaves at any moment of it. What a crash leaves of a
+//! file is the model of `log_file`, which is trusted. A line that turned into another one is not found out: a journal has no sums.
 //!
-//! Memory is taken for the text of a batch alone. Bytes are searched by `memchr`, and no line of them is copied.
+//! Memory is taken for the text of a batch, and where a journal is read for what is read at once and the batch that has begun.
+//! Bytes are searched by `memchr`.
 #![tactic(auto)]
 
 mod batch;
 mod found;
 mod journal;
 mod lines;
+mod reader;
 
 pub use batch::{Batch, is_line};
-pub use found::{FoundBatches, find_batches};
-pub use journal::{Journal, JournalFault, OpenedJournal};
+pub use journal::Journal;
 pub use lines::{Line, next_line};
 pub use log_file::{Failed, LogFile, RawFile};
+pub use reader::{JournalFault, JournalReader};

@@ -1,6 +1,6 @@
 //! Calls of the file that fail.
 use crate::given::{Failing, Memory, MemoryFile, commit_line, fault_in, has_lines, open_journal};
-use journal::{JournalFault, find_batches};
+use journal::JournalFault;
 use std::alloc::Global;
 use std::test::Fail;
 
@@ -21,23 +21,27 @@ static LINES: [&[u8]; 3] = [b"first", b"second", b"third"];
 
 // Commits three batches, and counts those that are acknowledged.
 fn acknowledged(alloc: Global, memory: &mut Memory, failing: Failing) -> Result<usize, Fail> {
-    let none = Vec::new(alloc);
-    let file = MemoryFile { memory, failing };
-    let mut journal = open_journal(file, &none)?.journal;
+    let file = MemoryFile::new(memory, failing);
+    let mut journal = open_journal(alloc, file)?.journal;
     let first = commit_line(alloc, &mut journal, LINES[0])?;
     let second = commit_line(alloc, &mut journal, LINES[1])?;
     let third = commit_line(alloc, &mut journal, LINES[2])?;
     Ok([first, second, third].iter().filter(|it| **it).count())
 }
 
+// The whole batches that a file has.
+fn batches_left(alloc: Global, memory: &mut Memory) -> Result<Vec<u8>, Fail> {
+    Ok(open_journal(alloc, MemoryFile::new(memory, Failing::Never))?.text)
+}
+
 // Whether a run of which this call fails acknowledges and leaves so many batches, and makes no call after the one that fails.
 fn stops(alloc: Global, failing: Failing, case: &(u32, usize, usize)) -> Result<bool, Fail> {
     let mut memory = Memory::of(alloc, b"")?;
     let count = acknowledged(alloc, &mut memory, failing)?;
-    let bytes = memory.bytes.as_slice();
-    let whole = &bytes[..find_batches(bytes).whole.min(bytes.len())];
-    let left = has_lines(whole, &LINES[..case.2.min(LINES.len())]);
-    Ok(count == case.1 && left && memory.calls == case.0.min(6))
+    let calls = memory.calls;
+    let left = batches_left(alloc, &mut memory)?;
+    let same = has_lines(left.as_slice(), &LINES[..case.2.min(LINES.len())]);
+    Ok(count == case.1 && same && calls == case.0.min(6))
 }
 
 #[test]

@@ -1,9 +1,9 @@
 //! A file over memory, and what the tests do with a journal.
-ghost use Rattle.std.specs.Prelude.{IfOk};
-ghost use Rattle.journal.specs.Journals.{journal_past, has_failed, IsWholeOnDisk};
+ghost use Rattle.std.specs.Prelude.{◌≡◌, None, IfOk};
+ghost use Rattle.journal.specs.Journals.{journal_past, has_failed, IsWholeOnDisk, IsReading, IsAtEnd};
 
 use journal::{
-    Batch, Failed, Journal, JournalFault, Line, OpenedJournal, RawFile, is_line, next_line,
+    Batch, Failed, Journal, JournalFault, JournalReader, Line, RawFile, is_line, next_line,
 };
 use std::alloc::Global;
 use std::test::Fail;
@@ -30,14 +30,25 @@ impl Memory {
     }
 }
 
-/// A file over memory. An append that fails leaves half of the bytes, another call that fails does nothing.
+/// A file over memory, whose first half is read by itself. An append that fails leaves half of the bytes, another call that fails does
+/// nothing.
 #[derive(Drop)]
 pub(crate) struct MemoryFile<'a> {
-    pub(crate) memory: &'a mut Memory,
-    pub(crate) failing: Failing,
+    memory: &'a mut Memory,
+    failing: Failing,
+    // How many bytes were read.
+    position: usize,
 }
 
-impl MemoryFile<'_> {
+impl<'a> MemoryFile<'a> {
+    pub(crate) fn new(memory: &'a mut Memory, failing: Failing) -> MemoryFile<'a> {
+        MemoryFile {
+            memory,
+            failing,
+            position: 0,
+        }
+    }
+
     // Counts a call, and tells whether it fails.
     fn fails(&mut self) -> bool {
         self.memory.calls = self.memory.calls.saturating_add(1);
@@ -50,6 +61,19 @@ impl MemoryFile<'_> {
 }
 
 impl RawFile for MemoryFile<'_> {
+    fn read(&mut self, buffer: &mut [u8]) -> Result<usize, Failed> {
+        let bytes = self.memory.bytes.as_slice();
+        let rest = &bytes[self.position.min(bytes.len())..];
+        let next = match self.position {
+            0 => rest.len().div_ceil(2),
+            _ => rest.len(),
+        };
+        let count = next.min(buffer.len());
+        buffer[..count].copy_from_slice(&rest[..count]);
+        self.position = self.position.saturating_add(count);
+        Ok(count)
+    }
+
     fn append(&mut self, bytes: &[u8]) -> Result<(), Failed> {
         let fails = self.fails();
         let count = if fails { bytes.len() / 2 } else { bytes.len() };
@@ -76,25 +100,60 @@ impl RawFile for MemoryFile<'_> {
     }
 }
 
-/// Opens the journal of a file that has these bytes.
+/// A journal that was opened, and the text of the batches that its file had.
+#[derive(Drop)]
+pub(crate) struct OpenedJournal<F> {
+    pub(crate) journal: Journal<F>,
+    pub(crate) text: Vec<u8>,
+}
+
+/// Opens the journal of a file.
 pub(crate) fn open_journal<F: RawFile + Drop>(
+    alloc: Global,
     file: F,
-    bytes: &Vec<u8>,
 ) -> Result<OpenedJournal<F>, Fail>
     ensures { IfOk result (λ o. IsWholeOnDisk (journal_past o.journal) (has_failed o.journal)) }
 {
-    match Journal::open(file, bytes) {
-        Ok(opened) => Ok(opened),
+    let mut reader = JournalReader::new(alloc, file);
+    let mut text = Vec::new(alloc);
+    match read_batches(&mut reader, &mut text)? {
+        None => {}
+        Some(_) => return Err(Fail::new("the journal is not read to its end")),
+    }
+    match Journal::open(reader) {
+        Ok(journal) => Ok(OpenedJournal { journal, text }),
         Err(_) => Err(Fail::new("the journal is not opened")),
     }
 }
 
-// Why the journal of a file that has these bytes is not opened, if so.
-fn fault_of<F: RawFile + Drop>(file: F, bytes: &Vec<u8>) -> Option<JournalFault> {
-    let opened = Journal::open(file, bytes);
-    match &opened {
-        Ok(_) => None,
-        Err(error) => Some(error.0),
+// Appends the batches of a file to a text, up to its end, or to a fault.
+fn read_batches<F: RawFile>(
+    reader: &mut JournalReader<F>,
+    text: &mut Vec<u8>,
+) -> Result<Option<JournalFault>, Fail>
+    requires { IsReading reader.old }
+    ensures { IfOk result (λ fault. fault ≡ None → IsReading reader.new × IsAtEnd reader.new) }
+{
+    'batches: for _ in 0..1000 {
+        match reader.next_batches() {
+            Ok(Some(batches)) => text.extend_from_slice(batches.as_slice())?,
+            Ok(None) => return Ok(None),
+            Err(fault) => return Ok(Some(fault)),
+        }
+    }
+    Err(Fail::new("the journal has no end"))
+}
+
+// Why the journal of a file is not opened, if so.
+fn fault_of<F: RawFile + Drop>(alloc: Global, file: F) -> Result<Option<JournalFault>, Fail> {
+    let mut reader = JournalReader::new(alloc, file);
+    match read_batches(&mut reader, &mut Vec::new(alloc))? {
+        None => {}
+        fault => return Ok(fault),
+    }
+    match Journal::open(reader) {
+        Ok(_) => Ok(None),
+        Err(_) => Ok(Some(JournalFault::Failed)),
     }
 }
 
@@ -104,8 +163,7 @@ pub(crate) fn fault_in(
     memory: &mut Memory,
     failing: Failing,
 ) -> Result<Option<JournalFault>, Fail> {
-    let bytes = Vec::from_slice(alloc, memory.bytes.as_slice())?;
-    Ok(fault_of(MemoryFile { memory, failing }, &bytes))
+    fault_of(alloc, MemoryFile::new(memory, failing))
 }
 
 /// Whether these are the lines of a text, and no others.

@@ -1,11 +1,12 @@
 //! Hubs whose calls are in a journal.
+ghost use Rattle.std.specs.Prelude.{IfOk};
 ghost use Rattle.journaled_hub.specs.JournaledHubs.{IsJournaled};
 
 use crate::given::{Failing, Memory, MemoryFile};
 use call_reader::read_call;
 use journal::RawFile;
 use journal_lines::{first_sum, line_of};
-use journaled_hub::{JournaledHub, OpenFault};
+use journaled_hub::{JournaledHub, OpenFault, RecoveredHub};
 use reply_writer::{Buffer, append_reply};
 use seeded_state::SeededState;
 use std::alloc::Global;
@@ -80,6 +81,22 @@ fn serve<F: RawFile>(
     Ok(hub.sync().is_ok())
 }
 
+// The hub of the calls that a file has.
+fn hub_of<H, F>(rt: &H, file: F) -> Result<JournaledHub<F>, Fail>
+where
+    H: Threads + AllocGlobal,
+    F: RawFile + Send + Drop,
+    ensures { IfOk result (λ hub. IsJournaled hub) }
+{
+    let Ok(recovered) = RecoveredHub::read(rt, rt.alloc(), SeededState::fixed(), file) else {
+        return Err(Fail::new("no hub"));
+    };
+    match recovered.open() {
+        Ok(hub) => Ok(hub),
+        Err(_) => Err(Fail::new("the journal is not opened")),
+    }
+}
+
 // Opens the hub of the memory, and serves two records.
 fn serve_again<H: Threads + AllocGlobal>(
     rt: &H,
@@ -88,13 +105,8 @@ fn serve_again<H: Threads + AllocGlobal>(
     first: (&str, &str),
     second: (&str, &str),
 ) -> Result<bool, Fail> {
-    let alloc = rt.alloc();
-    let bytes = Vec::from_slice(alloc, memory.bytes.as_slice())?;
-    let file = MemoryFile { memory, failing };
-    match JournaledHub::open(rt, alloc, SeededState::fixed(), file, &bytes) {
-        Ok(mut hub) => serve(alloc, &mut hub, first, second),
-        Err(_) => Err(Fail::new("no hub")),
-    }
+    let mut hub = hub_of(rt, MemoryFile::new(memory, failing))?;
+    serve(rt.alloc(), &mut hub, first, second)
 }
 
 #[test]
@@ -126,13 +138,8 @@ where
 {
     let alloc = rt.alloc();
     let mut memory = Memory::of(alloc, bytes)?;
-    let bytes = Vec::from_slice(alloc, bytes)?;
-    let failing = Failing::Never;
-    let file = MemoryFile {
-        memory: &mut memory,
-        failing,
-    };
-    match JournaledHub::open(rt, alloc, SeededState::fixed(), file, &bytes) {
+    let file = MemoryFile::new(&mut memory, Failing::Never);
+    match RecoveredHub::read(rt, alloc, SeededState::fixed(), file) {
         Ok(hub) => Ok(Ok(hub.len())),
         Err((fault, _)) => Ok(Err(fault)),
     }

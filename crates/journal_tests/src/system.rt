@@ -1,6 +1,6 @@
 //! A journal in a file of the system.
-use crate::given::{commit_line, has_lines, open_journal};
-use disk_file::{OpenFault, OpenedFile, open};
+use crate::given::{OpenedJournal, commit_line, has_lines, open_journal};
+use disk_file::{OpenFault, keep_end, open, open_to_read};
 use std::alloc::Global;
 use std::fs::OpenOptions;
 use std::io::Write;
@@ -10,14 +10,10 @@ use std::{env, fs, process};
 
 // Opens the journal, and compares the lines that it has; then commits a line, while the file can't be opened a second time.
 fn serve(rt: HostRuntime, path: &str, wanted: &[&[u8]], line: &[u8]) -> Result<bool, Fail> {
-    let OpenedFile { mut file, bytes } = open(&rt, rt.alloc(), path)?;
-    if !bytes.is_empty() && !bytes.as_slice().ends_with(b"\n\n") {
-        file.make_copy(&rt, rt.alloc(), path)?;
-    }
-    let opened = open_journal(file, &bytes)?;
-    let same = has_lines(&bytes.as_slice()[..opened.whole.min(bytes.len())], wanted);
-    let mut journal = opened.journal;
-    let busy = matches!(open(&rt, rt.alloc(), path), Err(OpenFault::Busy));
+    let opened = open_journal(rt.alloc(), open(&rt, path)?)?;
+    let OpenedJournal { mut journal, text } = opened;
+    let same = has_lines(text.as_slice(), wanted);
+    let busy = matches!(open(&rt, path), Err(OpenFault::Busy));
     let taken = commit_line(rt.alloc(), &mut journal, line)?;
     Ok(same && busy && taken)
 }
@@ -39,8 +35,16 @@ fn is_private(rt: HostRuntime, path: &str, bytes: &[u8]) -> Result<bool, Fail> {
 fn serve_twice(rt: HostRuntime, path: &str, kept: &str) -> Result<bool, Fail> {
     let first = serve(rt, path, &[], b"a")?;
     tear(rt, path)?;
+    let copy = keep_end(&rt, rt.alloc(), path, 3)?;
     let second = serve(rt, path, &[b"a"], b"d")?;
-    Ok(first && second && is_private(rt, path, b"a\n\nd\n\n")? && is_private(rt, kept, b"b\nc")?)
+    let named = copy.as_str() == kept;
+    Ok(
+        first
+            && second
+            && named
+            && is_private(rt, path, b"a\n\nd\n\n")?
+            && is_private(rt, kept, b"b\nc")?,
+    )
 }
 
 #[test]
@@ -59,6 +63,8 @@ fn a_file_is_made_locked_and_repaired(rt: HostRuntime) -> Result<(), Fail> {
 
 #[test]
 fn a_device_is_no_journal(rt: HostRuntime) {
-    let opened = open(&rt, rt.alloc(), "/dev/null");
+    let opened = open(&rt, "/dev/null");
     assert!(rt; matches!(opened, Err(OpenFault::NotRegular)));
+    let read = open_to_read(&rt, "/dev/null");
+    assert!(rt; matches!(read, Err(OpenFault::NotRegular)));
 }

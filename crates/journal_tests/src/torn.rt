@@ -1,5 +1,7 @@
 //! Journals with a torn end.
-use crate::given::{Failing, Memory, MemoryFile, commit_line, has_lines, open_journal};
+use crate::given::{
+    Failing, Memory, MemoryFile, OpenedJournal, commit_line, has_lines, open_journal,
+};
 use std::alloc::Global;
 use std::test::Fail;
 
@@ -24,12 +26,9 @@ fn whole_of(count: usize) -> (usize, usize) {
 
 // Opens the journal, and tells whether it has the first `count` lines; then commits a batch.
 fn has_first(alloc: Global, memory: &mut Memory, count: usize) -> Result<bool, Fail> {
-    let bytes = Vec::from_slice(alloc, memory.bytes.as_slice())?;
-    let failing = Failing::Never;
-    let opened = open_journal(MemoryFile { memory, failing }, &bytes)?;
-    let whole = &bytes.as_slice()[..opened.whole.min(bytes.len())];
-    let mut journal = opened.journal;
-    let same = has_lines(whole, &LINES[..count.min(LINES.len())]);
+    let opened = open_journal(alloc, MemoryFile::new(memory, Failing::Never))?;
+    let OpenedJournal { mut journal, text } = opened;
+    let same = has_lines(text.as_slice(), &LINES[..count.min(LINES.len())]);
     Ok(commit_line(alloc, &mut journal, b"e")? && same)
 }
 

@@ -6,8 +6,8 @@ use Rattle.std.proofs.lemmas.Option.{slice_get-get_or}
 use Rattle.hub_model.specs.declared.entry.Entry.{Entry}
 use Rattle.journal.specs.Lines.{recovered_lines}
 use Rattle.journal.specs.Journals.{IsDamage}
-use Rattle.journal.specs.declared.journal.JournalFault.{JournalFault}
-use Rattle.journal.specs.declared.journal.JournalFault.TheVariants as journals
+use Rattle.journal.specs.declared.reader.JournalFault.{JournalFault}
+use Rattle.journal.specs.declared.reader.JournalFault.TheVariants as journals
 use Rattle.journal_lines.specs.CallLines.{last_sum}
 use Rattle.journal_lines.specs.LineFaults.{HasOtherSum, IsLineFault}
 use Rattle.journal_lines.specs.declared.fault.LineFault.{LineFault}
@@ -65,5 +65,6 @@ fault_of_file (OtherSum at) bytes h = h
 fault_of_file Full bytes h = h
 
 pub journal_not_opened : (fault : JournalFault) (bytes : List ℕ) → IsDamage fault bytes → IsOpenFault (fault_of_journal fault) bytes
+journal_not_opened journals.Memory bytes h = tt
 journal_not_opened journals.Failed bytes h = tt
 journal_not_opened (journals.Damaged whole) bytes h = h

@@ -6,3 +6,4 @@ pub mod Laws
 pub mod Answering
 pub mod RunFaults
 pub mod Crashes
+pub mod Recovered

@@ -6,8 +6,8 @@ use Rattle.tallies.specs.declared.fault.HubFault.TheVariants as hub_fault
 use Rattle.hub_model.specs.declared.entry.Entry.{Entry}
 use Rattle.journal.specs.Lines.{recovered_lines}
 use Rattle.journal.specs.Journals.{IsDamage}
-use Rattle.journal.specs.declared.journal.JournalFault.{JournalFault}
-use Rattle.journal.specs.declared.journal.JournalFault.TheVariants as journal_fault
+use Rattle.journal.specs.declared.reader.JournalFault.{JournalFault}
+use Rattle.journal.specs.declared.reader.JournalFault.TheVariants as journal_fault
 use Rattle.journal_lines.specs.CallLines.{lines_of_calls, last_sum}
 use Rattle.journal_lines.specs.LineFaults.{IsNoCall, HasOtherSum}
 use Rattle.journal_lines.specs.declared.fault.LineFault.{LineFault}
@@ -57,8 +57,9 @@ IsOpenFault (Damaged whole) bytes = IsDamage (journal_fault.Damaged whole) bytes
 IsOpenFault Failed bytes = Unit {0}
 IsOpenFault fault bytes = IsFaultOfLines fault (recovered_lines bytes)
 
--- the fault of a journal that is not opened for this one
+-- the fault of a journal that is not read on for this one
 abbrev pub fault_of_journal : JournalFault → OpenFault
+fault_of_journal journal_fault.Memory = Memory
 fault_of_journal journal_fault.Failed = Failed
 fault_of_journal (journal_fault.Damaged whole) = Damaged whole
 

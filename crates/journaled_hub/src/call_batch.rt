@@ -1,5 +1,6 @@
-//! The calls of lines in a row.
-ghost use Rattle.std.specs.Prelude.{◌≡◌, ◌<◌, ◌≤◌, true, false, length, None, Some};
+//! The calls of the next lines of a journal.
+ghost use Rattle.std.specs.Prelude.{◌≡◌, [], None};
+ghost use Rattle.journal.specs.Lines.{text_lines};
 ghost use Rattle.journaled_hub.specs.CallBatches.{IsCallBatch};
 
 use journal::next_line;
@@ -9,92 +10,57 @@ use std::collections::VecDeque;
 use std::mem::replace;
 use taf_messages::Call;
 
-/// Where a line begins, in bytes, and the sum of the line before.
-#[derive(Clone, Copy)]
-pub(crate) struct Place {
-    pub(crate) from: usize,
-    pub(crate) sum: u64,
-}
-
-/// Lines that are to be read: those of a text that begin among so many bytes from the start on.
-#[derive(Clone, Copy)]
-pub(crate) struct NextLines<'a> {
-    pub(crate) alloc: Global,
-    pub(crate) text: &'a [u8],
-    pub(crate) start: Place,
-    pub(crate) most: usize,
-}
-
 /// The calls of lines in a row.
 #[derive(Drop)]
 pub(crate) struct CallBatch {
     pub(crate) calls: VecDeque<Call>,
-    /// The place behind the lines.
-    pub(crate) place: Place,
-    /// Why the line there is not taken, if it was read and is not.
+    /// The sum of the last line.
+    pub(crate) sum: u64,
+    /// Why the line behind them is not taken, if it is not.
     pub(crate) fault: Option<LineFault>,
 }
 
 impl CallBatch {
-    /// Whether lines may follow that were not read.
-    pub(crate) fn has_more(&self, text: &[u8]) -> bool
-        ensures more { result ≡ true
-            → (self.now.fault ≡ None) × (self.now.place.from < length text.now) }
-        ensures last { result ≡ false → self.now.fault ≡ None
-            → length text.now ≤ self.now.place.from }
+    /// No calls, behind a line of this sum. Takes no memory.
+    pub(crate) fn none(alloc: Global, before: u64) -> CallBatch
+        ensures calls { result.calls.items ≡ [] }
+        ensures sum { result.sum ≡ before }
+        ensures fault { result.fault ≡ None }
     {
-        match self.fault {
-            None => self.place.from < text.len(),
-            Some(_) => false,
-        }
+        batch_of(VecDeque::new(alloc), before, None)
     }
 }
 
-/// The calls of these lines, in this list, up to the first line that is not taken.
-pub(crate) fn read_calls(list: &mut VecDeque<Call>, next: NextLines<'_>) -> CallBatch
-    requires within { next.start.from ≤ length next.text.now }
-    requires some { 0 < next.most }
-    ensures { IsCallBatch next.entry.text.now next.entry.start result }
+/// The calls of the lines of a text, in this list, behind a line of the sum `before`, up to the first line that is not taken.
+pub(crate) fn read_calls(
+    alloc: Global,
+    list: &mut VecDeque<Call>,
+    text: &[u8],
+    before: u64,
+) -> CallBatch
+    ensures { IsCallBatch (text_lines text.now) before result }
 {
-    let NextLines {
-        alloc,
-        text,
-        start,
-        most,
-    } = next;
     let mut reader = LineReader::new(alloc);
     let mut calls = replace(list, VecDeque::new(alloc));
     calls.clear();
-    let mut place = start;
-    'lines: while place.from - start.from < most {
-        let Some(found) = next_line(text, place.from) else {
-            let end = Place {
-                from: text.len(),
-                sum: place.sum,
-            };
-            return batch_of(calls, end, None);
-        };
-        let (call, sum) = match reader.read(place.sum, found.line) {
+    let mut from = 0;
+    let mut sum = before;
+    'lines: while let Some(found) = next_line(text, from) {
+        let (call, own) = match reader.read(sum, found.line) {
             Ok(read) => read,
-            Err(fault) => return batch_of(calls, place, Some(fault)),
+            Err(fault) => return batch_of(calls, sum, Some(fault)),
         };
         let Ok(()) = calls.push_back(call) else {
-            return batch_of(calls, place, Some(LineFault::Memory));
+            return batch_of(calls, sum, Some(LineFault::Memory));
         };
-        place = Place {
-            from: found.next,
-            sum,
-        };
+        from = found.next;
+        sum = own;
     }
-    batch_of(calls, place, None)
+    batch_of(calls, sum, None)
 }
 
-fn batch_of(calls: VecDeque<Call>, place: Place, fault: Option<LineFault>) -> CallBatch
-    ensures { result ≡ record { calls = calls; place = place; fault = fault } }
+fn batch_of(calls: VecDeque<Call>, sum: u64, fault: Option<LineFault>) -> CallBatch
+    ensures { result ≡ record { calls = calls; sum = sum; fault = fault } }
 {
-    CallBatch {
-        calls,
-        place,
-        fault,
-    }
+    CallBatch { calls, sum, fault }
 }

@@ -8,7 +8,7 @@ use Rattle.log_file.specs.Files.{after_append, after_cut, after_sync, after_fail
 
 -- since this moment there is no other
 pub only_now : (past : Past) (c : List ℕ) → MayLeaveSince past (moment past) c → MayLeave past c
-only_now (Opened bytes) c left = left
+only_now (Opened content) c left = left
 only_now (Appended' marker before bytes) c (inl now) = now
 only_now (Appended' marker before bytes) c (inr past) = absurd (omega (arith, past.0))
 only_now (Cut' marker before len) c (inl now) = now

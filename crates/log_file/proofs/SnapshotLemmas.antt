@@ -2,12 +2,13 @@
 use Rattle.std.proofs.Common.{◌≡◌, ℕ, Vec, ap, ◌∙◌}
 use Rattle.std.specs.declared.alloc.Global.{Global}
 use Rattle.std.specs.declared.snapshot.Snapshot.{Snapshot}
+use Rattle.log_file.specs.declared.content.Content.{Content}
 use Rattle.log_file.specs.declared.past.Past.{Past}
 use Rattle.log_file.specs.declared.past.Past.TheVariants.{Opened, Appended, Cut, Synced, Broken}
 use Rattle.log_file.specs.Files.{after_open, after_append, after_cut, after_sync, after_failure}
 
-pub is_opened : (s : Snapshot (Vec ℕ Global)) (bytes : Vec ℕ Global) → s.value ≡ bytes → Opened s ≡ after_open bytes
-is_opened s bytes e = ap after_open e
+pub is_opened : (s : Snapshot Content) (content : Content) → s.value ≡ content → Opened s ≡ after_open content
+is_opened s content e = ap after_open e
 
 pub is_appended : (p : Snapshot Past) (s : Snapshot (Vec ℕ Global)) (before : Past) (bytes : Vec ℕ Global) → p.value ≡ before → s.value ≡ bytes → Appended p s ≡ after_append before bytes
 is_appended p s before bytes d e = ap (λ past. after_append past s.value) d ∙ ap (after_append before) e

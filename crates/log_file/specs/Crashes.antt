@@ -1,5 +1,7 @@
 -- What a file has, and what a crash may leave of it, by what was done with it.
 use Rattle.std.specs.Prelude.{◌≡◌, ◌⊎◌, ℕ, ◌+◌, ◌≤◌, List, [], ◌∷◌, ◌++◌, take}
+use Rattle.log_file.specs.declared.content.Content.{Content}
+use Rattle.log_file.specs.declared.content.Content.TheBlock.{Nothing, Piece'}
 use Rattle.log_file.specs.declared.past.Past.{Past}
 use Rattle.log_file.specs.declared.past.Past.TheBlock.{Opened, Appended', Cut', Synced', Broken'}
 
@@ -21,9 +23,14 @@ IsPartlyCut len old new = (to : ℕ) × (len ≤ to) × (new ≡ take to old)
 
 -- ---- files
 
+-- the pieces that were read, one behind another
+abbrev pub bytes_of : Content → List ℕ
+bytes_of Nothing = []
+bytes_of (Piece' marker before piece) = bytes_of before ++ piece.value.items
+
 -- what a read returns, unless a call failed
 abbrev pub content_of : Past → List ℕ
-content_of (Opened bytes) = bytes.value.items
+content_of (Opened content) = bytes_of content.value
 content_of (Appended' marker before bytes) = content_of before ++ bytes.value.items
 content_of (Cut' marker before len) = take len.value (content_of before)
 content_of (Synced' marker before) = content_of before
@@ -31,7 +38,7 @@ content_of (Broken' marker before) = content_of before
 
 -- what a crash during the newest call, or since, may leave, where the calls before it left only what a read returns
 abbrev pub MayLeave : Past → List ℕ → Type 0
-MayLeave (Opened bytes) c = c ≡ bytes.value.items
+MayLeave (Opened content) c = c ≡ bytes_of content.value
 MayLeave (Appended' marker before bytes) c = IsPartlyAppended bytes.value.items (content_of before) c
 MayLeave (Cut' marker before len) c = IsPartlyCut len.value (content_of before) c
 MayLeave (Synced' marker before) c = c ≡ content_of before
@@ -39,7 +46,7 @@ MayLeave (Broken' marker before) c = MayLeave before c
 
 -- a crash leaves what a read returns
 abbrev pub IsSynced : Past → Type 0
-IsSynced (Opened bytes) = Unit {0}
+IsSynced (Opened content) = Unit {0}
 IsSynced (Synced' marker before) = Unit {0}
 IsSynced _ = ⊥
 
@@ -50,7 +57,7 @@ IsUsable _ = Unit {0}
 
 -- how many calls were made: a moment is such a number
 abbrev pub moment : Past → ℕ
-moment (Opened bytes) = 0
+moment (Opened content) = 0
 moment (Appended' marker before bytes) = moment before + 1
 moment (Cut' marker before len) = moment before + 1
 moment (Synced' marker before) = moment before + 1
@@ -58,7 +65,7 @@ moment (Broken' marker before) = moment before + 1
 
 -- what a crash at some moment from this one on may have left, during a call or between two
 abbrev pub MayLeaveSince : Past → ℕ → List ℕ → Type 0
-MayLeaveSince (Opened bytes) since c = c ≡ bytes.value.items
+MayLeaveSince (Opened content) since c = c ≡ bytes_of content.value
 MayLeaveSince (Appended' marker before bytes) since c = IsPartlyAppended bytes.value.items (content_of before) c ⊎ ((since ≤ moment before) × MayLeaveSince before since c)
 MayLeaveSince (Cut' marker before len) since c = IsPartlyCut len.value (content_of before) c ⊎ ((since ≤ moment before) × MayLeaveSince before since c)
 MayLeaveSince (Synced' marker before) since c = (c ≡ content_of before) ⊎ ((since ≤ moment before) × MayLeaveSince before since c)

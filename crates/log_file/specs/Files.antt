@@ -1,17 +1,28 @@
 -- What contracts see of a file, and what a call adds to it.
-use Rattle.std.specs.Prelude.{ℕ, Vec}
+use Rattle.std.specs.Prelude.{ℕ, List, Vec}
 use Rattle.std.specs.declared.alloc.Global.{Global}
+use Rattle.log_file.specs.declared.content.Content.{Content}
 use Rattle.log_file.specs.declared.past.Past.{Past}
 use Rattle.log_file.specs.declared.past.Past.TheVariants.{Opened, Appended, Cut, Synced, Broken}
 use Rattle.log_file.specs.declared.file.LogFile.{LogFile}
+use Rattle.log_file.specs.declared.reader.FileReader.{FileReader}
+use Rattle.log_file.specs.Crashes.{bytes_of}
+
+-- what was read of a file
+abbrev pub content_read : {F : Type 0} → FileReader F → Content
+content_read reader = reader.content
+
+-- its bytes
+abbrev pub read_of : {F : Type 0} → FileReader F → List ℕ
+read_of reader = bytes_of reader.content
 
 -- what was done with the file
 abbrev pub past_of : {F : Type 0} → LogFile F → Past
 past_of file = file.past
 
--- it was opened and synced, and then had these bytes
-abbrev pub after_open : Vec ℕ Global → Past
-after_open bytes = Opened (record { marker = record {}; value = bytes })
+-- it was opened and synced, and then had this content
+abbrev pub after_open : Content → Past
+after_open content = Opened (record { marker = record {}; value = content })
 
 -- these bytes were appended
 abbrev pub after_append : Past → Vec ℕ Global → Past

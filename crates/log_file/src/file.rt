@@ -3,6 +3,7 @@ ghost use Rattle.std.specs.Prelude.{◌≡◌, ◌≤◌, length, OnOk, OnErr};
 ghost use Rattle.log_file.specs.Crashes.{content_of, IsSynced, IsUsable};
 ghost use Rattle.log_file.specs.Files.{past_of, after_open, after_append, after_cut, after_sync, after_failure};
 
+use crate::content::Content;
 use crate::past::Past;
 use crate::raw::{Failed, RawFile};
 use std::snapshot::Snapshot;
@@ -15,13 +16,13 @@ pub struct LogFile<F> {
 }
 
 impl<F: RawFile> LogFile<F> {
-    /// A file that was opened and synced, and then had these bytes. That it had them is trusted.
-    pub fn new(raw: F, bytes: &Vec<u8>) -> LogFile<F>
-        ensures { past_of result ≡ after_open bytes.now }
+    // A file that was opened and synced, and has what was read of it.
+    pub(crate) fn new(raw: F, content: &Content) -> LogFile<F>
+        ensures { past_of result ≡ after_open content.now }
     {
         LogFile {
             raw,
-            past: Past::Opened(Snapshot::of(bytes)),
+            past: Past::Opened(Snapshot::of(content)),
         }
     }
 

@@ -5,15 +5,14 @@ use Rattle.journal.specs.Lines.{text_lines}
 use Rattle.journal_lines.specs.CallLines.{call_sum, lines_after}
 use Rattle.journaled_hub.proofs.call_batch.read_calls.Given as goal
 
--- the calls of the lines before the place are read
+-- the calls of the lines before the index are read
 abbrev pub invariant-lines : goal.invariant-lines
 invariant-lines l = record {
-  order : l.start.from ≤ l.place.from;
-  within : l.place.from ≤ length l.text;
-  lines : text_lines (drop l.start.from l.text) ≡ lines_after l.start.sum l.calls.items ++ text_lines (drop l.place.from l.text);
-  sum : l.place.sum ≡ fold call_sum l.start.sum l.calls.items;
+  within : l.from ≤ length l.text;
+  lines : text_lines l.text ≡ lines_after l.before l.calls.items ++ text_lines (drop l.from l.text);
+  sum : l.sum ≡ fold call_sum l.before l.calls.items;
   limits : All IsCall l.calls.items;
 }
 
 abbrev pub decreases-lines : goal.decreases-lines
-decreases-lines l = length l.text - l.place.from
+decreases-lines l = length l.text - l.from

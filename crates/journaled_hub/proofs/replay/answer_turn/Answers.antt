@@ -1,7 +1,9 @@
-use Rattle.std.proofs.Common.{◌≡◌, ◌++◌, sym, subst, ◌∙◌}
+use Rattle.std.proofs.Common.{◌≡◌, ◌++◌, [], sym, subst, ◌∙◌}
+use Rattle.std.proofs.lemmas.Bool.{false≢true}
 use Rattle.hub_replay.specs.Lines.{parsed_lines}
 use Rattle.journaled_hub.specs.Answering.{LeadsTo}
-use Rattle.journaled_hub.proofs.AnsweringLemmas.{stopped_in_writing}
+use Rattle.hub_replay.proofs.StreamLemmas.{Appends-none}
+use Rattle.journaled_hub.proofs.AnsweringLemmas.{stopped_at_once, stopped_in_writing}
 use Rattle.journaled_hub.proofs.CrashLemmas.{gone_unwritten, gone_by_batch}
 use Rattle.journaled_hub.proofs.replay.answer_turn.Goals as goal
 
@@ -20,6 +22,12 @@ returns-clause-err g c =
       stopped_in_writing old lines new wrote.0 wrote.1 leads,
       λ sound. c.in-Ok-sync.ensures.durable,
     )
+
+-- the sync failed: nothing was written
+pub returns-in_default-clause-err : goal.returns-in_default-clause-err
+returns-in_default-clause-err g c =
+    let old = c.args.hub.now.hub in
+    ([], old, Appends-none _, stopped_at_once old (parsed_lines c.args.lines.now), λ sound. absurd (false≢true (sym sound ∙ c.in_default.ensures.failed)))
 
 -- what a crash leaves: calls that were not noted, a batch whose sync failed, and one that was synced
 pub returns-in-Err-clause-crash : goal.returns-in-Err-clause-crash
