@@ -1,10 +1,10 @@
 -- What a journal gives while it is read.
-use Rattle.std.proofs.Common.{◌≡◌, ◌⊎◌, inl, inr, ℕ, ◌+◌, ◌-◌, ◌*◌, ◌≤◌, ◌<◌, ◌&&◌, Bool, true, false, List, [], ◌∷◌, ◌++◌, length, take, drop, refl, sym, ◌∙◌, ap, subst, arith}
+use Rattle.std.proofs.Common.{◌≡◌, ◌⊎◌, inl, inr, ℕ, ◌+◌, ◌-◌, ◌≤◌, ◌<◌, ◌&&◌, Bool, true, false, List, [], ◌∷◌, ◌++◌, length, take, drop, refl, sym, ◌∙◌, ap, subst, arith}
 use Rattle.std.specs.Prelude.{◌^◌}
 use Rattle.std.proofs.lemmas.Bool.{cases_eq, cases_lt, false≢true}
-use Rattle.std.proofs.lemmas.List.{append-nil, append_cancel_left, append_assoc, drop_all, take-append-drop, take-append-le, drop-append-le, drop-drop, length-append, length-drop, length-take-le}
+use Rattle.std.proofs.lemmas.List.{append-nil, append_cancel_left, append_assoc, take-append-drop, take-append-le, drop-append-le, drop-drop, length-append, length-drop}
 use Rattle.std.proofs.Math.Seq.{take-add, take-append_seam, drop-append_seam}
-use Rattle.journal.specs.Lines.{is_nil, read_on, recovered_lines, AreWhole, is_torn, HasWholeBatches, StandsFor, IsNeverLeft, text_lines}
+use Rattle.journal.specs.Lines.{is_nil, read_on, recovered_lines, AreWhole, is_torn, HasWholeBatches, IsNeverLeft, text_lines}
 use Rattle.journal.specs.Journals.{IsSplit, IsDamage, fault_of_read}
 use Rattle.journal.specs.declared.reader.JournalFault.{JournalFault}
 use Rattle.log_file.specs.declared.reader.ReadFault.{ReadFault}

@@ -2,7 +2,7 @@
 use Rattle.std.specs.Prelude.{◌≡◌, ◌≤◌, ◌^◌, ℕ, Bool, true, false, List, length, take, drop}
 use Rattle.log_file.specs.declared.past.Past.{Past}
 use Rattle.log_file.specs.Crashes.{content_of, IsSynced}
-use Rattle.log_file.specs.Files.{past_of, read_of, content_read, after_open}
+use Rattle.log_file.specs.Files.{past_of, read_of, content_read, after_open, IsReadToEnd}
 use Rattle.journal.specs.Lines.{recovered_lines, AreWhole, HasWholeBatches, IsNeverLeft}
 use Rattle.journal.specs.declared.journal.Journal.{Journal}
 use Rattle.journal.specs.declared.reader.JournalReader.{JournalReader}
@@ -66,9 +66,10 @@ pub record IsSplit (bytes : List ℕ) (whole : ℕ) (rest : List ℕ) : Type 0 w
 abbrev pub IsReading : {F : Type 0} → JournalReader F → Type 0
 IsReading reader = IsSplit (bytes_read reader) (whole_len reader) (torn_bytes reader)
 
--- all whole batches were given, and what is behind them may be a torn end
-abbrev pub IsAtEnd : {F : Type 0} → JournalReader F → Type 0
-IsAtEnd reader = HasWholeBatches (bytes_read reader) (recovered_lines (bytes_read reader)) (whole_len reader) true
+-- the file was read to its end, all whole batches were given, and what is behind them may be a torn end
+pub record IsAtEnd {F : Type 0} (reader : JournalReader F) : Type 0 where
+  pub ended : IsReadToEnd reader.file
+  pub batches : HasWholeBatches (bytes_read reader) (recovered_lines (bytes_read reader)) (whole_len reader) true
 
 -- why a journal is not read on, where a piece of its file was not read
 abbrev pub fault_of_read : ReadFault → JournalFault

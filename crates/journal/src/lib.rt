@@ -15,8 +15,8 @@
 //! Promised of [`Journal::commit`]: at Ok the file stands for the lines from before and then those of the batch, and all of it is
 //! on the disk; a crash at any moment of the call leaves a file that stands for the lines from before, with all of the batch or
 //! none; after an Err no batch is taken. Of [`JournalReader::next_batches`]: the texts that it gives have, one after another, the lines
-//! that the file stands for, which [`next_line`] gives, and a file that a crash may leave is never refused as damaged. Of
-//! [`Journal::open`]: the file stands for these lines, and so does what a crash leaves at any moment of it. What a crash leaves of a
+//! that the file stands for, which [`next_line`] gives; the end is told only where a read of the file gave none; and a file that a crash
+//! may leave is never refused as damaged. Of [`Journal::open`]: the file stands for these lines, and so does what a crash leaves at any moment of it. What a crash leaves of a
 //! file is the model of `log_file`, which is trusted. A line that turned into another one is not found out: a journal has no sums.
 //!
 //! Memory is taken for the text of a batch, and where a journal is read for what is read at once and the batch that has begun.

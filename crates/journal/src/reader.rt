@@ -1,5 +1,6 @@
 //! A journal that is read.
 ghost use Rattle.std.specs.Prelude.{◌≡◌, ◌++◌, ◌+◌, ◌<◌, ◌≤◌, [], false, length, take, IfOk, IfErr, IfSome, IfNone, OnOk, OnErr};
+ghost use Rattle.log_file.specs.Files.{IsReadToEnd};
 ghost use Rattle.journal.specs.Lines.{recovered_lines, text_lines, AreWhole, HasWholeBatches, IsNeverLeft};
 ghost use Rattle.journal.specs.Journals.{bytes_read, whole_len, torn_bytes, given_lines, IsReading, IsAtEnd, IsDamage, fault_of_read};
 
@@ -115,6 +116,7 @@ impl<F: RawFile> JournalReader<F> {
         ensures len { IfOk result (λ n. length (bytes_read self.new)
             ≡ length (bytes_read self.old) + n) }
         ensures none { IfOk result (λ n. n ≡ 0 → torn_bytes self.new ≡ torn_bytes self.old) }
+        ensures end { IfOk result (λ n. n ≡ 0 → IsReadToEnd self.new.file) }
         ensures damage { IfErr result (λ f. IsDamage f (bytes_read self.new)) }
     {
         let len = self.rest.len();
@@ -140,6 +142,7 @@ impl<F: RawFile> JournalReader<F> {
     // Refuses what is behind the batches that were given, at the end of the file, unless it may be a torn end.
     fn check_end(&self, torn: bool) -> Result<(), JournalFault>
         requires reading { IsReading self.now }
+        requires ended { IsReadToEnd self.now.file }
         requires found { HasWholeBatches (torn_bytes self.now)
             (recovered_lines (torn_bytes self.now)) 0 torn }
         requires damaged { torn ≡ false → IsNeverLeft (torn_bytes self.now) }

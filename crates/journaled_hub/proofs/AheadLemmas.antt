@@ -100,7 +100,7 @@ module _ {F : Type 0} (reader : JournalReader F) (given : Given) (history now : 
   all_taken no_fault last =
       let none : a.left ≡ [] = rw no_fault at a.is_left in
       let at_end : IsAtEnd reader = rw last at a.has_given.come_to in
-      let torn : recovered_lines (torn_bytes reader) ≡ [] = ap recovered_lines a.has_given.reading.rest_is ∙ at_end.nothing in
+      let torn : recovered_lines (torn_bytes reader) ≡ [] = ap recovered_lines a.has_given.reading.rest_is ∙ at_end.batches.nothing in
       sym (all_lines ∙ ap (λ l. lines_of_history now ++ (l ++ behind)) none
       ∙ ap (λ g. lines_of_history now ++ (lines_given g ++ recovered_lines (torn_bytes reader))) last
       ∙ ap (λ l. lines_of_history now ++ l) torn ∙ append-nil (lines_of_history now))

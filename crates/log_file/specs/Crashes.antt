@@ -1,5 +1,5 @@
 -- What a file has, and what a crash may leave of it, by what was done with it.
-use Rattle.std.specs.Prelude.{◌≡◌, ◌⊎◌, ℕ, ◌+◌, ◌≤◌, List, [], ◌∷◌, ◌++◌, take}
+use Rattle.std.specs.Prelude.{◌≡◌, ◌⊎◌, ℕ, ◌+◌, ◌≤◌, ◌==◌, Bool, false, List, [], ◌∷◌, ◌++◌, length, take}
 use Rattle.log_file.specs.declared.content.Content.{Content}
 use Rattle.log_file.specs.declared.content.Content.TheBlock.{Nothing, Piece'}
 use Rattle.log_file.specs.declared.past.Past.{Past}
@@ -27,6 +27,11 @@ IsPartlyCut len old new = (to : ℕ) × (len ≤ to) × (new ≡ take to old)
 abbrev pub bytes_of : Content → List ℕ
 bytes_of Nothing = []
 bytes_of (Piece' marker before piece) = bytes_of before ++ piece.value.items
+
+-- the newest piece has no byte: a read that asked for some gave none
+abbrev pub has_ended : Content → Bool
+has_ended Nothing = false
+has_ended (Piece' marker before piece) = length piece.value.items == 0
 
 -- what a read returns, unless a call failed
 abbrev pub content_of : Past → List ℕ

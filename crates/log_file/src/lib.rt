@@ -14,8 +14,9 @@
 //! | `raw` | what makes the calls: a file of the system, or one of a test |
 //! | `specs/Crashes.antt` | the model: what each call may leave when a crash cuts it short |
 //!
-//! Promised is that each call of a [`LogFile`] is noted as it was asked for, and a failure as a failure. Nothing is promised of a
-//! [`RawFile`]. That a file does what it is asked for, and that a crash leaves what the model says, is trusted.
+//! Promised is that each call of a [`LogFile`] is noted as it was asked for, and a failure as a failure, and that a file is appended to
+//! only after a read that asked for bytes and got none. Nothing is promised of a [`RawFile`]. That a file does what it is asked for,
+//! and that a crash leaves what the model says, is trusted.
 #![tactic(auto)]
 
 mod content;

@@ -1,7 +1,7 @@
 //! A file that is read.
-ghost use Rattle.std.specs.Prelude.{◌≡◌, ◌≤◌, ◌++◌, [], vec_len, IfOk, OnErr};
-ghost use Rattle.log_file.specs.Files.{past_of, read_of, content_read, after_open};
-ghost use Rattle.log_file.specs.Crashes.{bytes_of};
+ghost use Rattle.std.specs.Prelude.{◌≡◌, ◌≤◌, ◌==◌, ◌++◌, [], vec_len, length, IfOk, OnErr};
+ghost use Rattle.log_file.specs.Files.{past_of, read_of, content_read, after_open, IsReadToEnd};
+ghost use Rattle.log_file.specs.Crashes.{bytes_of, has_ended};
 
 use crate::content::Content;
 use crate::file::LogFile;
@@ -42,10 +42,12 @@ impl<F: RawFile> FileReader<F> {
         }
     }
 
-    /// The next piece of the file, of at most so many bytes. It is empty only at the end of the file, or where none is asked for.
+    /// The next piece of the file, of at most so many bytes. It is empty only at the end of the file.
     pub fn read(&mut self, alloc: Global, most: usize) -> Result<Vec<u8>, ReadFault>
+        requires some { 1 ≤ most }
         ensures piece { IfOk result (λ piece. read_of self.new ≡ read_of self.old ++ piece.items) }
         ensures len { IfOk result (λ piece. vec_len piece ≤ most) }
+        ensures end { IfOk result (λ piece. vec_len piece ≡ 0 → IsReadToEnd self.new) }
         ensures err { OnErr result (content_read self.new ≡ content_read self.old) }
     {
         let mut piece = Vec::from_elem(alloc, 0, most)?;
@@ -57,8 +59,9 @@ impl<F: RawFile> FileReader<F> {
         Ok(piece)
     }
 
-    /// The file to which is appended: it has what was read of it. That nothing is behind that is trusted.
+    /// The file to which is appended: it has what was read of it, since it was read to its end.
     pub fn into_file(self) -> LogFile<F>
+        requires { IsReadToEnd self }
         ensures { past_of result ≡ after_open (content_read self) }
     {
         let FileReader { raw, content } = self;
@@ -68,7 +71,8 @@ impl<F: RawFile> FileReader<F> {
 
 // Notes that this piece was read.
 fn note_read(content: &mut Content, piece: &Vec<u8>)
-    ensures { bytes_of content.new ≡ bytes_of content.old ++ piece.now.items }
+    ensures bytes { bytes_of content.new ≡ bytes_of content.old ++ piece.now.items }
+    ensures end { has_ended content.new ≡ (vec_len piece.now == 0) }
 {
     let before = Snapshot::of(content);
     *content = Content::Piece(before, Snapshot::of(piece));

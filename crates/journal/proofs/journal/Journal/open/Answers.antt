@@ -1,4 +1,4 @@
-use Rattle.std.proofs.Common.{◌≡◌, ◌∙◌, ap, false}
+use Rattle.std.proofs.Common.{◌∙◌, ap, false}
 use Rattle.log_file.specs.declared.past.Past.{Past}
 use Rattle.log_file.specs.Crashes.{content_of}
 use Rattle.log_file.specs.Files.{past_of}

@@ -1,7 +1,7 @@
 use Rattle.std.proofs.Common.{◌≡◌, ◌∙◌, ◌++◌, ◌+◌, ◌-◌, ap, sym, subst, take, drop, length, List, Vec, ℕ}
 use Rattle.std.specs.declared.alloc.Global.{Global}
 use Rattle.std.proofs.lemmas.List.{take_rest}
-use Rattle.journal.specs.Lines.{recovered_lines, text_lines}
+use Rattle.journal.specs.Lines.{text_lines}
 use Rattle.journal.specs.Journals.{bytes_read, torn_bytes, whole_len, given_lines, IsSplit}
 use Rattle.journal.proofs.ReaderLemmas.{split_given, lines_more}
 use Rattle.journal.proofs.reader.JournalReader.give.Goals as goal
