@@ -1,8 +1,7 @@
 //! Tests of `inbox`. There is nothing else here.
 //!
-//! One pass puts and takes in an inbox of one place. Two threads put and a third takes, over one place and over sixteen:
-//! all jobs come, those of each pass in its order. Each growth of a new inbox is refused in turn, and all other calls do
-//! without memory.
+//! One pass puts and takes in an inbox of one place. Each growth of a new inbox is refused in turn, and all other calls do
+//! without memory. Threads put and take in the shifts of `shift_tests`.
 //!
 //! The tests stand apart from the crate that they test, since a crate with tests is proved twice.
 #![tactic(auto)]
@@ -13,5 +12,3 @@ mod jobs;
 mod one_place;
 #[cfg(test)]
 mod scarcity;
-#[cfg(test)]
-mod threads;

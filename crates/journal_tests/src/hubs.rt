@@ -131,18 +131,26 @@ fn a_sync_that_fails_is_told(rt: HostRuntime) -> Result<(), Fail> {
     Ok(())
 }
 
+// How many calls the hub of a file has, or why there is none.
+fn count_calls<H, F>(rt: &H, file: F) -> Result<usize, OpenFault>
+where
+    H: Threads + AllocGlobal,
+    F: RawFile + Send + Drop,
+{
+    match RecoveredHub::read(rt, rt.alloc(), SeededState::fixed(), file) {
+        Ok(hub) => Ok(hub.len()),
+        Err((fault, _reader)) => Err(fault),
+    }
+}
+
 // How many calls the hub of these bytes has, or why there is none.
 fn calls_in<H>(rt: &H, bytes: &[u8]) -> Result<Result<usize, OpenFault>, Fail>
 where
     H: Threads + AllocGlobal,
 {
-    let alloc = rt.alloc();
-    let mut memory = Memory::of(alloc, bytes)?;
+    let mut memory = Memory::of(rt.alloc(), bytes)?;
     let file = MemoryFile::new(&mut memory, Failing::Never);
-    match RecoveredHub::read(rt, alloc, SeededState::fixed(), file) {
-        Ok(hub) => Ok(Ok(hub.len())),
-        Err((fault, _)) => Ok(Err(fault)),
-    }
+    Ok(count_calls(rt, file))
 }
 
 #[test]

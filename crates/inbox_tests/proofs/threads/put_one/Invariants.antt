@@ -1,6 +1,0 @@
-use Rattle.inbox_tests.specs.Passes.{IsSameRight}
-use Rattle.inbox_tests.proofs.threads.put_one.Given as goal
-
--- the pass has the inbox and the parts that it had
-abbrev pub invariant-loop : goal.invariant-loop
-invariant-loop g l = IsSameRight l.fn.pass l.pass
