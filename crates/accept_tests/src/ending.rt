@@ -2,14 +2,13 @@
 
 use crate::service::{Service, is_told, is_written_back, limits_of};
 use std::alloc::Global;
-use std::io;
 use std::io::{ErrorKind, Write};
 use std::net::{Net, OpenStream, TcpStream};
 use std::rt::Clock;
 use std::sync::Wait;
 use std::test::*;
-use std::thread;
 use std::time::{Duration, Instant};
+use std::{io, thread};
 
 // Whether a quiet session ends at once where the service ends, and nobody can connect after that.
 fn ends_at_once<R: Net + Wait + Clock>(
@@ -75,10 +74,12 @@ fn is_cut_after_the_grace<R: Net + Wait + Clock>(rt: &R, service: &Service) -> i
     let began = Instant::now(rt)?;
     service.end(rt);
     let took = began.elapsed(rt)?;
-    Ok(written_back
-        && is_full
-        && took >= Duration::from_millis(200)
-        && took < Duration::from_secs(10))
+    Ok(
+        written_back
+            && is_full
+            && took >= Duration::from_millis(200)
+            && took < Duration::from_secs(10),
+    )
 }
 
 #[test]

@@ -2,13 +2,12 @@
 
 use crate::service::{FULL, Service, is_told, is_written_back, limits_of, said_to};
 use std::alloc::Global;
-use std::io;
 use std::io::{Read, Write};
 use std::net::{Net, TcpStream};
 use std::rt::Clock;
 use std::test::*;
-use std::thread;
 use std::time::{Duration, Instant};
+use std::{io, thread};
 
 // Whether the second client waits and is told that there is no handler, the third is told so at once, and the first is served all along.
 fn are_told_full<R: Net + Clock>(rt: &R, alloc: Global, service: &Service) -> io::Result<bool> {

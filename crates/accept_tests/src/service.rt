@@ -1,18 +1,19 @@
 //! A service whose handlers write back what they read, and its clients.
 
-use accept_queue::{AcceptQueue, Limits, QueuedConnections};
-use accept_queue::{accept_connections, control_of, end_service, handlers_of};
+use accept_queue::{
+    AcceptQueue, Limits, QueuedConnections, accept_connections, control_of, end_service,
+    handlers_of,
+};
 use connections::Connections;
 use std::alloc::Global;
-use std::io;
 use std::io::{Read, Write};
 use std::net::{Ipv4Addr, Net, OpenStream, Shutdown, SocketAddr, TcpListener, TcpStream};
 use std::rt::Clock;
 use std::sync::Wait;
 use std::test::*;
-use std::thread;
 use std::thread::Threads;
 use std::time::Duration;
+use std::{io, thread};
 use taf_codes::{Sink, Source};
 
 // What a client is told for which there is no handler.
@@ -28,7 +29,7 @@ pub(crate) struct Service {
 }
 
 impl Service {
-    pub(crate) fn new<R: Net<Listener = TcpListener>>(
+    pub(crate) fn new<R: Net<Listener = TcpListener, Stream = TcpStream>>(
         rt: &R,
         alloc: Global,
         limits: Limits,

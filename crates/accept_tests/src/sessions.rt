@@ -2,12 +2,10 @@
 
 use crate::service::{Service, is_written_back, limits_of, said_to};
 use std::alloc::Global;
-use std::fs;
-use std::io;
 use std::net::{Net, TcpStream};
 use std::rt::Files;
 use std::test::*;
-use std::thread;
+use std::{fs, io, thread};
 
 const SESSIONS: u64 = 300;
 
