@@ -1,5 +1,7 @@
 -- An accept queue: the connections that wait, and the sessions that are under way.
-use Rattle.std.specs.Prelude.{◌≡◌, ℕ, ◌-◌, ◌<◌, ◌≤◌, List, [], ◌∷◌, length, Some, None, slice_set}
+use Rattle.std.specs.Prelude.{◌≡◌, ℕ, ◌-◌, ◌<◌, ◌≤◌, Bool, not, ◌||◌, ◌==◌, List, [], ◌∷◌, length, is_some, Some, None, slice_set}
+use Rattle.std.specs.List.{list_any}
+use Rattle.std.specs.VecDeque.{deque_len}
 use Rattle.std.specs.Duration.{as_nanos}
 use Rattle.std.specs.Time.{instant_nanos}
 use Rattle.std.specs.declared.time.Duration.{Duration}
@@ -11,6 +13,10 @@ use Rattle.accept_queue.specs.declared.state.QueueState.{QueueState}
 -- the connections that wait, oldest first
 abbrev pub waiting_of : {T : Type 0} → QueueState T → List (Waiting T)
 waiting_of q = q.waiting.items
+
+-- a connection waits, or is served by some handler
+abbrev pub is_busy : {T : Type 0} → QueueState T → Bool
+is_busy q = not (deque_len q.waiting == 0) || list_any (λ session. is_some session) q.sessions.items
 
 -- it is open, and fewer connections wait than it has room for
 abbrev pub HasRoom : {T : Type 0} → QueueState T → Type 0

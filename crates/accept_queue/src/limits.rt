@@ -1,5 +1,6 @@
 //! The limits of an accept queue.
 ghost use Rattle.std.specs.Prelude.{◌≡◌, ◌≤◌, ◌<◌, ◌↔◌, IsSome, IfSome};
+ghost use Rattle.std.specs.Option.{ForSome};
 ghost use Rattle.std.specs.Duration.{as_nanos};
 
 use std::time::Duration;
@@ -32,6 +33,9 @@ pub struct Limits {
 
     ghost handlers_within: { (1 ≤ handlers) × (handlers ≤ 64) },
     ghost waiting_within: { (1 ≤ waiting) × (waiting ≤ 64) },
+    ghost hello_is_waited_for: { 0 < as_nanos silence_before_hello },
+    ghost lines_are_waited_for: { ForSome silence_between_lines (λ d. 0 < as_nanos d) },
+    ghost writes_are_waited_for: { 0 < as_nanos write_timeout },
 }
 
 impl Limits {

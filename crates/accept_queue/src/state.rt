@@ -1,5 +1,6 @@
 //! What the threads of a service share: the connections that wait, and a handle of each that is served.
-ghost use Rattle.std.specs.Prelude.{◌≡◌, ◌≢◌, ◌≤◌, ◌<◌, ◌↔◌, [], ◌∷◌, ◌++◌, vec_len, IsOk, IsTrue, IfOk, IfErr, IfSome, IfNone, OnOk, OnErr};
+ghost use Rattle.std.specs.Prelude.{◌≡◌, ◌≢◌, ◌≤◌, ◌<◌, ◌↔◌, [], ◌∷◌, ◌++◌, vec_len, IsOk, IsTrue, IfOk, IfErr, IfSome, IfNone, OnOk, OnErr, is_some};
+ghost use Rattle.std.specs.List.{list_any};
 ghost use Rattle.std.specs.VecDeque.{deque_len, deque_capacity};
 ghost use Rattle.accept_queue.specs.declared.state.Phase.TheVariants as phase_is;
 
@@ -46,7 +47,7 @@ pub(crate) struct QueueState<T> {
 }
 
 impl<T: OpenStream + Drop> QueueState<T> {
-    ghost use Rattle.accept_queue.specs.Queues.{waiting_of, IsNew, HasRoom, HasWaited, Begins, HasEnded, KeepsWaiting, KeepsSessions, KeepsPhase};
+    ghost use Rattle.accept_queue.specs.Queues.{waiting_of, is_busy, IsNew, HasRoom, HasWaited, Begins, HasEnded, KeepsWaiting, KeepsSessions, KeepsPhase};
 
     /// An open queue in which no connection waits, with room for so many. No session is under way.
     pub(crate) fn new(alloc: Global, capacity: usize) -> Result<QueueState<T>, Memory>
@@ -107,7 +108,7 @@ impl<T: OpenStream + Drop> QueueState<T> {
         if now.saturating_duration_since(oldest.since) < limit {
             return None;
         }
-        self.waiting.pop_front()
+        self.take()
     }
 
     /// Begins a session of this handler, with the connection that has waited longest: its reader and its writer are given out, and its
@@ -189,8 +190,10 @@ impl<T: OpenStream + Drop> QueueState<T> {
     }
 
     /// Whether a connection waits or is served.
-    pub(crate) fn is_busy(&self) -> bool {
-        !self.waiting.is_empty() || self.sessions.iter().any(|session| session.is_some())
+    pub(crate) fn is_busy(&self) -> bool
+        ensures { result ≡ is_busy self.now }
+    {
+        !self.waiting.is_empty() || is_any_served(self.sessions.as_slice())
     }
 
     /// Since when the connection waits that has waited longest.
@@ -212,6 +215,13 @@ fn end_by<T: OpenStream>(phase: Phase, control: &T) {
             let _ = control.shutdown(Shutdown::Both);
         }
     }
+}
+
+// Whether some handler serves a connection.
+fn is_any_served<T>(sessions: &[Option<T>]) -> bool
+    ensures { result ≡ list_any (λ session. is_some session) sessions.now }
+{
+    sessions.iter().any(|session| session.is_some())
 }
 
 // No session of any handler.
