@@ -9,7 +9,7 @@ use std::net::{OpenStream, Shutdown};
 // What a client is told for which there is no handler.
 const FULL: &[u8] = b"{\"fault\":\"full\"}\n";
 
-// How often bytes are read that a client has sent which is not served, and how many at a time.
+// How many times bytes are read of a client that is not served, 1,024 at most each time.
 const MAX_READS: usize = 16;
 
 /// A connection by its three handles. It is closed once all of them are dropped.

@@ -87,7 +87,8 @@ impl<T: OpenStream + Drop> QueueState<T> {
 
     /// Takes the connection that has waited longest. There is none where none waits.
     pub(crate) fn take(&mut self) -> Option<Waiting<T>>
-        ensures oldest { IfSome result (λ first. waiting_of self.old ≡ first ∷ waiting_of self.new) }
+        ensures oldest { IfSome result
+            (λ first. waiting_of self.old ≡ first ∷ waiting_of self.new) }
         ensures none { IfNone result (waiting_of self.old ≡ []) }
         ensures unchanged { IfNone result (KeepsWaiting self.old self.new) }
         ensures sessions { KeepsSessions self.old self.new }
@@ -98,7 +99,8 @@ impl<T: OpenStream + Drop> QueueState<T> {
 
     /// Takes the connection that has waited longest, where it has waited for as long as the limit.
     pub(crate) fn take_late(&mut self, now: Instant, limit: Duration) -> Option<Waiting<T>>
-        ensures oldest { IfSome result (λ first. waiting_of self.old ≡ first ∷ waiting_of self.new) }
+        ensures oldest { IfSome result
+            (λ first. waiting_of self.old ≡ first ∷ waiting_of self.new) }
         ensures late { IfSome result (HasWaited limit now) }
         ensures unchanged { IfNone result (KeepsWaiting self.old self.new) }
         ensures sessions { KeepsSessions self.old self.new }
