@@ -20,7 +20,7 @@ fn ends_at_once<R: Net + Wait + Clock>(
     let written_back = is_written_back(&mut client, b"a\n");
     let began = Instant::now(rt)?;
     service.end(rt);
-    let in_time = began.elapsed(rt)? < Duration::from_secs(5);
+    let in_time = began.elapsed(rt)? < Duration::from_secs(10);
     let is_closed = is_told(alloc, &mut client, "");
     let is_refused = TcpStream::connect(rt, service.address).is_err();
     Ok(written_back && in_time && is_closed && is_refused)
@@ -29,9 +29,7 @@ fn ends_at_once<R: Net + Wait + Clock>(
 #[test]
 fn a_quiet_session_ends_with_the_service(rt: HostRuntime) -> Result<(), Fail> {
     let alloc = rt.alloc();
-    let mut limits = limits_of(1)?;
-    limits.grace = Duration::from_secs(5);
-    let service = Service::new(&rt, alloc, limits)?;
+    let service = Service::new(&rt, alloc, limits_of(1)?)?;
     let (ended, sessions) = thread::join(
         &rt,
         || {
@@ -85,7 +83,9 @@ fn is_cut_after_the_grace<R: Net + Wait + Clock>(rt: &R, service: &Service) -> i
 #[test]
 fn a_session_is_cut_after_the_grace(rt: HostRuntime) -> Result<(), Fail> {
     let alloc = rt.alloc();
-    let service = Service::new(&rt, alloc, limits_of(1)?)?;
+    let mut limits = limits_of(1)?;
+    limits.grace = Duration::from_millis(200);
+    let service = Service::new(&rt, alloc, limits)?;
     let (cut, sessions) = thread::join(
         &rt,
         || {

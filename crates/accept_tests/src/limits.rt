@@ -28,6 +28,7 @@ fn a_client_is_told_that_there_is_no_handler(rt: HostRuntime) -> Result<(), Fail
     let alloc = rt.alloc();
     let mut limits = limits_of(1)?;
     limits.waiting = 1;
+    limits.wait_before_full = Duration::from_millis(100);
     let service = Service::new(&rt, alloc, limits)?;
     let (told, sessions) = thread::join(
         &rt,
@@ -58,7 +59,9 @@ fn are_cut<R: Net + Clock>(rt: &R, alloc: Global, service: &Service) -> io::Resu
 #[test]
 fn a_client_that_is_silent_is_cut_off(rt: HostRuntime) -> Result<(), Fail> {
     let alloc = rt.alloc();
-    let service = Service::new(&rt, alloc, limits_of(1)?)?;
+    let mut limits = limits_of(1)?;
+    limits.silence_before_hello = Duration::from_millis(500);
+    let service = Service::new(&rt, alloc, limits)?;
     let (cut, sessions) = thread::join(
         &rt,
         || {

@@ -67,14 +67,14 @@ impl Service {
     }
 }
 
-// The limits of so many handlers, with a tenth of a second for a connection that waits and half a second for a hello.
+// The limits of so many handlers, with ten seconds for whatever is to be in time.
 pub(crate) fn limits_of(handlers: usize) -> Result<Limits, Fail> {
     let Some(mut limits) = Limits::new(handlers) else {
         return Err(Fail::new("no limits"));
     };
-    limits.wait_before_full = Duration::from_millis(100);
-    limits.silence_before_hello = Duration::from_millis(500);
-    limits.grace = Duration::from_millis(200);
+    limits.wait_before_full = Duration::from_secs(10);
+    limits.silence_before_hello = Duration::from_secs(10);
+    limits.grace = Duration::from_secs(10);
     Ok(limits)
 }
 
