@@ -1,5 +1,5 @@
 use Rattle.session_lanes.proofs.Common.{◌≡◌}
-use Rattle.session_lanes.proofs.port.ShiftPortPort.send.Given as goal
+use Rattle.session_lanes.proofs.port.LanePortPort.send.Given as goal
 
 -- nothing has changed so far, and the job is the one that came
 abbrev pub invariant-loop : goal.invariant-loop
