@@ -139,7 +139,7 @@ impl<F: RawFile + Drop> JournalWorker<F> {
             Ok(()) => {}
             Err(Failed) => return BatchEnd::Failed,
         }
-        answer_sessions(rt, answers, &mut self.dones);
+        answer_sessions(rt, &self.hub, answers, &mut self.dones);
         BatchEnd::Answered
     }
 }
@@ -184,11 +184,18 @@ fn refused_after(refused: u64, is_fault: bool) -> u64
     refused
 }
 
-// Puts each answer into the queue of its session.
-fn answer_sessions<R: Wait>(rt: &R, answers: &[AnswerQueue], dones: &mut VecDeque<Done>)
+/// Puts each answer of the hub into the queue of its session: all its calls are on the disk.
+pub fn answer_sessions<F: RawFile, R: Wait>(
+    rt: &R,
+    hub: &JournaledHub<F>,
+    answers: &[AnswerQueue],
+    dones: &mut VecDeque<Done>,
+)
+    requires { IsOnDisk hub.now }
     ensures empty { dones.new.items ≡ [] }
     ensures room { deque_capacity dones.new ≡ deque_capacity dones.old }
 {
+    let _told = hub;
     while let Some(done) = dones.pop_front() {
         push_to_session(rt, answers, done);
     }

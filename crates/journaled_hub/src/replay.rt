@@ -133,20 +133,27 @@ fn answer_turn<W: Sink, F: RawFile>(
     let Ok(()) = hub.sync() else {
         return Err(JournaledRunFault::Journal);
     };
-    match write_and_flush(writer, replies.as_slice()) {
+    match tell(hub, writer, replies.as_slice()) {
         Ok(()) => Ok(()),
         Err(Failed) => Err(JournaledRunFault::Run(RunFault::Write)),
     }
 }
 
-// Writes all of the bytes, and has the writer send them on. Where it fails, it took a front of them.
-fn write_and_flush<W: Sink>(writer: &mut W, bytes: &[u8]) -> Result<(), Failed>
+/// Writes replies of the hub, and has the writer send them on: all its calls are on the disk. Where it fails, the writer took a front of
+/// them.
+pub fn tell<W: Sink, F: RawFile>(
+    hub: &JournaledHub<F>,
+    writer: &mut W,
+    bytes: &[u8],
+) -> Result<(), Failed>
+    requires { IsOnDisk hub.now }
     ensures ok { OnOk result (Appends (W.contents writer.old) (W.contents writer.new) bytes.now) }
     ensures err { OnErr result ((front rest : List ℕ) × (bytes.now ≡ front ++ rest)
         × Appends (W.contents writer.old) (W.contents writer.new) front) }
     ensures failed { OnErr result (W.failures writer.new ≡ W.failures writer.old + 1) }
     ensures kept { OnOk result (W.failures writer.new ≡ W.failures writer.old) }
 {
+    let _told = hub;
     match write_all(writer, bytes) {
         Ok(()) => writer.flush(),
         Err(Failed) => Err(Failed),
