@@ -8,7 +8,7 @@ use std::time::Duration;
 /// How many connections are served and wait, and how long anything may take.
 ///
 /// A time is kept by the clock of the system, and what ends by it ends a little later: some milliseconds, where the machine has time.
-#[derive(Clone, Copy, Debug)]
+#[derive(Clone, Copy, Debug, PartialEq, Eq)]
 pub struct Limits {
     /// How many connection handlers there are, 1 to 64. Each serves one session at a time.
     pub handlers: usize,

@@ -1,8 +1,11 @@
 ghost use Rattle.std.specs.Prelude.{◌≡◌};
 ghost use Rattle.hub_faults.specs.Statuses.{status_of};
 
+use crate::journaled_open::JournaledOpen;
 use crate::journaled_serve::JournaledServe;
-use crate::{check, journaled_replay, journaled_serve, number, replay, serve};
+use crate::{
+    check, journaled_open, journaled_replay, journaled_serve, number, open, replay, serve,
+};
 use clap::Error;
 use clap::error::ErrorKind;
 use hub_faults::Fault;
@@ -10,18 +13,23 @@ use hub_tasks::{Task, task_of};
 use shift_size::ShiftSize;
 use std::fs::File;
 use std::io::{Read, Write};
-use std::net::{Net, OpenListener, OpenStream};
+use std::net::{Net, OpenListener, OpenStream, TcpListener, TcpStream};
 use std::random::RandomSource;
-use std::rt::Files;
+use std::rt::{Clock, Files};
 use std::sync::Wait;
 use std::thread::Threads;
 
 /// Does what the arguments name, the program's name first, and gives the status.
 pub fn perform<H, R, W, E>(rt: &H, arguments: &[String], input: R, output: W, errors: &mut E) -> u8
 where
-    H: Files<File = File> + Net + Threads + Wait + Sync + RandomSource + AllocGlobal,
-    H::Stream: Send,
-    H::Listener: Send,
+    H: Files<File = File>
+        + Net<Listener = TcpListener, Stream = TcpStream>
+        + Threads
+        + Wait
+        + Clock
+        + Sync
+        + RandomSource
+        + AllocGlobal,
     R: Read + Drop,
     W: Write + Drop,
     E: Write,
@@ -49,6 +57,18 @@ where
                 journal: Some(path),
             },
         ) => journaled_serve::perform(rt, JournaledServe { port, size, path }, output, errors),
+        Ok(
+            Task::Open {
+                service,
+                journal: None,
+            },
+        ) => open::perform(rt, service, input, output, errors),
+        Ok(
+            Task::Open {
+                service,
+                journal: Some(path),
+            },
+        ) => journaled_open::perform(rt, JournaledOpen { service, path }, input, output, errors),
         Err(error) => explain(&error, output, errors),
     };
     match done {

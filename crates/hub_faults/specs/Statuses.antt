@@ -6,8 +6,8 @@ use Rattle.wagon_number.specs.declared.fault.NumberFault.{NumberFault}
 use Rattle.wagon_number.specs.declared.fault.NumberFault.TheVariants as of_number
 use Rattle.hub_replay.specs.declared.fault.RunFault.{RunFault}
 use Rattle.hub_replay.specs.declared.fault.RunFault.TheVariants as of_run
-use Rattle.hub_server.specs.declared.fault.ServerFault.{ServerFault}
-use Rattle.hub_server.specs.declared.fault.ServerFault.TheVariants as of_server
+use Rattle.server_faults.specs.declared.fault.ServerFault.{ServerFault}
+use Rattle.server_faults.specs.declared.fault.ServerFault.TheVariants as of_server
 use Rattle.disk_file.specs.declared.fault.OpenFault.{OpenFault as FileFault}
 use Rattle.disk_file.specs.declared.fault.OpenFault.TheVariants as of_file
 use Rattle.journaled_hub.specs.declared.fault.OpenFault.{OpenFault}
@@ -17,8 +17,8 @@ use Rattle.journaled_hub.specs.declared.fault.JournaledRunFault.TheVariants as o
 use Rattle.hub_faults.specs.declared.fault.Fault.{Fault}
 use Rattle.hub_faults.specs.declared.fault.Fault.TheVariants.{Arguments, NotTwelveDigits, BadCheckDigit, Read, Write, NoEnd, Memory, Socket, Thread, NotSettled, JournalFile, JournalBusy, JournalRefused}
 
--- 1: the text is refused; 2: no arguments; 3: a stream failed or has no end; 4: memory was refused; 5: no socket or no thread; 6: a
--- shift did not settle; 7: a call of the journal's file failed; 8: the journal is busy or was refused
+-- 1: the text is refused; 2: no arguments; 3: a stream failed or has no end; 4: memory was refused; 5: no socket or no thread; 6: the
+-- calls did not settle; 7: a call of the journal's file failed; 8: the journal is busy or was refused
 abbrev pub status_of : Fault → ℕ
 status_of Arguments = 2
 status_of NotTwelveDigits = 1

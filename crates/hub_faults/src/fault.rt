@@ -5,8 +5,8 @@ ghost use Rattle.hub_faults.specs.declared.fault.Fault.TheVariants as faults;
 
 use disk_file::OpenFault as FileFault;
 use hub_replay::RunFault;
-use hub_server::ServerFault;
 use journaled_hub::{JournaledRunFault, OpenFault};
+use server_faults::ServerFault;
 use std::alloc::AllocError;
 use std::io;
 use std::io::ErrorKind;
@@ -60,8 +60,8 @@ impl Fault {
     }
 
     /// The status that the program ends with: 1 for a text that is no number, 2 where the arguments could not be read, 3 where
-    /// reading or writing failed, 4 where memory was refused, 5 where a socket or a thread could not be had, 6 where a shift
-    /// did not settle, 7 where a call of the journal's file failed, 8 where the journal is busy or was refused.
+    /// reading or writing failed, 4 where memory was refused, 5 where a socket or a thread could not be had, 6 where the
+    /// calls of a shift or a service did not settle, 7 where a call of the journal's file failed, 8 where the journal is busy or was refused.
     pub fn status(self) -> u8
         ensures { result ≡ status_of self }
     {

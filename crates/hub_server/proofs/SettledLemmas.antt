@@ -11,9 +11,10 @@ use Rattle.hub_shifts.specs.declared.shift.ShiftFault.TheVariants as of_shift
 use Rattle.hub_shifts.specs.Shifts.{IsShift}
 use Rattle.hub_shifts.proofs.OrderLemmas.{lanes_in_order}
 use Rattle.hub_shifts.proofs.TellingLemmas.{in_order}
-use Rattle.hub_server.specs.declared.fault.ServerFault.{ServerFault}
-use Rattle.hub_server.specs.declared.fault.ServerFault.TheVariants.{NotSettled, Memory}
-use Rattle.hub_server.specs.Faults.{fault_of_shift, fault_of_settling}
+use Rattle.server_faults.specs.declared.fault.ServerFault.{ServerFault}
+use Rattle.server_faults.specs.declared.fault.ServerFault.TheVariants.{NotSettled, Memory}
+use Rattle.server_faults.specs.Faults.{fault_of_settling}
+use Rattle.hub_server.specs.Faults.{fault_of_shift}
 use Rattle.hub_server.specs.Settled.{IsSettledShift, IsUnsettledShift}
 
 -- a shift of these sessions, whose tallies settled

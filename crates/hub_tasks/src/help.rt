@@ -38,3 +38,9 @@ pub(crate) static SERVE: &str = "Example:
   taf_hub serve --port 7000 --sessions 3 --journal hub.journal
 
 Statuses: 0, 2, 3, 4, 5, 6, 7, 8";
+
+pub(crate) static OPEN: &str = "Example:
+  taf_hub open --port 7000 < commands.fifo
+  taf_hub open --port 7000 --journal hub.journal --silence-seconds 3600 < commands.fifo
+
+Statuses: 0, 2, 3, 4, 5, 6, 7, 8";
