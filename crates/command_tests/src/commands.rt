@@ -197,7 +197,7 @@ static ENDS: [(&str, &str); 6] = [
     ),
     (
         "taf_hub|open|--help",
-        "\n  taf_hub open --port 7000 --journal hub.journal < commands.fifo\n\nStatuses: 0, 2, 3, 4, 5, 6, 7, 8\n",
+        "\n  taf_hub open --port 7000 --journal hub.journal --silence-seconds 3600\n\nStatuses: 0, 2, 3, 4, 5, 6, 7, 8\n",
     ),
 ];
 

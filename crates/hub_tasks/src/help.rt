@@ -40,7 +40,7 @@ pub(crate) static SERVE: &str = "Example:
 Statuses: 0, 2, 3, 4, 5, 6, 7, 8";
 
 pub(crate) static OPEN: &str = "Example:
-  taf_hub open --port 7000 < commands.fifo
-  taf_hub open --port 7000 --journal hub.journal --silence-seconds 3600 < commands.fifo
+  taf_hub open --port 7000
+  taf_hub open --port 7000 --journal hub.journal --silence-seconds 3600
 
 Statuses: 0, 2, 3, 4, 5, 6, 7, 8";
