@@ -10,6 +10,7 @@ use std::thread;
 use std::thread::Threads;
 
 // Has connections accepted by a thread of its own until an input has ended, and then ends the service.
+#[derive(Drop)]
 pub(crate) struct InputKeeper<'a, I, R> {
     rt: &'a R,
     listening: &'a Listening,
@@ -33,45 +34,46 @@ impl<'a, I, R> InputKeeper<'a, I, R> {
     }
 }
 
+impl<'a, I: Read, R: Wait> InputKeeper<'a, I, R> {
+    // Reads the input to its end, or until a read fails.
+    fn read_to_end(&self) {
+        let mut input = self.input.lock(self.rt);
+        let mut bytes = [0; 512];
+        for _ in 0..u64::MAX {
+            match input.read(&mut bytes) {
+                Ok(0) => return,
+                Ok(_) => {}
+                Err(error) if error.kind() == ErrorKind::Interrupted => {}
+                Err(_) => return,
+            }
+        }
+    }
+}
+
 impl<'a, I: Read, R: Threads + Wait + Clock + Sync> Keeper for InputKeeper<'a, I, R> {
     fn keep(&self) {
-        let mut input = self.input.lock(self.rt);
-        let has_acceptor = accept_until_end(self.rt, self.listening, &mut *input);
+        let has_acceptor = accept_until_end(self);
         self.has_acceptor.store(has_acceptor, Ordering::SeqCst);
     }
 }
 
-// Accepts connections until the input has ended, and ends the service. Where no thread can be had that accepts them the service ends at
-// once, and the answer is false.
-fn accept_until_end<'a, I: Read, R: Threads + Wait + Clock + Sync>(
-    rt: &'a R,
-    listening: &'a Listening,
-    input: &mut I,
+// Has connections accepted until the input has ended, and ends the service. Where no thread can be had that accepts them the service
+// ends at once, and the answer is false.
+fn accept_until_end<I: Read, R: Threads + Wait + Clock + Sync>(
+    keeper: &InputKeeper<'_, I, R>,
 ) -> bool {
-    let listener = &listening.listener;
-    let control = &listening.control;
-    let queue = &listening.queue;
+    let rt = keeper.rt;
+    let listener = &keeper.listening.listener;
+    let control = &keeper.listening.control;
+    let queue = &keeper.listening.queue;
     thread::scope(thread::scope_env(), rt, move |scope| {
         let has_acceptor = scope
             .spawn(move || accept_connections(rt, listener, control, queue))
             .is_ok();
         if has_acceptor {
-            read_to_end(input);
+            keeper.read_to_end();
         }
         end_service(rt, queue, control);
         has_acceptor
     })
-}
-
-// Reads until the end, or until a read fails.
-fn read_to_end<I: Read>(input: &mut I) {
-    let mut bytes = [0; 512];
-    for _ in 0..u64::MAX {
-        match input.read(&mut bytes) {
-            Ok(0) => return,
-            Ok(_) => {}
-            Err(error) if error.kind() == ErrorKind::Interrupted => {}
-            Err(_) => return,
-        }
-    }
 }
