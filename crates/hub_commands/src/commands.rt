@@ -35,45 +35,61 @@ where
     E: Write,
 {
     let done = match task_of(rt.alloc(), arguments) {
-        Ok(Task::Replay { journal: None }) => replay::perform(rt, rt.alloc(), input, output),
-        Ok(
-            Task::Replay {
-                journal: Some(path),
-            },
-        ) => journaled_replay::perform(rt, path, input, output, errors),
-        Ok(Task::Check(path)) => check::perform(rt, path, output, errors),
-        Ok(Task::Number(text)) => number::perform(output, text),
-        Ok(
-            Task::Serve {
-                port,
-                size,
-                journal: None,
-            },
-        ) => serve::perform(rt, port, size, output, errors),
-        Ok(
-            Task::Serve {
-                port,
-                size,
-                journal: Some(path),
-            },
-        ) => journaled_serve::perform(rt, JournaledServe { port, size, path }, output, errors),
-        Ok(
-            Task::Open {
-                service,
-                journal: None,
-            },
-        ) => open::perform(rt, service, input, output, errors),
-        Ok(
-            Task::Open {
-                service,
-                journal: Some(path),
-            },
-        ) => journaled_open::perform(rt, JournaledOpen { service, path }, input, output, errors),
+        Ok(task) => perform_task(rt, task, input, output, errors),
         Err(error) => explain(&error, output, errors),
     };
     match done {
         Ok(status) => status,
         Err(fault) => report_fault(fault, errors),
+    }
+}
+
+// Does what a task is, and gives the status.
+fn perform_task<H, R, W, E>(
+    rt: &H,
+    task: Task<'_>,
+    input: R,
+    output: W,
+    errors: &mut E,
+) -> Result<u8, Fault>
+where
+    H: Files<File = File>
+        + Net<Listener = TcpListener, Stream = TcpStream>
+        + Threads
+        + Wait
+        + Clock
+        + Sync
+        + RandomSource
+        + AllocGlobal,
+    R: Read + Drop,
+    W: Write + Drop,
+    E: Write,
+{
+    match task {
+        Task::Replay { journal: None } => replay::perform(rt, rt.alloc(), input, output),
+        Task::Replay {
+            journal: Some(path),
+        } => journaled_replay::perform(rt, path, input, output, errors),
+        Task::Check(path) => check::perform(rt, path, output, errors),
+        Task::Number(text) => number::perform(output, text),
+        Task::Serve {
+            port,
+            size,
+            journal: None,
+        } => serve::perform(rt, port, size, output, errors),
+        Task::Serve {
+            port,
+            size,
+            journal: Some(path),
+        } => journaled_serve::perform(rt, JournaledServe { port, size, path }, output, errors),
+        Task::Open {
+            service,
+            journal: None,
+        } => open::perform(rt, service, input, output, errors),
+        Task::Open {
+            service,
+            journal: Some(path),
+        } => journaled_open::perform(rt, JournaledOpen { service, path }, input, output, errors),
     }
 }
 

@@ -11,8 +11,8 @@
 //! | `taf_hub open --port P [--sessions N] --journal FILE [TIMES]` | the same on the hub of the calls that the journal has, by one worker; each further call is in the journal, on the disk, before it is answered | as `serve` with a journal |
 //! | `taf_hub number TEXT` | prints the vehicle number that TEXT shows in the marked form | 0; 1 TEXT shows none; 3 writing failed; 4 memory was refused |
 //!
-//! TIMES say how long anything may take ([`hub_tasks`]). [`arguments`] gives the arguments of the command line, and [`perform`] does what they name, as `hub_tasks` reads them.
-//! [`serve_on`] is `serve` on a listener; a session that could not be served to its end is a line among the errors
+//! TIMES say how long anything may take. [`arguments`] gives the arguments of the command line, and [`perform`] does what they name, as
+//! `hub_tasks` reads them. [`serve_on`] is `serve` on a listener; a session that could not be served to its end is a line among the errors
 //! ([`report_end`]). `--help` prints clap's help, which ends with an example and the statuses, and `--version` the version, both
 //! with status 0. Arguments that name no command end with status 2 and clap's text among the errors. A [`Fault`] is one line there,
 //! by [`report_fault`], which gives its status; where a journal is not taken, the line before says why, behind the file's path.

@@ -96,29 +96,32 @@ fn with_times<'a>(alloc: Global, command: Command<'a>) -> Result<Command<'a>, Al
         "hello-seconds",
         "How long a client may be silent until its first line is complete, 1 to 86400",
     )
-    .default_value("10")
-    .value_parser(value_parser!(u32).range(1..86_401));
+    .default_value("10");
     let silence = seconds(
         alloc,
         "silence-seconds",
         "How long it may be silent after that, 1 to 86400; without end if not given",
-    )
-    .value_parser(value_parser!(u32).range(1..86_401));
+    );
     let write = seconds(
         alloc,
         "write-seconds",
         "How long it may take nothing of what is written to it, 1 to 86400",
     )
-    .default_value("30")
-    .value_parser(value_parser!(u32).range(1..86_401));
-    let grace = seconds(
+    .default_value("30");
+    let grace = option(
         alloc,
         "grace-seconds",
+        "S",
         "How long sessions may go on once standard input has ended, 0 to 86400",
     )
     .default_value("5")
     .value_parser(value_parser!(u32).range(0..86_401));
     command.arg(hello)?.arg(silence)?.arg(write)?.arg(grace)
+}
+
+// An option of a number of seconds, at least one and at most a day.
+fn seconds<'a>(alloc: Global, name: &'a str, help: &'a str) -> Arg<'a> {
+    option(alloc, name, "S", help).value_parser(value_parser!(u32).range(1..86_401))
 }
 
 fn port<'a>(alloc: Global) -> Arg<'a> {
@@ -146,10 +149,6 @@ fn journal_of_one_worker<'a>(alloc: Global) -> Result<Arg<'a>, AllocError> {
         "The journal, as of replay; one worker makes the calls, so K is not given",
     )
     .conflicts_with("workers")
-}
-
-fn seconds<'a>(alloc: Global, name: &'a str, help: &'a str) -> Arg<'a> {
-    option(alloc, name, "S", help)
 }
 
 fn option<'a>(alloc: Global, name: &'a str, value: &'a str, help: &'a str) -> Arg<'a> {
