@@ -5,8 +5,8 @@ import socket
 import threading
 import time
 
-from connections import WAGONS, Honest, hello_and_ask
-from hub_server import Service, Wrong, hello, line_of, need
+from connections import WAGONS, Honest
+from hub_server import Service, Wrong, hello, line_of, need, plan, vehicle_number
 
 # The two railways, and three places for others.
 SESSIONS = 5
@@ -62,10 +62,12 @@ def said_to_the_end(connection):
 
 
 def never_read(connection):
-    """Asks without reading: it is cut off once nothing that is written to it was taken for long enough."""
-    first, ask = hello_and_ask("R305")
-    connection.sendall(first)
+    """Asks for a record without reading: it is cut off once nothing that is written to it was taken for long enough."""
+    connection.setsockopt(socket.SOL_SOCKET, socket.SO_RCVBUF, 4096)
+    wagon = vehicle_number("33807000001")
+    ask = line_of({"kind": "ask", "from": "R305", "wagon": wagon})
     try:
+        connection.sendall(line_of(hello("R305")) + line_of(plan("R305", 1, wagon)))
         while True:
             connection.sendall(ask * 100)
     except ConnectionError:

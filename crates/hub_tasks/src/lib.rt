@@ -20,6 +20,8 @@
 
 mod commands;
 mod help;
+mod service;
 mod task;
 
-pub use task::{ServiceOptions, Task, task_of};
+pub use service::ServiceOptions;
+pub use task::{Task, task_of};

@@ -1,8 +1,9 @@
-ghost use Rattle.std.specs.Prelude.{◌≡◌, ◌≤◌, ◌<◌, if◌then◌else◌, is_some, IfOk, IfSome};
+ghost use Rattle.std.specs.Prelude.{◌≡◌, ◌<◌, if◌then◌else◌, is_some, IfOk, IfSome};
 ghost use Rattle.std.specs.Duration.{as_nanos};
 ghost use Rattle.hub_tasks.specs.Tasks.{IsWithinLimits};
 
 use crate::commands::command;
+use crate::service::ServiceOptions;
 use accept_queue::Limits;
 use clap::error::ErrorKind;
 use clap::{ArgMatches, Command, Error};
@@ -31,19 +32,6 @@ pub enum Task<'a> {
         service: ServiceOptions,
         journal: Option<&'a str>,
     },
-}
-
-/// How a service is run.
-#[derive(Clone, Copy, Debug, PartialEq, Eq)]
-pub struct ServiceOptions {
-    /// Not 0.
-    pub port: u16,
-    /// How many sessions are served at a time, and how long anything may take.
-    pub limits: Limits,
-    /// How many workers make the calls, 1 to 8.
-    pub workers: usize,
-    ghost port_within: { (1 ≤ port) × (port ≤ 65535) },
-    ghost workers_within: { (1 ≤ workers) × (workers ≤ 8) },
 }
 
 /// The task that the arguments name, the program's name first. Numbers out of their limits are an error of clap's.

@@ -1,4 +1,4 @@
-use Rattle.std.proofs.Common.{◌≡◌, vec_len}
+use Rattle.std.proofs.Common.{◌≡◌, length, vec_len}
 use Rattle.open_server.proofs.handlers.handler_starts.Given as goal
 
 abbrev pub invariant-loop-connections : goal.invariant-loop-connections
