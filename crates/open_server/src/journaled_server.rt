@@ -6,6 +6,7 @@ ghost use Rattle.journaled_hub.specs.JournaledHubs.{history_of, IsOnDisk};
 ghost use Rattle.hub_shared.specs.declared.settling.SettleFault.{SettleFault};
 ghost use Rattle.open_server.specs.Settled.{IsSettledService, IsUnsettledService};
 
+use crate::acceptor::run_with_acceptor;
 use crate::handlers::handler_starts;
 use crate::keeper::InputKeeper;
 use crate::listening::Listening;
@@ -56,15 +57,14 @@ where
 {
     let handlers = handler_starts(rt, alloc, &listening)?;
     let keeper = InputKeeper::new(rt, &listening, input);
-    let JournaledService { service, journal } = match run_journaled_service(
-        rt, alloc, &keeper, handlers, hub,
-    ) {
+    let keeper = &keeper;
+    let run = run_with_acceptor(rt, &listening, move || {
+        run_journaled_service(rt, alloc, keeper, handlers, hub)
+    });
+    let JournaledService { service, journal } = match run {
         Ok(run) => run,
         Err(fault) => return Err(fault_of_threads(fault)),
     };
-    if !keeper.has_acceptor() {
-        return Err(ServerFault::Thread);
-    }
     if journal.has_failed() {
         return Err(ServerFault::Journal);
     }

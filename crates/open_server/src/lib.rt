@@ -1,9 +1,8 @@
 //! The server that is open: a service for whoever connects, until an input ends.
 //!
-//! [`serve_open`] runs a service whose connection handlers take the connections of an accept queue (`accept_queue`, `hub_service`). A
-//! thread of its own accepts them, once all other threads are there. The calling thread reads its input to the end, and then ends the
-//! service in order: no connection is accepted any more, sessions answer what has come, and what is left of them after a grace is cut
-//! off. Then the tallies of the handlers are settled against the hub's history. [`serve_open_journaled`] serves on the hub of a
+//! [`serve_open`] runs a service whose connection handlers take the connections of an accept queue (`accept_queue`, `hub_service`), into
+//! which a thread of its own puts those that it accepts. The calling thread reads its input to the end, and then ends the service in
+//! order: no connection is accepted any more, sessions answer what has come, and what is left of them after a grace is cut off. Then the tallies of the handlers are settled against the hub's history. [`serve_open_journaled`] serves on the hub of a
 //! journal, by one worker, and settles the calls since.
 //!
 //! # What is promised
@@ -20,12 +19,14 @@
 //! | part | what it has |
 //! |---|---|
 //! | `listening` | what a service listens by |
+//! | `acceptor` | the thread that accepts connections |
 //! | `keeper` | what the calling thread does while the handlers serve |
 //! | `handlers` | what brings the connections to the handlers |
 //! | `server` | the service, settled |
 //! | `journaled_server` | the same with a journal |
 #![tactic(auto)]
 
+mod acceptor;
 mod handlers;
 mod journaled_server;
 mod keeper;

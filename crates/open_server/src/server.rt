@@ -4,6 +4,7 @@ ghost use Rattle.hub_shared.specs.declared.settling.SettleFault.{SettleFault};
 ghost use Rattle.open_server.specs.Faults.{fault_of_threads};
 ghost use Rattle.open_server.specs.Settled.{IsSettledService, IsUnsettledService};
 
+use crate::acceptor::run_with_acceptor;
 use crate::handlers::handler_starts;
 use crate::keeper::InputKeeper;
 use crate::listening::Listening;
@@ -41,17 +42,15 @@ where
 {
     let handlers = handler_starts(rt, alloc, &listening)?;
     let keeper = InputKeeper::new(rt, &listening, input);
-    let hooks = Hooks {
-        gate: &OpenGate,
-        keeper: &keeper,
-    };
-    let service = match run_service(rt, alloc, hooks, handlers, workers) {
+    let keeper = &keeper;
+    let run = run_with_acceptor(rt, &listening, move || {
+        let gate = &OpenGate;
+        run_service(rt, alloc, Hooks { gate, keeper }, handlers, workers)
+    });
+    let service = match run {
         Ok(service) => service,
         Err(fault) => return Err(fault_of_threads(fault)),
     };
-    if !keeper.has_acceptor() {
-        return Err(ServerFault::Thread);
-    }
     let settled = settle_service(alloc, service)?;
     Ok(settled)
 }
