@@ -34,6 +34,12 @@ EachAt-map f P xs each k d low =
     at f P [] each k d low = absurd (omega (arith, low))
     at f P (x ∷ xs) each k d low = subst (λ y. P k y) (sym (read_map f (x ∷ xs) k x d low)) (each k x low)
 
+-- what holds of all of a list that was mapped holds of each, by what it was mapped to
+pub each_of_map : {X Y : Type 0} (f : X → Y) (P : Y → Type 0) (ys : List Y) (xs : List X) → ys ≡ map f xs → All P ys → EachAt (λ k x. P (f x)) xs
+each_of_map f P ys xs is all k d low =
+    let long = length-map xs f in
+    subst P (read_map f xs k d (f d) low) (subst (All P) is all k (f d) (omega (arith, long, low)))
+
 -- of each 1, added up
 pub ones : {X : Type 0} (f : X → ℕ) (xs : List X) → All (λ x. f x ≡ 1) xs → sum_by f xs ≡ length xs
 ones f [] h = refl

@@ -1,7 +1,8 @@
 -- The jobs of a thread that serves in its lane.
-use Rattle.hub_threads.proofs.Common.{◌≡◌, ◌≢◌, ℕ, suc, zero, ◌+◌, ◌%◌, ◌<◌, ◌≤◌, eqb, eq-eqb, ne_eqb, cond, false, List, [], ◌∷◌, ◌++◌, length, map, get_or, refl, sym, ap, ◌∙◌, subst, arith, All, All-head, All-tail, Job, of_session, lane, of_lane, AreKept}
+use Rattle.hub_threads.proofs.Common.{◌≡◌, ◌≢◌, ℕ, suc, zero, ◌+◌, ◌%◌, ◌<◌, ◌≤◌, eqb, eq-eqb, ne_eqb, cond, false, List, [], ◌∷◌, ◌++◌, length, map, get_or, refl, sym, ap, ◌∙◌, subst, arith, All, All-head, All-tail, length-map, Job, of_session, lane, EachAt, of_lane, AreKept}
 use mathlib.Core.Logic.{dite}
 use native.Mathlib.Decide.{ℕ_discrete}
+use Rattle.hub_threads.proofs.KeptLemmas.{read_map, some_item}
 
 -- all are of one session
 abbrev pub Of : ℕ → List Job → Type 0
@@ -116,3 +117,26 @@ lanes_in_order workers puts taken left kept some each i inside =
     let all : of_session i (get_or (puts_in k workers 0 puts) place.at []) ≡ get_or (puts_in k workers 0 puts) place.at [] = ap (λ l. of_session i l) place.here ∙ (all_of i (get_or puts i []) mine ∙ sym place.here) in
     let law = lane (puts_in k workers 0 puts) (takes_in hands took) still (length hands) place.at (λ (j : Job). eqb j.session i) (kept.each k [] within) (λ j ne. no_taker hands took j ne) (λ j ne. place.others j ne) all in
     ap (λ l. of_session i l ++ of_session i still) (sym (taker hands took)) ∙ (law ∙ place.here)
+
+-- so it is where more is said of the threads than what each put, and of the workers than what each took
+of_puts : {X : Type 0} (put_of : X → List Job) (xs : List X) → EachAt (λ i x. Of i (put_of x)) xs → EachOf 0 (map put_of xs)
+of_puts put_of xs each j d low =
+    let long = length-map xs put_of in
+    let inside : j < length xs = omega (arith, long, low) in
+    let x = some_item xs (omega (arith, inside)) in
+    let z : j ≡ 0 + j = omega arith in
+    subst (λ l. Of (0 + j) l) (sym (read_map put_of xs j x d inside)) (subst (λ n. Of n (put_of (get_or xs j x))) z (each j x inside))
+
+pub each_in_order : {X W : Type 0} (put_of : X → List Job) (taken_of : W → List Job) (workers : ℕ) (xs : List X) (ws : List W) (left : List (List Job))
+    → AreKept workers (map put_of xs) (map taken_of ws) left → 1 ≤ workers → EachAt (λ i x. Of i (put_of x)) xs
+    → EachAt (λ i (x : X). (w : W) → of_session i (taken_of (get_or ws (i % workers) w)) ++ of_session i (get_or left (i % workers) []) ≡ put_of x) xs
+each_in_order put_of taken_of workers xs ws left kept some own i x low w =
+    let k = i % workers in
+    let long = length-map xs put_of in
+    let count = kept.taken_count in
+    let counted = length-map ws taken_of in
+    let within : k < length ws = omega (arith, some, count, counted) in
+    let is : get_or (map taken_of ws) k [] ≡ taken_of (get_or ws k w) = read_map taken_of ws k w [] within in
+    let here : get_or (map put_of xs) i [] ≡ put_of (get_or xs i x) = read_map put_of xs i x [] low in
+    let law = lanes_in_order workers (map put_of xs) (map taken_of ws) left kept some (of_puts put_of xs own) i (omega (arith, long, low)) in
+    ap (λ l. of_session i l ++ of_session i (get_or left k [])) (sym is) ∙ (law ∙ here)
