@@ -1,6 +1,5 @@
 -- What a handler left.
-use Rattle.hub_service.proofs.Common.{◌≡◌, ℕ, suc, zero, ◌+◌, ◌<◌, List, [], ◌∷◌, length, map, get_or, sum_by, refl, sym, ap, ◌∙◌, subst, arith, sum_by-cons, SessionStart, Served, IsServedHandler, HandlerState, IsOfHandler, put_lists}
-pub use Rattle.connection_handlers.proofs.HandlerLemmas.{puts, puts_own_jobs, puts_alone}
+use Rattle.hub_service.proofs.Common.{◌≡◌, ℕ, suc, zero, ◌+◌, ◌<◌, List, [], ◌∷◌, length, map, get_or, refl, sym, ap, ◌∙◌, subst, arith, length-map, SessionStart, Served, puts, JournaledHub, AreKept, taken_lists, ServedHub, IsServedHub, ServedJournaledHub, IsServedJournaledHub, Service, IsServedHandler, HandlerState, IsOfHandler, put_lists, service_of, IsService, IsJournaledService}
 
 -- what handlers left, the first of which has this number
 pub record Left (n : ℕ) (served : List Served) : Type 0 where
@@ -48,11 +47,45 @@ states_of n (s ∷ starts) (r ∷ served) same numbered none each =
       puts = ap (λ t. t ∷ map (λ (q : Served). q.pass.put) served) (sym first.3) ∙ ap (λ l. first.0.put ∷ l) more.puts;
     }
 
--- a number that each item has, by what it is mapped to
-pub sum_of_map : {W V : Type 0} (f : V → ℕ) (g : W → V) (ws : List W) → sum_by f (map g ws) ≡ sum_by (λ w. f (g w)) ws
-sum_of_map f g [] = refl
-sum_of_map f g (w ∷ ws) =
-    let a = sum_by-cons (λ v. f (g v)) w ws in
-    let b = sum_by-cons f (g w) (map g ws) in
-    let rest = sum_of_map f g ws in
-    omega (arith, a, b, rest)
+-- a service, by the threads that served around its hub
+is_service : {A K : Type 0} (handlers : List (A × K)) (workers : ℕ) (s : ServedHub)
+    → IsServedHub (λ (start : SessionStart A K) r. IsServedHandler start r) handlers workers s → IsService (length handlers) workers (service_of s)
+is_service {A} {K} handlers workers s h =
+    let starts = h.given.starts in
+    let same : length h.served ≡ length starts = h.given.each.0 in
+    let left = states_of 0 starts h.served same
+    (λ i t low. (h.given.begin i t low).0 ∙ (let z : i ≡ 0 + i = omega arith in z))
+    (λ i t low. (h.given.begin i t low).1)
+    (λ i t r low. (h.given.each.1 i t r low).served) in
+    let ends_of : SessionStart A K → A × K = λ t. (t.reader, t.writer) in
+    let many : length starts ≡ length handlers = sym (length-map starts ends_of) ∙ ap (λ (l : List (A × K)). length l) h.given.ends_are in
+    record {
+      served = left.states;
+      worked = h.hub.worked;
+      run = h.hub.run;
+      sum_is = h.hub.sum_is;
+      by_handlers = record {
+        handler_count = left.long ∙ (same ∙ many);
+        tallies_are = h.hub.tallies_are ∙ left.tallies;
+        of_handlers = λ i d low. subst (λ m. IsOfHandler m (get_or left.states i d)) (let z : 0 + i ≡ i = omega arith in z) (left.is i d low);
+        kept = subst (λ p. AreKept workers p (taken_lists h.hub.worked) s.left.items) left.puts h.hub.kept;
+      };
+      makes_calls = h.hub.makes_calls;
+      calls = h.hub.calls;
+      faults = h.hub.faults;
+    }
+
+pub is_service_of : {A K : Type 0} (handlers : List (A × K)) (count workers : ℕ) (s : ServedHub) (t : Service) → count ≡ length handlers → t ≡ service_of s
+    → IsServedHub (λ (start : SessionStart A K) r. IsServedHandler start r) handlers workers s → IsService count workers t
+is_service_of handlers count workers s t many is h =
+    subst (λ n. IsService n workers t) (sym many) (subst (IsService (length handlers) workers) (sym is) (is_service handlers workers s h))
+
+-- and a service with a journal
+pub is_journaled_of : {F A K : Type 0} (handlers : List (A × K)) (count : ℕ) (began : JournaledHub F) (s : ServedJournaledHub F) (t : Service) → count ≡ length handlers → t ≡ service_of s.served
+    → IsServedJournaledHub (λ (start : SessionStart A K) r. IsServedHandler start r) handlers began s
+    → IsJournaledService count began (record { service = t; journal = s.journal })
+unfolding is_service
+is_journaled_of handlers count began s t many is h =
+    subst (λ n. IsJournaledService n began (record { service = t; journal = s.journal })) (sym many)
+    (subst (λ u. IsJournaledService (length handlers) began (record { service = u; journal = s.journal })) (sym is)
+    (record { service = is_service handlers 1 s.served h.served; earlier = h.earlier; journal = h.journal }))

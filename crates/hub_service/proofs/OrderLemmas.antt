@@ -1,5 +1,5 @@
 -- The jobs of a handler's sessions in its lane, and the entries of its sessions in the history.
-use Rattle.hub_service.proofs.Common.{◌≡◌, ℕ, suc, zero, ◌+◌, ◌%◌, ◌<◌, ◌≤◌, List, [], ◌∷◌, ◌++◌, length, map, get_or, drop, refl, sym, ap, ◌∙◌, subst, arith, All, All-nil, All-cons, All-weaker, map-append, length-map, flat_map, Job, Told, of_session, TallyState, EachAt, read_map, some_item, Of, EachOf, lanes_in_order, tells_own, tells_history, first_all, rest_all, StandsIn, ServedSession, IsSessionOf, told_of, put_of, own_of_sessions, Entry, Interleaves, entries_of, entry_of, IsTold, told_in_order, WorkerState, taken_lists, HandlerState, IsOfHandler, put_lists, TellsAsSession, entries_told, entries_of_handler, entries_of_sessions, SessionsInOrder, HandlersInOrder}
+use Rattle.hub_service.proofs.Common.{◌≡◌, ℕ, suc, zero, ◌<◌, List, [], ◌∷◌, ◌++◌, length, map, get_or, drop, refl, sym, ap, ◌∙◌, subst, arith, All, All-nil, All-cons, All-weaker, map-append, flat_map, Told, TallyState, EachAt, each_of_map, Of, each_in_order, tells_own, tells_history, first_all, rest_all, StandsIn, ServedSession, IsSessionOf, told_of, put_of, own_of_sessions, Entry, Interleaves, entries_of, entry_of, IsTold, told_in_order, WorkerState, HandlerState, IsOfHandler, TellsAsSession, entries_told, entries_of_handler, entries_of_sessions, SessionsInOrder, HandlersInOrder}
 use mathlib.Core.List.{map-map}
 use Rattle.hub_service.proofs.RegroupLemmas.{joined, regroup}
 
@@ -8,31 +8,11 @@ use Rattle.hub_service.proofs.RegroupLemmas.{joined, regroup}
 own_of_handler : (number : ℕ) (h : HandlerState) → IsOfHandler number h → Of number h.put
 own_of_handler number h is = subst (λ l. Of number l) (sym is.put_is) (own_of_sessions number h.sessions is.each)
 
-of_puts : (xs : List HandlerState) → EachAt IsOfHandler xs → EachOf 0 (put_lists xs)
-of_puts xs each j d low =
-    let put : HandlerState → List Job = λ s. s.put in
-    let long = length-map xs put in
-    let inside : j < length xs = omega (arith, long, low) in
-    let x = some_item xs (omega (arith, inside)) in
-    let z : j ≡ 0 + j = omega arith in
-    subst (λ l. Of (0 + j) l) (sym (read_map put xs j x d inside)) (subst (λ n. Of n (get_or xs j x).put) z (own_of_handler j (get_or xs j x) (each j x inside)))
-
 pub handlers_in_order : HandlersInOrder
-handlers_in_order handlers workers s service some i x low d =
-    let k = i % workers in
+handlers_in_order handlers workers s service some i h low w =
     let lanes = service.by_handlers in
-    let served = service.served in
-    let put : HandlerState → List Job = λ y. y.put in
-    let taken_of : WorkerState → List Job = λ w. w.taken in
-    let taken = taken_lists service.worked in
-    let long = length-map served put in
-    let count = lanes.kept.taken_count in
-    let counted = length-map service.worked taken_of in
-    let within : k < length service.worked = omega (arith, some, count, counted) in
-    let is : get_or taken k [] ≡ (get_or service.worked k d).taken = read_map taken_of service.worked k d [] within in
-    let here : get_or (put_lists served) i [] ≡ (get_or served i x).put = read_map put served i x [] low in
-    let law = lanes_in_order workers (put_lists served) taken s.left.items lanes.kept some (of_puts served lanes.of_handlers) i (omega (arith, long, low)) in
-    ap (λ l. of_session i l ++ of_session i (get_or s.left.items k [])) (sym is) ∙ (law ∙ (here ∙ (lanes.of_handlers i x low).put_is))
+    each_in_order (λ (y : HandlerState). y.put) (λ (u : WorkerState). u.taken) workers service.served service.worked s.left.items lanes.kept some
+    (λ k y inside. own_of_handler k (get_or service.served k y) (lanes.of_handlers k y inside)) i h low w ∙ (lanes.of_handlers i h low).put_is
 
 -- ---- entries
 
@@ -77,13 +57,8 @@ stands_at : (history : List Entry) (tallies : List TallyState) (served : List Ha
     → All (λ (p : TallyState). All (StandsIn history) p.entries) tallies
     → EachAt (λ k (h : HandlerState). All (λ (u : ServedSession). All (StandsIn history) u.told) h.sessions) served
 stands_at history tallies served is each stands k d low =
-    let tally_of : HandlerState → TallyState = λ h. h.tally in
-    let long = length-map served tally_of in
-    let h = get_or served k d in
-    let none : TallyState = h.tally in
-    let all = subst (All (λ (p : TallyState). All (StandsIn history) p.entries)) is stands k none (omega (arith, long, low)) in
-    let here = subst (λ (p : TallyState). All (StandsIn history) p.entries) (read_map tally_of served k d none low) all in
-    each_told (StandsIn history) h.sessions (subst (All (StandsIn history)) (each k d low).told_is here)
+    let here = each_of_map (λ (h : HandlerState). h.tally) (λ (p : TallyState). All (StandsIn history) p.entries) tallies served is stands k d low in
+    each_told (StandsIn history) (get_or served k d).sessions (subst (All (StandsIn history)) (each k d low).told_is here)
 
 pub sessions_in_order : SessionsInOrder
 sessions_in_order handlers workers s service =

@@ -10,7 +10,19 @@ use Rattle.connection_handlers.specs.Handlers.{ServedSession, IsSessionOf, told_
 use Rattle.hub_shared.specs.Seats.{IsRun}
 use Rattle.hub_workers.specs.Counts.{WorkerState, MakesCalls, taken_lists}
 use Rattle.hub_threads.specs.Kept.{AreKept}
+use Rattle.hub_serving.specs.declared.served.ServedHub.{ServedHub}
 use Rattle.hub_service.specs.declared.service.Service.{Service}
+
+-- the service whose handlers were the threads that served around this hub
+abbrev pub service_of : ServedHub → Service
+service_of s = record {
+  hub = s.hub;
+  earlier = s.earlier;
+  sum = s.sum;
+  refused = s.refused;
+  tallies = s.tallies;
+  left = s.left;
+}
 
 -- what the thread of a connection handler gives back, by what it began with
 abbrev pub IsServedHandler : {A K : Type 0} → SessionStart A K → Served → Type 0

@@ -14,7 +14,6 @@ pub(crate) struct Handlers;
 impl<A: Connections + Drop> Serve<A, ()> for Handlers {
     ghost has_served = { λ start s. IsServedHandler start s };
 
-    #[tactic(auto, using(crate::proofs::HandlerLemmas::puts_own_jobs, crate::proofs::HandlerLemmas::puts_alone))]
     fn serve<'x, R: Wait>(
         &self,
         rt: &'x R,

@@ -1,34 +1,18 @@
 //! A whole service.
-ghost use Rattle.std.specs.Prelude.{◌≡◌, ◌+◌, ◌%◌, ◌≤◌, length, slice_index_or, vec_len, IfOk};
-ghost use Rattle.inbox.specs.States.{new_pass};
-ghost use Rattle.session_lanes.specs.Lanes.{new_lane, EachAt, EachPair, of_lane, HandsOut};
-ghost use Rattle.session_lanes.specs.Room.{IsEmptyWithRoom};
-ghost use Rattle.hub_shared.specs.Seats.{new_seat};
-ghost use Rattle.hub_threads.specs.Room.{HasRoomFor};
-ghost use Rattle.hub_threads.specs.Served.{IsServiceOf};
-ghost use Rattle.hub_workers.specs.Work.{IsWorked};
-ghost use Rattle.hub_service.specs.Services.{IsService, IsServedHandler};
+ghost use Rattle.std.specs.Prelude.{◌≡◌, ◌≤◌, vec_len, IfOk};
+ghost use Rattle.hub_service.specs.Services.{IsService, service_of};
 
 use crate::handlers::Handlers;
 use connections::Connections;
 use hub_core::Hub;
-use hub_shared::{Seat, SharedHub, Tally};
-use hub_threads::{
-    Back, Keeper, LanesEnd, LanesRun, LanesToEnd, Lent, ThreadFault, ThreadPlaces, end_lanes,
-    run_lanes,
-};
-use hub_workers::{
-    ClosedHub, Gate, Places, SharedContext, Worker, WorkerParts, close_hub, make_places,
-};
+use hub_serving::{ServedHub, serve_hub};
+use hub_shared::Tally;
+use hub_threads::{Keeper, Lent, ThreadFault};
+use hub_workers::Gate;
 use inbox::Left;
-use seeded_state::SeededState;
-use session_lanes::{Outcomes, SessionStart};
 use std::alloc::Global;
-use std::marker::Brand;
 use std::random::RandomSource;
-use std::snapshot::Snapshot;
 use std::sync::Wait;
-use std::sync::ledger::{Blank, Ledger};
 use std::thread::Threads;
 
 /// What a service leaves.
@@ -76,137 +60,32 @@ where
     requires workers { (1 ≤ workers) × (workers ≤ 8) }
     ensures { IfOk result (λ s. IsService (vec_len handlers) workers s) }
 {
-    let blank = Blank::new(workers as u64 + 1);
-    let setup = Setup {
-        handlers,
-        workers,
-        blank,
-    };
-    run_with_ledger::<Brand, A, G, D, R>(rt, alloc, hooks, setup)
-}
-
-// What a service is set up with: its handlers, how many workers make their calls, and the ledger of its seats.
-struct Setup<A> {
-    handlers: Vec<(A, ())>,
-    workers: usize,
-    blank: Blank,
-}
-
-// A service whose seats are shares of this ledger.
-fn run_with_ledger<L, A, G, D, R>(
-    rt: &R,
-    alloc: Global,
-    hooks: Hooks<'_, G, D>,
-    setup: Setup<A>,
-) -> Result<Service, ThreadFault>
-where
-    L: Ledger + Send + Sync,
-    A: Connections + Send + Drop,
-    G: Gate + Sync,
-    D: Keeper,
-    R: Threads + Wait + Sync + RandomSource,
-    requires handlers { (1 ≤ vec_len setup.handlers) × (vec_len setup.handlers ≤ 64) }
-    requires workers { (1 ≤ setup.workers) × (setup.workers ≤ 8) }
-    requires blank { (setup.blank.name ≡ L.name) × (setup.blank.parts ≡ L.parts)
-        × (setup.blank.parts ≡ setup.workers + 1) }
-    ensures { IfOk result (λ s. IsService (vec_len setup.handlers) setup.workers s) }
-{
-    let Setup {
-        handlers,
-        workers,
-        blank,
-    } = setup;
     let Hooks { gate, keeper } = hooks;
-    let (hub, mut seat) = SharedHub::<L>::with_hasher(alloc, SeededState::drawn(rt), blank);
-    let Places {
-        lanes,
-        sessions,
-        workers,
-    } = make_places(rt, alloc, handlers, workers, &mut seat)?;
-    let parts = WorkerParts::with_room(alloc, workers.len())?;
-    let starts = Snapshot::of(&sessions);
-    let shared = SharedContext { gate, hub: &hub };
-    let places = ThreadPlaces {
-        lanes,
-        sessions,
-        workers,
-    };
     let lent = Lent {
-        shared: &shared,
+        shared: gate,
         kind: &Handlers,
         keeper,
     };
-    let LanesRun { to_end, back } = run_lanes(rt, alloc, lent, places)?;
-    let to_close = ToClose {
-        starts,
-        to_end,
-        hub,
-        seat,
-        parts,
-    };
-    Ok(end_service(rt, to_close, back))
+    let served = serve_hub(rt, alloc, lent, handlers, workers)?;
+    Ok(into_service(served))
 }
 
-// What a service closes at its end: its lanes, and the hub, by the seat that it kept; and the lists for what its workers had. Only
-// contracts read what its handlers began with.
-struct ToClose<L: Ledger, A> {
-    starts: Snapshot<Vec<SessionStart<A, ()>>>,
-    to_end: LanesToEnd,
-    hub: SharedHub<L>,
-    seat: Seat<L>,
-    parts: WorkerParts<L>,
-}
-
-// Closes the hub and the lanes, once all threads have ended. It takes no memory.
-fn end_service<L: Ledger, A>(
-    rt: &impl Wait,
-    to_close: ToClose<L, A>,
-    back: Back<Worker<L>>,
-) -> Service
-    requires some { let lanes = to_close.to_end.lanes.items in (1 ≤ length lanes)
-        × (length lanes ≤ 8) }
-    requires lanes { let lanes = to_close.to_end.lanes.items in EachAt (λ k l.
-        HandsOut (new_lane l.id l.capacity) l
-        (1 + length (of_lane k (length lanes) 0 back.served.items))) lanes }
-    requires numbers { EachAt (λ i s. s.session ≡ i) to_close.starts.value.items }
-    requires starts { let lanes = to_close.to_end.lanes.items in EachAt (λ i s. (d : _)
-        → s.pass ≡ new_pass (slice_index_or lanes (i % length lanes) d).id 1)
-        to_close.starts.value.items }
-    requires served { EachPair (λ i s r. IsServiceOf IsServedHandler s r)
-        to_close.starts.value.items back.served.items }
-    requires worked { let lanes = to_close.to_end.lanes.items in
-        (length back.worked.items ≡ length lanes)
-        × EachAt (λ k r. (d : _) → IsWorked (new_pass (slice_index_or lanes k d).id 1)
-        r.pass r.seat) back.worked.items }
-    requires seat { (to_close.seat ≡ new_seat 1)
-        × (L.parts ≡ length to_close.to_end.lanes.items + 1) }
-    requires few { vec_len back.served ≤ 64 }
-    requires room { HasRoomFor (vec_len back.served) (vec_len to_close.to_end.lanes)
-        to_close.to_end.room }
-    requires passes { IsEmptyWithRoom to_close.parts.passes (vec_len back.worked) }
-    requires seats { IsEmptyWithRoom to_close.parts.seats (vec_len back.worked + 1) }
-    ensures { IsService (length to_close.starts.value.items)
-        (length to_close.to_end.lanes.items) result }
+// The service whose handlers were the threads that served.
+pub(crate) fn into_service(served: ServedHub) -> Service
+    ensures { result ≡ service_of served }
 {
-    let ToClose {
-        starts: _,
-        to_end,
+    let ServedHub {
         hub,
-        seat,
-        parts,
-    } = to_close;
-    let Back { served, worked } = back;
-    let ClosedHub {
-        hub,
+        earlier,
         sum,
         refused,
-        passes,
-    } = close_hub(hub, seat, worked, parts);
-    let LanesEnd { outcomes, left } = end_lanes(rt, to_end, served, passes);
-    let Outcomes { tallies, .. } = outcomes;
+        tallies,
+        left,
+        ..
+    } = served;
     Service {
         hub,
-        earlier: 0,
+        earlier,
         sum,
         refused,
         tallies,

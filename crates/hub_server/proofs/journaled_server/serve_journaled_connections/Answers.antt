@@ -15,7 +15,7 @@ returns-clause-settled g c =
 
 pub returns-clause-durable : goal.returns-clause-durable
 returns-clause-durable g c =
-    c.in_ok-shift.ensures.on_disk (sym c.has_failed.ensures ∙ c.if-has_failed.false) ∙ ap (λ (s : Shift). lines_of_history s.hub) (sym c.in_ok-settled.ensures.same)
+    c.in_ok-shift.ensures.journal.on_disk (sym c.has_failed.ensures ∙ c.if-has_failed.false) ∙ ap (λ (s : Shift). lines_of_history s.hub) (sym c.in_ok-settled.ensures.same)
 
 pub returns-in_err-connections-clause-not_settled : goal.returns-in_err-connections-clause-not_settled
 returns-in_err-connections-clause-not_settled g c =
