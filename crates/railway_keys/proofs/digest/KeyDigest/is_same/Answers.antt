@@ -1,4 +1,4 @@
-use Rattle.std.proofs.Common.{◌≡◌, ℕ, ◌<◌, length, get_or, ap, arith, below_more, rules}
+use Rattle.std.proofs.Common.{◌≡◌, length, get_or, ap, arith, below_more, rules}
 use Rattle.railway_keys.proofs.DigestLemmas.{none-so-far, none-more, same-test}
 use Rattle.railway_keys.proofs.digest.KeyDigest.is_same.Goals as goal
 

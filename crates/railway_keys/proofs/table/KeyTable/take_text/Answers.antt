@@ -1,4 +1,4 @@
-use Rattle.std.proofs.Common.{◌≡◌, ◌∙◌, sym, subst, arith, rules}
+use Rattle.std.proofs.Common.{◌∙◌, sym, subst, arith, rules}
 use Rattle.std.proofs.lemmas.Str.Pattern.{split_once_first, split_parts}
 use Rattle.railway_keys.specs.KeyFiles.{IsFaultOf, lines_of, table_of, with_line}
 use Rattle.railway_keys.proofs.FileLemmas.{by-last, first-fault, line-refused, line-taken}
