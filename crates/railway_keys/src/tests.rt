@@ -1,7 +1,5 @@
 //! Tests of keys, of their files and of guards. Each digest is what `printf %s KEY | sha256sum` gives.
-use crate::{
-    Admission, KeyDigest, KeyFileFault, KeyGuard, KeyLineFault, KeyTable, KeyedConnections,
-};
+use crate::{Admission, KeyDigest, KeyFileFault, KeyGuard, KeyLineFault, KeyTable};
 use std::alloc::Global;
 use std::test::Fail;
 use taf_codes::{Failed, Failures, Railway, Source, Std};
