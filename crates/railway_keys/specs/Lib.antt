@@ -1,0 +1,7 @@
+pub mod Admissions
+pub mod FirstLines
+pub mod Fronts
+pub mod Guards
+pub mod Hellos
+pub mod KeyFiles
+pub mod Keys
