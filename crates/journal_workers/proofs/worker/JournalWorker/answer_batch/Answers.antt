@@ -26,7 +26,7 @@ returns-clause-worked g c =
     let began = c.args.self.now in
     let calls = c.make_calls.new.self in
     let mid : JournalWorker g.row.F.Denot = record { pass = c.next.new.pass; hub = began.hub; refused = began.refused; dones = began.dones } in
-    batch_worked began mid calls (record { pass = calls.pass; hub = c.sync.new.self; refused = calls.refused; dones = c.answer_sessions.new.dones }) c.in-Some.first
+    batch_worked began mid calls (record { pass = calls.pass; hub = c.sync.new.self; refused = calls.refused; dones = c.answer_sessions.new.self.dones }) c.in-Some.first
     c.requires.ready.on_disk refl refl c.in-Some.ensures.taken c.make_calls.ensures.made refl c.sync.ensures.history refl
     (λ sound. c.sync.ensures.any_moment sound)
     (λ sound. record { journaled = c.sync.ensures.journaled; sound = c.in-Ok.ensures.sound; none = c.sync.ensures.none })
