@@ -1,6 +1,6 @@
 -- The work of a worker, one batch after another.
 use Rattle.inbox.specs.States.{after_take}
-use Rattle.journal_workers.proofs.Common.{◌≡◌, ◌⊎◌, ◌+◌, ◌<◌, ◌^◌, List, [], ◌∷◌, ◌++◌, length, refl, sym, ap, ◌∙◌, subst, arith, append_assoc, append-nil, length-append, false, PassState, Job, LeavesOnly, StandsFor, lines_of_history, history_of, journal_of, past_of, has_failed, durable_lines, IsOnDisk, JournaledHub, JournalWorker, AreAnswers, HasMadeCalls, HasWorked}
+use Rattle.journal_workers.proofs.Common.{◌≡◌, ◌⊎◌, ◌<◌, ◌^◌, List, [], ◌∷◌, ◌++◌, length, refl, sym, ap, ◌∙◌, subst, arith, append_assoc, append-nil, length-append, false, PassState, Job, LeavesOnly, StandsFor, lines_of_history, history_of, journal_of, past_of, has_failed, durable_lines, IsOnDisk, JournaledHub, JournalWorker, AreAnswers, HasMadeCalls, HasWorked}
 use Rattle.journal_workers.proofs.AnswerLemmas.{answers_append, answers_grow}
 use Rattle.journaled_hub.specs.Crashes.{HasGoneOn}
 use Rattle.journaled_hub.proofs.CrashLemmas.{gone_nowhere, gone_by_batch, gone_on}

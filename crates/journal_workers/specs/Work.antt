@@ -47,6 +47,13 @@ pub record IsReady {F : Type 0} (w : JournalWorker F) : Type 0 where
   pub on_disk : IsOnDisk w.hub
   pub room : HasRoom w
 
+-- the answers that it keeps are those to jobs whose calls are in the history, all of which is on the disk
+pub record MayAnswer {F : Type 0} (w : JournalWorker F) : Type 0 where
+  pub before : List Entry
+  pub jobs : List Job
+  pub answers : AreAnswers before jobs w.dones.items (history_of w.hub)
+  pub on_disk : IsOnDisk w.hub
+
 -- It made the calls of this job, which it had taken, and of those that it took behind it, and keeps their answers. Nothing was done
 -- with the journal's file.
 pub record HasMadeCalls {F : Type 0} (first : Job) (began w : JournalWorker F) : Type 0 where

@@ -12,8 +12,8 @@
 //! history, and this front has at least the calls that were there when it began. The same holds from each batch on, since what
 //! follows a batch is the work of a worker that begins there: so what was answered stays.
 //!
-//! That an answer goes to its session after the sync is seen in the body of `answer_batch`, and no contract says it: an
-//! `AnswerQueue` promises nothing of what it holds. Where a call of the file fails, the answers of that batch are dropped, all
+//! Only [`JournalWorker::answer_sessions`] gives answers to sessions, and it may be called only where they are answers to jobs whose
+//! calls are in the history, all of which is on the disk. Where a call of the file fails, the answers of that batch are dropped, all
 //! queues of answers are ended, and the worker takes no job any more.
 #![tactic(auto)]
 

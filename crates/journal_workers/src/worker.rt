@@ -5,7 +5,7 @@ ghost use Rattle.hub_model.specs.declared.entry.Entry.{Entry};
 ghost use Rattle.inbox.specs.declared.rule.Job.{Job};
 ghost use Rattle.session_lines.specs.declared.session.Done.{Done};
 ghost use Rattle.journaled_hub.specs.JournaledHubs.{history_of, journal_of, IsJournaled, IsOnDisk};
-ghost use Rattle.journal_workers.specs.Work.{HasMadeCalls, HasRoom, HasWorked, IsAnswerTo, IsReady};
+ghost use Rattle.journal_workers.specs.Work.{HasMadeCalls, HasRoom, HasWorked, IsAnswerTo, IsReady, MayAnswer};
 
 use inbox::{Job, Pass};
 use journal::{Failed, RawFile};
@@ -139,8 +139,20 @@ impl<F: RawFile + Drop> JournalWorker<F> {
             Ok(()) => {}
             Err(Failed) => return BatchEnd::Failed,
         }
-        answer_sessions(rt, answers, &mut self.dones);
+        self.answer_sessions(rt, answers);
         BatchEnd::Answered
+    }
+
+    /// Puts each answer that it keeps into the queue of its session. They are answers to jobs whose calls are all on the disk.
+    pub fn answer_sessions<R: Wait>(&mut self, rt: &R, answers: &[AnswerQueue])
+        requires { MayAnswer self.old }
+        ensures kept { self.new ≡ record self.old { dones = self.new.dones } }
+        ensures empty { self.new.dones.items ≡ [] }
+        ensures room { deque_capacity self.new.dones ≡ deque_capacity self.old.dones }
+    {
+        while let Some(done) = self.dones.pop_front() {
+            push_to_session(rt, answers, done);
+        }
     }
 }
 
@@ -182,16 +194,6 @@ fn refused_after(refused: u64, is_fault: bool) -> u64
         return refused + 1;
     }
     refused
-}
-
-// Puts each answer into the queue of its session.
-fn answer_sessions<R: Wait>(rt: &R, answers: &[AnswerQueue], dones: &mut VecDeque<Done>)
-    ensures empty { dones.new.items ≡ [] }
-    ensures room { deque_capacity dones.new ≡ deque_capacity dones.old }
-{
-    while let Some(done) = dones.pop_front() {
-        push_to_session(rt, answers, done);
-    }
 }
 
 // No answer comes any more: each session ends that waits for one, or puts a job.

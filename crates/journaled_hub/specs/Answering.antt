@@ -3,6 +3,8 @@ use Rattle.std.specs.Prelude.{◌≡◌, ℕ, List, ◌++◌}
 use Rattle.hub_model.specs.declared.entry.Entry.{Entry}
 use Rattle.call_lines.specs.declared.parsed.ParsedLine.{ParsedLine}
 use Rattle.hub_replay.specs.Outcomes.{outcome, start_of}
+use Rattle.journaled_hub.specs.JournaledHubs.{history_of, IsOnDisk}
+use Rattle.journaled_hub.specs.declared.journaled.JournaledHub.{JournaledHub}
 
 -- the lines lead from the old entries to the new ones, and this is written
 pub record LeadsTo (old : List Entry) (lines : List ParsedLine) (new : List Entry) (written : List ℕ) : Type 0 where
@@ -17,3 +19,10 @@ pub record IsStoppedOnDisk (old : List Entry) (lines : List ParsedLine) (written
   pub split : lines ≡ complete ++ rest
   pub lacks : List ℕ
   pub leads : LeadsTo old complete durable (written ++ lacks)
+
+-- these bytes are answers to lines that led to the history of the hub, all of which is on the disk
+pub record MayBeWritten {F : Type 0} (hub : JournaledHub F) (replies : List ℕ) : Type 0 where
+  pub before : List Entry
+  pub lines : List ParsedLine
+  pub leads : LeadsTo before lines (history_of hub) replies
+  pub on_disk : IsOnDisk hub

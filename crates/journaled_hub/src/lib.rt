@@ -16,7 +16,8 @@
 //! lines that come next. Beside the hub, memory is taken for what is read at once, twice, for one batch, and for the calls of both.
 //!
 //! Promised is, by the model of log_file: after a sync that is Ok, each crash leaves a file that has the line of each call of the
-//! history, in order; a crash at any moment of the sync leaves the lines from before it, or all. A hub that is opened has the calls of
+//! history, in order; a crash at any moment of the sync leaves the lines from before it, or all. Replies are written, by
+//! [`JournaledHub::write_replies`], only where all of the history is on the disk. A hub that is opened has the calls of
 //! the file's lines and no other, and the replies that these calls get on a new hub. So it has the history that was written, and a
 //! message that had its reply before a crash gets the same one again.
 #![tactic(auto)]

@@ -4,7 +4,7 @@ ghost use Rattle.std.specs.Io.KnownBytes.{Appends, Consumes, IsAtEnd};
 ghost use Rattle.hub_model.specs.declared.entry.Entry.{Entry};
 ghost use Rattle.call_lines.specs.Lines.{has_no_newline};
 ghost use Rattle.hub_replay.specs.Lines.{parsed_lines, IsTaken};
-ghost use Rattle.journaled_hub.specs.Answering.{LeadsTo, IsStoppedOnDisk};
+ghost use Rattle.journaled_hub.specs.Answering.{LeadsTo, IsStoppedOnDisk, MayBeWritten};
 ghost use Rattle.journaled_hub.specs.Crashes.{HasGoneOn};
 ghost use Rattle.journaled_hub.specs.HistoryLines.{lines_of_history};
 ghost use Rattle.journaled_hub.specs.JournaledHubs.{history_of, durable_lines, has_failed, IsOnDisk};
@@ -133,22 +133,27 @@ fn answer_turn<W: Sink, F: RawFile>(
     let Ok(()) = hub.sync() else {
         return Err(JournaledRunFault::Journal);
     };
-    match write_and_flush(writer, replies.as_slice()) {
+    match hub.write_replies(writer, replies.as_slice()) {
         Ok(()) => Ok(()),
         Err(Failed) => Err(JournaledRunFault::Run(RunFault::Write)),
     }
 }
 
-// Writes all of the bytes, and has the writer send them on. Where it fails, it took a front of them.
-fn write_and_flush<W: Sink>(writer: &mut W, bytes: &[u8]) -> Result<(), Failed>
-    ensures ok { OnOk result (Appends (W.contents writer.old) (W.contents writer.new) bytes.now) }
-    ensures err { OnErr result ((front rest : List ℕ) × (bytes.now ≡ front ++ rest)
-        × Appends (W.contents writer.old) (W.contents writer.new) front) }
-    ensures failed { OnErr result (W.failures writer.new ≡ W.failures writer.old + 1) }
-    ensures kept { OnOk result (W.failures writer.new ≡ W.failures writer.old) }
-{
-    match write_all(writer, bytes) {
-        Ok(()) => writer.flush(),
-        Err(Failed) => Err(Failed),
+impl<F: RawFile> JournaledHub<F> {
+    /// Writes replies of the hub, and has the writer send them on: they are answers to lines whose calls are all on the disk. Where it
+    /// fails, the writer took a front of them.
+    pub fn write_replies<W: Sink>(&self, writer: &mut W, replies: &[u8]) -> Result<(), Failed>
+        requires { MayBeWritten self.now replies.now }
+        ensures ok { OnOk result (Appends (W.contents writer.old) (W.contents writer.new)
+            replies.now) }
+        ensures err { OnErr result ((front rest : List ℕ) × (replies.now ≡ front ++ rest)
+            × Appends (W.contents writer.old) (W.contents writer.new) front) }
+        ensures failed { OnErr result (W.failures writer.new ≡ W.failures writer.old + 1) }
+        ensures kept { OnOk result (W.failures writer.new ≡ W.failures writer.old) }
+    {
+        match write_all(writer, replies) {
+            Ok(()) => writer.flush(),
+            Err(Failed) => Err(Failed),
+        }
     }
 }

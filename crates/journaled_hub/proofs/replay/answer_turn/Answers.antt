@@ -10,7 +10,7 @@ use Rattle.journaled_hub.proofs.replay.answer_turn.Goals as goal
 -- all of the calls are on the disk, and a front of the answers was written
 pub returns-clause-err : goal.returns-clause-err
 returns-clause-err g c =
-    let wrote = c.in-Err-write_and_flush.ensures.err in
+    let wrote = c.in-Err-write_replies.ensures.err in
     let old = c.args.hub.now.hub in
     let new = c.answer_lines.new.self.hub in
     let lines = parsed_lines c.args.lines.now in
@@ -40,8 +40,8 @@ returns-in_default-clause-crash g c =
     let made = c.answer_lines.ensures in
     gone_by_batch c.args.hub.now c.answer_lines.new.self c.sync.new.self made.grows.0 c.requires made.journal made.grows.1 c.sync.ensures.history c.sync.ensures.any_moment
 
-pub returns-in-Ok-write_and_flush-clause-crash : goal.returns-in-Ok-write_and_flush-clause-crash
-returns-in-Ok-write_and_flush-clause-crash g c =
+pub returns-in-Ok-write_replies-clause-crash : goal.returns-in-Ok-write_replies-clause-crash
+returns-in-Ok-write_replies-clause-crash g c =
     let made = c.answer_lines.ensures in
     gone_by_batch c.args.hub.now c.answer_lines.new.self c.sync.new.self made.grows.0 c.requires made.journal made.grows.1 c.sync.ensures.history c.sync.ensures.any_moment
 

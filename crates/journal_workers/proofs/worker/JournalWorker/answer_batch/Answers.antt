@@ -1,7 +1,8 @@
-use Rattle.std.proofs.Common.{true, false, refl, sym, subst, ◌∙◌}
+use Rattle.std.proofs.Common.{refl, sym, subst, ◌∙◌, ◌∷◌}
 use Rattle.std.proofs.lemmas.Bool.{false≢true}
 use Rattle.inbox.specs.States.{PassState}
-use Rattle.journal_workers.specs.Work.{HasWorked}
+use Rattle.journaled_hub.specs.JournaledHubs.{history_of}
+use Rattle.journal_workers.specs.Work.{AreAnswers, HasWorked}
 use Rattle.journal_workers.specs.declared.worker.JournalWorker.{JournalWorker}
 use Rattle.journal_workers.proofs.WorkLemmas.{not_worked, batch_worked}
 use Rattle.journal_workers.proofs.worker.JournalWorker.answer_batch.Goals as goal
@@ -21,12 +22,28 @@ returns-in-Err-clause-worked g c =
     (λ sound. c.sync.ensures.any_moment sound)
     (λ sound. absurd (false≢true (sym sound ∙ c.in-Err.ensures.failed)))
 
+-- the answers are those to jobs whose calls are on the disk
+pub answer_sessions-requires : goal.answer_sessions-requires
+answer_sessions-requires g c =
+    let old = history_of c.args.self.now.hub in
+    let calls = c.make_calls.new.self in
+    let made = c.make_calls.ensures.made in
+    let jobs = c.in-Some.first ∷ made.rest in
+    record {
+      before = old;
+      jobs = jobs;
+      answers = subst (AreAnswers old jobs calls.dones.items) (sym c.sync.ensures.history) made.answers;
+      on_disk = record { journaled = c.sync.ensures.journaled; sound = c.in-Ok.ensures.sound; none = c.sync.ensures.none };
+    }
+
 pub returns-clause-worked : goal.returns-clause-worked
 returns-clause-worked g c =
     let began = c.args.self.now in
     let calls = c.make_calls.new.self in
     let mid : JournalWorker g.row.F.Denot = record { pass = c.next.new.pass; hub = began.hub; refused = began.refused; dones = began.dones } in
-    batch_worked began mid calls (record { pass = calls.pass; hub = c.sync.new.self; refused = calls.refused; dones = c.answer_sessions.new.dones }) c.in-Some.first
+    let answered : JournalWorker g.row.F.Denot = record { pass = calls.pass; hub = c.sync.new.self; refused = calls.refused; dones = c.answer_sessions.new.self.dones } in
+    subst (λ (w : JournalWorker g.row.F.Denot). HasWorked {F = g.row.F.Denot} began w) (sym c.answer_sessions.ensures.kept)
+    (batch_worked began mid calls answered c.in-Some.first
     c.requires.ready.on_disk refl refl c.in-Some.ensures.taken c.make_calls.ensures.made refl c.sync.ensures.history refl
     (λ sound. c.sync.ensures.any_moment sound)
-    (λ sound. record { journaled = c.sync.ensures.journaled; sound = c.in-Ok.ensures.sound; none = c.sync.ensures.none })
+    (λ sound. record { journaled = c.sync.ensures.journaled; sound = c.in-Ok.ensures.sound; none = c.sync.ensures.none }))
