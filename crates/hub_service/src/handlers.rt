@@ -1,4 +1,7 @@
 //! What the threads of the connection handlers do.
+ghost use Rattle.std.specs.Prelude.{◌≡◌, []};
+ghost use Rattle.std.specs.List.{All};
+ghost use Rattle.inbox.specs.declared.rule.Job.{Job};
 ghost use Rattle.hub_service.specs.Services.{IsServedHandler};
 
 use connection_handlers::serve_handler;
@@ -20,7 +23,13 @@ impl<A: Connections + Drop> Serve<A, ()> for Handlers {
         alloc: Global,
         context: SessionContext<'x>,
         start: SessionStart<A, ()>,
-    ) -> Served {
+    ) -> Served
+        requires own { start.pass.inbox ≡ context.jobs.now.id }
+        requires none { start.pass.put ≡ [] }
+        ensures own_jobs { All (λ (j : Job). j.session ≡ start.session) result.pass.put }
+        ensures put_only { result.pass ≡ record start.pass { put = result.pass.put } }
+        ensures served { IsServedHandler start result }
+    {
         serve_handler(rt, alloc, context, start)
     }
 }

@@ -1,5 +1,5 @@
 use Rattle.hub_service.proofs.Common.{puts_own_jobs, puts_alone}
-use Rattle.hub_service.proofs.handlers.HandlersServe.serve.Goals as goal
+use Rattle.hub_service.proofs.handlers.HandlersServeUnit.serve.Goals as goal
 
 pub returns : goal.returns
 returns g c = record {
