@@ -5,9 +5,9 @@ use taf_codes::{Sink, Source};
 ///
 /// Whatever serves a session takes the two ends, and drops both once the session has ended. It asks for the next connection only then.
 pub trait Connections {
-    type Reader: Source + Send + Drop;
+    type Reader: Source + Drop;
 
-    type Writer: Sink + Send + Drop;
+    type Writer: Sink + Drop;
 
     /// The two ends of the next connection. It may wait for it. None comes once there are no more, and none comes after that.
     fn next(&mut self) -> Option<(Self::Reader, Self::Writer)>;
