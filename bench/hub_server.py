@@ -1,4 +1,4 @@
-"""`taf_hub serve` as a process, and the lines that railways send to it, for the scripts of this folder."""
+"""`taf_hub serve` and `taf_hub open` as processes, and the lines that railways send to it, for the scripts of this folder."""
 import json
 import os
 import pathlib
@@ -28,12 +28,14 @@ def free_port():
 class Server:
     """`taf_hub serve` for so many sessions, at a free port, by so many workers or with a journal."""
 
-    def __init__(self, sessions, workers=None, journal=None, **more):
+    command = "serve"
+
+    def __init__(self, sessions, workers=None, journal=None, options=(), **more):
         self.sessions = sessions
         kind = ["--journal", journal] if journal else ["--workers", str(workers)]
         for _ in range(10):
             self.port = free_port()
-            words = ["serve", "--port", str(self.port), "--sessions", str(sessions), *kind]
+            words = [self.command, "--port", str(self.port), "--sessions", str(sessions), *kind, *options]
             self.process = subprocess.Popen([PROGRAM, *words], stdout=subprocess.PIPE, stderr=subprocess.PIPE, **more)
             # What the journal had.
             self.had = self.process.stderr.readline().decode() if journal else ""
@@ -61,6 +63,19 @@ class Server:
         settled = re.match(rb"settled (\d+)\n", report)
         need(settled, "nothing is settled")
         return int(settled[1]), report, used.ru_maxrss // 1024
+
+
+class Service(Server):
+    """`taf_hub open` for so many sessions at a time. Its input ends with it."""
+
+    command = "open"
+
+    def __init__(self, *numbers, **more):
+        super().__init__(*numbers, stdin=subprocess.PIPE, **more)
+
+    def end(self, limit):
+        self.process.stdin.close()
+        return super().end(limit)
 
 
 # Lines

@@ -30,13 +30,15 @@ class Railway:
         # How many lines it has to send, where they have an end.
         self.most = None
 
+    def next_records(self):
+        """The messages of a journey. One that is sent again gets the reply of the first. A question need not."""
+        return [it for it in journey(self.code, self.place, self.journeys) if it["kind"] != "ask"]
+
     def next_lines(self, start, end):
-        """The lines of messages from one place up to another."""
+        """The lines of records from one place up to another."""
         end = end if self.most is None else min(end, self.most)
         while len(self.lines) < end:
-            records = journey(self.code, self.place, self.journeys)
-            # A message that is sent again gets the reply of the first. A question need not.
-            self.lines += [line_of(it) for it in records if it["kind"] != "ask"]
+            self.lines += map(line_of, self.next_records())
             self.journeys += 1
         return self.lines[start:end]
 

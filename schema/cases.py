@@ -307,7 +307,7 @@ SESSION = [
     (b"hello", "no JSON", {"fault": "no_hello"}),
     (b'{"kind":"hello"}', "refused", {"fault": "missing_field", "field": "from"}),
     (b'{"kind":"hello","from":"r100"}', "refused", {"fault": "bad_field", "field": "from"}),
-    (b'{"kind":"hello","from":"R100","unknown":1}', "good", {"hello": "R100"}),
+    (b'{"kind":"hello","from":"R100","key":"green-signal-100","unknown":1}', "good", {"hello": "R100"}),
     (b'{"kind":"hello","from":"R100"}', "good", BAD_KIND),
     (b'{"kind":"fetch","from":"R101","limit":5}', "refused", {"fault": "wrong_sender"}),
     (b'{"kind":"fetch","from":"R100","limit":5}', "refused", {"items": [], "reply": "items"}),

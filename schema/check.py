@@ -118,7 +118,8 @@ def values_of(key, schema=ANSWERS):
 
 def texts_of(key):
     """All texts that the sources write under the key."""
-    text = sources("reply_writer/src/*.rt") + sources("session_lines/src/*.rt")
+    crates = ["reply_writer", "session_lines", "accept_queue", "railway_keys"]
+    text = "".join(sources(f"{crate}/src/*.rt") for crate in crates)
     return set(re.findall(rf'\\?"{key}\\?"[,:] ?\\?"(\w+)\\?"', text))
 
 

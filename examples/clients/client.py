@@ -2,8 +2,8 @@
 """A railway's session with taf_hub, with up to sixteen records on the way: client.py PORT RAILWAY [SECONDS] <RECORDS
 
 Says hello, sends the records of its standard input, and shows the answers in their order. Then it fetches and
-acknowledges the items of its outbox until there is none. Where the connection breaks it connects again, for so many
-seconds (0), says hello, and sends again each record that has no answer. It needs the standard library alone.
+acknowledges the items of its outbox until there is none. Where the connection breaks, and where the hub is full, it connects
+again, for so many seconds (0), says hello, and sends again each record that has no answer. It needs the standard library alone.
 """
 import collections
 import contextlib
@@ -14,6 +14,11 @@ import threading
 import time
 
 WINDOW = 16
+FULL = {"fault": "full"}
+
+
+class FullError(ConnectionError):
+    """The hub serves as many sessions as it can, and ended the connection."""
 
 
 class Session:
@@ -27,7 +32,7 @@ class Session:
         # The records that have no answer, in order. The lock is held while one is sent, and while all are sent again.
         self.open, self.lock = collections.deque(), threading.Lock()
         self.last = None
-        print(self.connect(), end="", flush=True)
+        print(self.connect_while_full(), end="", flush=True)
         self.reader = threading.Thread(target=self.read, daemon=True)
         self.reader.start()
 
@@ -41,7 +46,20 @@ class Session:
         answer = self.answers.readline()
         if not answer.endswith("\n"):
             raise ConnectionError("the hub has ended the session")
+        if json.loads(answer) == FULL:
+            raise FullError("the hub is full")
         return answer
+
+    def connect_while_full(self):
+        """Connects. Where the hub is full it tries again, within the seconds."""
+        end = time.monotonic() + self.seconds
+        while True:
+            try:
+                return self.connect()
+            except FullError:
+                if time.monotonic() >= end:
+                    raise
+            time.sleep(0.5)
 
     def write(self, record):
         self.connection.sendall(record.encode("utf-8") + b"\n")

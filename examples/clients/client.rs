@@ -1,8 +1,9 @@
 //! A railway's session with taf_hub, with up to sixteen records on the way: `client PORT RAILWAY [SECONDS] <RECORDS`
 //!
 //! Says hello, sends the records of its standard input, and shows the answers in their order. Then it fetches and
-//! acknowledges the items of its outbox until there is none. Where the connection breaks it connects again, for so many
-//! seconds (0), says hello, and sends again each record that has no answer. It needs no crate: `rustc -O client.rs`.
+//! acknowledges the items of its outbox until there is none. Where the connection breaks, and where the hub is full, it
+//! connects again, for so many seconds (0), says hello, and sends again each record that has no answer. It needs no crate:
+//! `rustc -O client.rs`.
 
 use std::collections::VecDeque;
 use std::io::{BufRead, BufReader, Error, ErrorKind, Result, Write};
@@ -14,6 +15,9 @@ use std::{env, io, process, thread};
 
 /// How many records may be on the way.
 const WINDOW: usize = 16;
+
+/// What the hub says where it serves as many sessions as it can. Then it ends the connection.
+const FULL: &str = "{\"fault\":\"full\"}\n";
 
 /// What the arguments say: the port, the railway, and how long it connects again.
 struct Hub {
@@ -41,6 +45,10 @@ fn ended() -> Error {
     Error::new(ErrorKind::UnexpectedEof, "the hub has ended the session")
 }
 
+fn is_full(error: &Error) -> bool {
+    error.kind() == ErrorKind::ResourceBusy
+}
+
 /// The next answer. None where the connection is broken: a line that is cut off is no answer.
 fn next_answer(lines: &mut impl BufRead) -> Option<String> {
     let mut line = String::new();
@@ -61,7 +69,23 @@ impl Hub {
             connection.write_all(record.as_bytes())?;
         }
         let answer = next_answer(&mut lines).ok_or_else(ended)?;
+        if answer == FULL {
+            return Err(Error::new(ErrorKind::ResourceBusy, "the hub is full"));
+        }
         Ok((connection, lines, answer))
+    }
+
+    /// Connects. Where the hub is full it tries again, within the seconds.
+    fn connect_while_full(&self) -> Result<(TcpStream, BufReader<TcpStream>, String)> {
+        let start = Instant::now();
+        loop {
+            match self.connect(&VecDeque::new()) {
+                Err(error) if is_full(&error) && start.elapsed() < self.patience => {
+                    thread::sleep(Duration::from_millis(500));
+                }
+                connected => return connected,
+            }
+        }
     }
 
     /// The lines of a new connection, which has been sent the records without an answer.
@@ -99,7 +123,7 @@ impl Hub {
 
 impl Session {
     fn connect(hub: Hub) -> Result<Session> {
-        let (connection, lines, hello) = hub.connect(&VecDeque::new())?;
+        let (connection, lines, hello) = hub.connect_while_full()?;
         print!("{hello}");
         let sending = Arc::new(Sending {
             connection: Mutex::new(connection),

@@ -1,8 +1,8 @@
 #!/usr/bin/env bash
 # A railway's session with taf_hub, one record at a time: client.sh PORT RAILWAY [SECONDS] <RECORDS
 # Says hello, sends the records of its standard input, and shows the answers. Then it fetches and acknowledges the
-# items of its outbox until there is none. Where the connection breaks it connects again, for so many seconds (0), says
-# hello, and sends the record again that has no answer. It needs bash and sleep.
+# items of its outbox until there is none. Where the connection breaks, and where the hub is full, it connects again, for
+# so many seconds (0), says hello, and sends the record again that has no answer. It needs bash and sleep.
 set -euo pipefail
 port=$1 railway=$2 seconds=${3:-0}
 # A record that is sent over a broken connection is an error, and does not end the client.
@@ -13,10 +13,13 @@ exchange() {
     printf '%s\n' "$1" >&3 && IFS= read -r reply <&3
 }
 
-# Connects, and says hello.
+# Connects, and says hello. Fails where the hub is full: then it has said so, and has ended the connection.
 connect() {
-    exec 3<>"/dev/tcp/127.0.0.1/$port" && exchange "{\"kind\":\"hello\",\"from\":\"$railway\"}"
+    reply=
+    exec 3<>"/dev/tcp/127.0.0.1/$port" && exchange "{\"kind\":\"hello\",\"from\":\"$railway\"}" && ! is_full
 } 2>/dev/null
+
+is_full() { [ "$reply" = '{"fault":"full"}' ]; }
 
 # Connects again.
 connect_again() {
@@ -52,7 +55,7 @@ next_record() {
     record+=$part
 }
 
-connect || { echo "client: the hub has ended the session" >&2; exit 1; }
+connect || { is_full && connect_again; } || { echo "client: the hub has ended the session" >&2; exit 1; }
 printf '%s\n' "$reply"
 while next_record; do
     # A blank line is no record, and has no answer.

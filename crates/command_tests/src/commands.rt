@@ -3,9 +3,9 @@ use std::alloc::Global;
 use std::fs::File;
 use std::io;
 use std::io::ErrorKind;
-use std::net::Net;
+use std::net::{Net, TcpListener, TcpStream};
 use std::random::RandomSource;
-use std::rt::Files;
+use std::rt::{Clock, Files};
 use std::sync::Wait;
 use std::test::Fail;
 use std::thread::Threads;
@@ -30,9 +30,14 @@ pub(crate) struct Ended {
 // Does what the line of arguments names.
 pub(crate) fn end_of<H>(rt: &H, line: &str, input: &str) -> Result<Ended, Fail>
 where
-    H: Files<File = File> + Net + Threads + Wait + Sync + RandomSource + AllocGlobal,
-    H::Stream: Send,
-    H::Listener: Send,
+    H: Files<File = File>
+        + Net<Listener = TcpListener, Stream = TcpStream>
+        + Threads
+        + Wait
+        + Clock
+        + Sync
+        + RandomSource
+        + AllocGlobal,
 {
     let arguments = arguments(rt.alloc(), line)?;
     let mut output = Vec::new(rt.alloc());
@@ -103,7 +108,7 @@ fn commands_end_with_their_status(rt: HostRuntime) -> Result<(), Fail> {
 }
 
 // Arguments that are explained, on the output for the status 0 and else among the errors.
-static EXPLAINED: [(&str, u8); 25] = [
+static EXPLAINED: [(&str, u8); 42] = [
     ("taf_hub|--help", 0),
     ("taf_hub|number|--help", 0),
     ("taf_hub", 2),
@@ -135,6 +140,29 @@ static EXPLAINED: [(&str, u8); 25] = [
         "taf_hub|serve|--port|7000|--sessions|3|--journal|hub.journal|--workers|1",
         2,
     ),
+    ("taf_hub|open|--help", 0),
+    ("taf_hub|open", 2),
+    ("taf_hub|open|--port|0", 2),
+    ("taf_hub|open|--port|65536", 2),
+    ("taf_hub|open|--port|7000|--sessions|0", 2),
+    ("taf_hub|open|--port|7000|--sessions|65", 2),
+    ("taf_hub|open|--port|7000|--workers|0", 2),
+    ("taf_hub|open|--port|7000|--workers|9", 2),
+    (
+        "taf_hub|open|--port|7000|--workers|1|--journal|hub.journal",
+        2,
+    ),
+    ("taf_hub|open|--port|7000|--keys", 2),
+    (
+        "taf_hub|serve|--port|7000|--sessions|3|--keys|railways.keys",
+        2,
+    ),
+    ("taf_hub|open|--port|7000|--hello-seconds|0", 2),
+    ("taf_hub|open|--port|7000|--hello-seconds|86401", 2),
+    ("taf_hub|open|--port|7000|--silence-seconds|0", 2),
+    ("taf_hub|open|--port|7000|--write-seconds|0", 2),
+    ("taf_hub|open|--port|7000|--grace-seconds|86401", 2),
+    ("taf_hub|open|--port|7000|--grace-seconds|-1", 2),
 ];
 
 #[test]
@@ -151,7 +179,7 @@ fn other_arguments_are_explained(rt: HostRuntime) -> Result<(), Fail> {
 }
 
 // The arguments that ask for help, and the last lines of what is printed.
-static ENDS: [(&str, &str); 5] = [
+static ENDS: [(&str, &str); 6] = [
     (
         "taf_hub|--help",
         "\n  8  the journal is in use, damaged or of another program\n",
@@ -171,6 +199,10 @@ static ENDS: [(&str, &str); 5] = [
     (
         "taf_hub|serve|--help",
         "\n  taf_hub serve --port 7000 --sessions 3 --journal hub.journal\n\nStatuses: 0, 2, 3, 4, 5, 6, 7, 8\n",
+    ),
+    (
+        "taf_hub|open|--help",
+        "\n  taf_hub open --port 7000 --keys railways.keys\n\nStatuses: 0, 2, 3, 4, 5, 6, 7, 8\n",
     ),
 ];
 

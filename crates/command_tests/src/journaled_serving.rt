@@ -4,9 +4,9 @@ use crate::journals::path_of;
 use crate::serving::{FIRST_HELLO, PRINTED, SECOND_HELLO, said_to};
 use std::alloc::Global;
 use std::fs::File;
-use std::net::{Ipv4Addr, Net, OpenListener, SocketAddr, TcpListener};
+use std::net::{Ipv4Addr, Net, OpenListener, SocketAddr, TcpListener, TcpStream};
 use std::random::RandomSource;
-use std::rt::Files;
+use std::rt::{Clock, Files};
 use std::sync::Wait;
 use std::test::*;
 use std::thread::Threads;
@@ -14,12 +14,17 @@ use std::{fs, io, thread};
 use test_scripts::Script;
 
 // An address of this machine on which nobody listens.
-fn free_address<R: Net>(rt: &R) -> io::Result<SocketAddr> {
+pub(crate) fn free_address<R: Net>(rt: &R) -> io::Result<SocketAddr> {
     TcpListener::bind(rt, (Ipv4Addr::LOCALHOST, 0))?.local_addr()
 }
 
 // Whether the railway that sends the lines of a script, as soon as somebody listens, is said those that are wanted, each byte.
-fn is_answered_there<R: Net>(rt: &R, alloc: Global, address: SocketAddr, script: &Script) -> bool {
+pub(crate) fn is_answered_there<R: Net>(
+    rt: &R,
+    alloc: Global,
+    address: SocketAddr,
+    script: &Script,
+) -> bool {
     for _ in 0..1_000_000 {
         if let Ok(said) = said_to(rt, alloc, address, script.input.as_slice()) {
             return said.as_slice() == script.wanted.as_slice();
@@ -32,9 +37,14 @@ fn is_answered_there<R: Net>(rt: &R, alloc: Global, address: SocketAddr, script:
 // Serves so many sessions at this address with the journal of this path.
 fn serve_at<H>(rt: &H, address: SocketAddr, sessions: usize, path: &str) -> Result<Ended, Fail>
 where
-    H: Files<File = File> + Net + Threads + Wait + Sync + RandomSource + AllocGlobal,
-    H::Stream: Send,
-    H::Listener: Send,
+    H: Files<File = File>
+        + Net<Listener = TcpListener, Stream = TcpStream>
+        + Threads
+        + Wait
+        + Clock
+        + Sync
+        + RandomSource
+        + AllocGlobal,
 {
     let port = address.port();
     let words = format!(in rt.alloc();
@@ -46,9 +56,14 @@ where
 // The replies and the report are those of a shift without a journal.
 fn serves_two<H>(rt: &H, path: &str) -> Result<bool, Fail>
 where
-    H: Files<File = File> + Net + Threads + Wait + Sync + RandomSource + AllocGlobal,
-    H::Stream: Send,
-    H::Listener: Send,
+    H: Files<File = File>
+        + Net<Listener = TcpListener, Stream = TcpStream>
+        + Threads
+        + Wait
+        + Clock
+        + Sync
+        + RandomSource
+        + AllocGlobal,
 {
     let alloc = rt.alloc();
     let first = Script::of(alloc, &[FIRST_HELLO, test_scripts::FIRST])?;
@@ -81,20 +96,20 @@ fn two_railways_are_served_with_a_journal(rt: HostRuntime) -> Result<(), Fail> {
     Ok(())
 }
 
-const PLAN: &str =
+pub(crate) const PLAN: &str =
     r#"{"kind":"plan","from":"R100","no":1,"consignment":"C-1","load":"loaded","commit":"2025-03-01T15:30Z","wagons":["218124712173"],"legs":[{"ru":"R101","origin":"DE00001","target":"AT00002","minutes":300}]}
 > {"no":1,"reply":"accepted"}"#;
 
-const EARLY_RELEASE: &str =
+pub(crate) const EARLY_RELEASE: &str =
     r#"{"at":"2025-03-01T05:30Z","from":"R100","kind":"release","no":2,"wagon":"218124712173"}
 > {"no":2,"reply":"refused","wagon":"218124712173","why":"unknown_wagon"}"#;
 
-const RELEASE: &str =
+pub(crate) const RELEASE: &str =
     r#"{"at":"2025-03-01T05:30Z","from":"R100","kind":"release","no":3,"wagon":"218124712173"}
 > {"no":3,"reply":"accepted"}"#;
 
 // The lines of two shifts of one railway, how many calls the journal has before each, and how the report of each begins.
-static SHIFTS: [(&[&str], &str, &[u8]); 2] = [
+pub(crate) static SHIFTS: [(&[&str], &str, &[u8]); 2] = [
     (
         &[FIRST_HELLO, EARLY_RELEASE, PLAN],
         ": 0 calls\n",
@@ -110,9 +125,14 @@ static SHIFTS: [(&[&str], &str, &[u8]); 2] = [
 // Whether each of these shifts, one after another, gives its railway the replies that are wanted.
 fn serves_in_turn<H>(rt: &H, path: &str) -> Result<bool, Fail>
 where
-    H: Files<File = File> + Net + Threads + Wait + Sync + RandomSource + AllocGlobal,
-    H::Stream: Send,
-    H::Listener: Send,
+    H: Files<File = File>
+        + Net<Listener = TcpListener, Stream = TcpStream>
+        + Threads
+        + Wait
+        + Clock
+        + Sync
+        + RandomSource
+        + AllocGlobal,
 {
     let alloc = rt.alloc();
     for (lines, before, report) in &SHIFTS {

@@ -4,9 +4,9 @@ use crate::commands::{Ended, arguments, end_of};
 use hub_commands::perform;
 use std::alloc::{AllocError, Global};
 use std::fs::File;
-use std::net::Net;
+use std::net::{Net, TcpListener, TcpStream};
 use std::random::RandomSource;
-use std::rt::Files;
+use std::rt::{Clock, Files};
 use std::sync::Wait;
 use std::test::Fail;
 use std::thread::Threads;
@@ -202,9 +202,14 @@ fn has_bytes(rt: &(impl Files + AllocGlobal), path: &str, bytes: &str) -> bool {
 // Does what the words and the path name.
 fn end_at<H>(rt: &H, words: &str, path: &str, input: &str) -> Result<Ended, Fail>
 where
-    H: Files<File = File> + Net + Threads + Wait + Sync + RandomSource + AllocGlobal,
-    H::Stream: Send,
-    H::Listener: Send,
+    H: Files<File = File>
+        + Net<Listener = TcpListener, Stream = TcpStream>
+        + Threads
+        + Wait
+        + Clock
+        + Sync
+        + RandomSource
+        + AllocGlobal,
 {
     let line = joined(rt.alloc(), &[words, path])?;
     end_of(rt, line.as_str(), input)
@@ -224,9 +229,14 @@ fn ends_as(alloc: Global, ended: &Ended, case: &Case, path: &str) -> Result<bool
 // Whether a command does with the file of this path what the case says.
 fn does<H>(rt: &H, case: &Case, path: &str, copy: &str) -> Result<bool, Fail>
 where
-    H: Files<File = File> + Net + Threads + Wait + Sync + RandomSource + AllocGlobal,
-    H::Stream: Send,
-    H::Listener: Send,
+    H: Files<File = File>
+        + Net<Listener = TcpListener, Stream = TcpStream>
+        + Threads
+        + Wait
+        + Clock
+        + Sync
+        + RandomSource
+        + AllocGlobal,
 {
     let alloc = rt.alloc();
     if !case.before.is_empty() {
@@ -311,9 +321,14 @@ static BUSY: Case = Case {
 // Has a journal of two calls, which this process keeps open, opened again and checked.
 fn is_busy<H>(rt: &H, path: &str) -> Result<bool, Fail>
 where
-    H: Files<File = File> + Net + Threads + Wait + Sync + RandomSource + AllocGlobal,
-    H::Stream: Send,
-    H::Listener: Send,
+    H: Files<File = File>
+        + Net<Listener = TcpListener, Stream = TcpStream>
+        + Threads
+        + Wait
+        + Clock
+        + Sync
+        + RandomSource
+        + AllocGlobal,
 {
     let input = joined(rt.alloc(), &[RELEASE, FETCH])?;
     let first = end_at(rt, REPLAY, path, input.as_str())?;
@@ -339,9 +354,14 @@ fn a_journal_in_use_is_busy(rt: HostRuntime) -> Result<(), Fail> {
 // Has two calls answered on an output with room for four bytes.
 fn is_kept<H>(rt: &H, path: &str) -> Result<bool, Fail>
 where
-    H: Files<File = File> + Net + Threads + Wait + Sync + RandomSource + AllocGlobal,
-    H::Stream: Send,
-    H::Listener: Send,
+    H: Files<File = File>
+        + Net<Listener = TcpListener, Stream = TcpStream>
+        + Threads
+        + Wait
+        + Clock
+        + Sync
+        + RandomSource
+        + AllocGlobal,
 {
     let line = joined(rt.alloc(), &[REPLAY, path])?;
     let arguments = arguments(rt.alloc(), line.as_str())?;

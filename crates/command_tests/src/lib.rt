@@ -5,6 +5,7 @@
 //! | `commands` | the commands of `taf_hub`: their texts, their faults and their statuses |
 //! | `journals` | `replay` with a journal, and `check`, on files of the system |
 //! | `journaled_serving` | shifts with a journal over loopback, and one that goes on with the journal of another |
+//! | `service` | services over loopback, of a railway that breaks off and comes back, with a journal and without, and of railways with keys |
 //! | `serving` | shifts over loopback, of railways that come together or one after another, and a port that is taken |
 //! | `reported` | the lines of faults, and of sessions that could not be served to their end |
 //! | `measurements` | the arguments of `bench`, and how many lines each benchmark prints |
@@ -22,5 +23,7 @@ mod journals;
 mod measurements;
 #[cfg(test)]
 mod reported;
+#[cfg(test)]
+mod service;
 #[cfg(test)]
 mod serving;

@@ -5,7 +5,7 @@ use session_serving::SessionFault;
 use std::test::Fail;
 
 // Each fault with its status and its line.
-static FAULTS: [(Fault, u8, &str); 13] = [
+static FAULTS: [(Fault, u8, &str); 15] = [
     (Fault::NotTwelveDigits, 1, "fault 1: not twelve digits\n"),
     (Fault::BadCheckDigit, 1, "fault 2: bad check digit\n"),
     (Fault::Arguments, 2, "fault: words\n"),
@@ -19,6 +19,8 @@ static FAULTS: [(Fault, u8, &str); 13] = [
     (Fault::JournalFile, 7, "fault: journal file\n"),
     (Fault::JournalBusy, 8, "fault: journal busy\n"),
     (Fault::JournalRefused, 8, "fault: journal refused\n"),
+    (Fault::KeysFile, 3, "fault: keys file\n"),
+    (Fault::KeysRefused, 2, "fault: keys refused\n"),
 ];
 
 #[test]

@@ -18,12 +18,15 @@
 //! | `acceptor` | the listener, and how many connections are still to come |
 //! | `connections` | connections accepted by their readers, and their two ends |
 //! | `guard` | the guard against requests of HTTP |
+//! | `incoming` | what brings connections to a connection handler |
 #![tactic(auto)]
 
 mod acceptor;
 mod connections;
 mod guard;
+mod incoming;
 
 pub use acceptor::Acceptor;
 pub use connections::{ConnectionReader, ConnectionWriter, Ends, ends_of};
 pub use guard::RequestGuard;
+pub use incoming::Connections;

@@ -1,8 +1,12 @@
 ghost use Rattle.std.specs.Prelude.{◌≡◌};
 ghost use Rattle.hub_faults.specs.Statuses.{status_of};
 
+use crate::journaled_open::JournaledOpen;
 use crate::journaled_serve::JournaledServe;
-use crate::{check, journaled_replay, journaled_serve, number, replay, serve};
+use crate::open::KeyedOpen;
+use crate::{
+    check, journaled_open, journaled_replay, journaled_serve, number, open, replay, serve,
+};
 use clap::Error;
 use clap::error::ErrorKind;
 use hub_faults::Fault;
@@ -10,50 +14,92 @@ use hub_tasks::{Task, task_of};
 use shift_size::ShiftSize;
 use std::fs::File;
 use std::io::{Read, Write};
-use std::net::{Net, OpenListener, OpenStream};
+use std::net::{Net, OpenListener, OpenStream, TcpListener, TcpStream};
 use std::random::RandomSource;
-use std::rt::Files;
+use std::rt::{Clock, Files};
 use std::sync::Wait;
 use std::thread::Threads;
 
 /// Does what the arguments name, the program's name first, and gives the status.
 pub fn perform<H, R, W, E>(rt: &H, arguments: &[String], input: R, output: W, errors: &mut E) -> u8
 where
-    H: Files<File = File> + Net + Threads + Wait + Sync + RandomSource + AllocGlobal,
-    H::Stream: Send,
-    H::Listener: Send,
+    H: Files<File = File>
+        + Net<Listener = TcpListener, Stream = TcpStream>
+        + Threads
+        + Wait
+        + Clock
+        + Sync
+        + RandomSource
+        + AllocGlobal,
     R: Read + Drop,
     W: Write + Drop,
     E: Write,
 {
     let done = match task_of(rt.alloc(), arguments) {
-        Ok(Task::Replay { journal: None }) => replay::perform(rt, rt.alloc(), input, output),
-        Ok(
-            Task::Replay {
-                journal: Some(path),
-            },
-        ) => journaled_replay::perform(rt, path, input, output, errors),
-        Ok(Task::Check(path)) => check::perform(rt, path, output, errors),
-        Ok(Task::Number(text)) => number::perform(output, text),
-        Ok(
-            Task::Serve {
-                port,
-                size,
-                journal: None,
-            },
-        ) => serve::perform(rt, port, size, output, errors),
-        Ok(
-            Task::Serve {
-                port,
-                size,
-                journal: Some(path),
-            },
-        ) => journaled_serve::perform(rt, JournaledServe { port, size, path }, output, errors),
+        Ok(task) => perform_task(rt, task, input, output, errors),
         Err(error) => explain(&error, output, errors),
     };
     match done {
         Ok(status) => status,
         Err(fault) => report_fault(fault, errors),
+    }
+}
+
+// Does what a task is, and gives the status.
+fn perform_task<H, R, W, E>(
+    rt: &H,
+    task: Task<'_>,
+    input: R,
+    output: W,
+    errors: &mut E,
+) -> Result<u8, Fault>
+where
+    H: Files<File = File>
+        + Net<Listener = TcpListener, Stream = TcpStream>
+        + Threads
+        + Wait
+        + Clock
+        + Sync
+        + RandomSource
+        + AllocGlobal,
+    R: Read + Drop,
+    W: Write + Drop,
+    E: Write,
+{
+    match task {
+        Task::Replay { journal: None } => replay::perform(rt, rt.alloc(), input, output),
+        Task::Replay {
+            journal: Some(path),
+        } => journaled_replay::perform(rt, path, input, output, errors),
+        Task::Check(path) => check::perform(rt, path, output, errors),
+        Task::Number(text) => number::perform(output, text),
+        Task::Serve {
+            port,
+            size,
+            journal: None,
+        } => serve::perform(rt, port, size, output, errors),
+        Task::Serve {
+            port,
+            size,
+            journal: Some(path),
+        } => journaled_serve::perform(rt, JournaledServe { port, size, path }, output, errors),
+        Task::Open {
+            service,
+            journal: None,
+            keys,
+        } => open::perform(rt, KeyedOpen { service, keys }, input, output, errors),
+        Task::Open {
+            service,
+            journal: Some(path),
+            keys,
+        } => {
+            let journaled = JournaledOpen {
+                service,
+                path,
+                keys,
+            };
+            journaled_open::perform(rt, journaled, input, output, errors)
+        }
     }
 }
 

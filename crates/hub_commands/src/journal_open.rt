@@ -3,8 +3,10 @@ ghost use Rattle.std.specs.Prelude.{IfOk};
 ghost use Rattle.journaled_hub.specs.JournaledHubs.{IsOnDisk};
 
 use crate::journal_file::{may_be_journal, report_file, report_foreign};
+use crate::serve::explained;
 use disk_file::{DiskFile, keep_end};
 use hub_faults::Fault;
+use hub_server::ServerFault;
 use journal::Failed;
 use journaled_hub::{JournaledHub, OpenFault, RecoveredHub};
 use seeded_state::SeededState;
@@ -93,4 +95,18 @@ fn report_journal<E: Write>(path: &str, calls: usize, torn: &Option<TornEnd>, er
             "{path}: {calls} calls; a torn end of {len} bytes was cut off, and is kept in {copy}\n"
         )),
     };
+}
+
+/// The fault of the command, once it is told of a call of the journal's file that failed, or in which respect a shift or a service did
+/// not settle.
+pub(crate) fn explained_with_journal<E: Write>(
+    path: &str,
+    fault: ServerFault,
+    what: &str,
+    errors: &mut E,
+) -> Fault {
+    if let ServerFault::Journal = fault {
+        report_file(path, &fault, errors);
+    }
+    explained(fault, what, errors)
 }

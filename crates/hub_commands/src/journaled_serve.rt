@@ -1,9 +1,8 @@
 //! `serve` with a journal.
-use crate::journal_file::report_file;
-use crate::journal_open::open;
-use crate::serve::{explained, listen, print_settled};
+use crate::journal_open::{explained_with_journal, open};
+use crate::serve::{listen, print_shift};
 use hub_faults::Fault;
-use hub_server::{ServerFault, SettledJournaledShift, serve_journaled_connections};
+use hub_server::{SettledJournaledShift, serve_journaled_connections};
 use shift_size::ShiftSize;
 use std::fs::File;
 use std::io::Write;
@@ -45,12 +44,8 @@ where
         Ok(SettledJournaledShift { settled, journal }) => {
             // Another process may go on with it from here.
             drop(journal);
-            print_settled(rt, settled, output, errors)
+            print_shift(rt, settled, output, errors)
         }
-        Err(ServerFault::Journal) => {
-            report_file(path, &ServerFault::Journal, errors);
-            Err(Fault::JournalFile)
-        }
-        Err(fault) => Err(explained(fault, errors)),
+        Err(fault) => Err(explained_with_journal(path, fault, "shift", errors)),
     }
 }

@@ -7,13 +7,15 @@
 //! | `taf_hub check JOURNAL` | prints how many calls the journal has, and how many bytes its torn end | 0; 3 writing failed; 4 memory was refused; 7 the file could not be read; 8 the journal was refused |
 //! | `taf_hub serve --port P --sessions N [--workers K]` | serves N railways on connections of their own by K workers, and prints how many calls settled and the report of all wagons | 0; 3 writing failed; 4 memory was refused; 5 a socket or a thread could not be had; 6 the shift did not settle |
 //! | `taf_hub serve --port P --sessions N --journal FILE` | the same on the hub of the calls that the journal has, by one worker; each further call is in the journal, on the disk, before it is answered | also 7 a call of the journal's file failed; 8 the journal is busy or was refused |
+//! | `taf_hub open --port P [--sessions N] [--workers K] [--keys FILE] [TIMES]` | serves whoever connects, N sessions at a time, by K workers, until its input ends, and prints how many calls settled and the report of all wagons; with keys only railways with theirs | as `serve`, and 2 the keys were refused |
+//! | `taf_hub open --port P [--sessions N] --journal FILE [--keys FILE] [TIMES]` | the same on the hub of the calls that the journal has, by one worker; each further call is in the journal, on the disk, before it is answered | as `serve` with a journal, and 2 the keys were refused |
 //! | `taf_hub number TEXT` | prints the vehicle number that TEXT shows in the marked form | 0; 1 TEXT shows none; 3 writing failed; 4 memory was refused |
 //!
-//! [`arguments`] gives the arguments of the command line, and [`perform`] does what they name, as `hub_tasks` reads them.
-//! [`serve_on`] is `serve` on a listener; a session that could not be served to its end is a line among the errors
+//! TIMES say how long anything may take. [`arguments`] gives the arguments of the command line, and [`perform`] does what they name, as
+//! `hub_tasks` reads them. [`serve_on`] is `serve` on a listener; a session that could not be served to its end is a line among the errors
 //! ([`report_end`]). `--help` prints clap's help, which ends with an example and the statuses, and `--version` the version, both
 //! with status 0. Arguments that name no command end with status 2 and clap's text among the errors. A [`Fault`] is one line there,
-//! by [`report_fault`], which gives its status; where a journal is not taken, the line before says why, behind the file's path.
+//! by [`report_fault`], which gives its status; where a journal or a file of keys is not taken, the line before says why, behind the file's path.
 //! Where the arguments cannot be read, the status is 4 if memory was refused and else 2.
 #![tactic(auto)]
 
@@ -22,9 +24,12 @@ mod command_line;
 mod commands;
 mod journal_file;
 mod journal_open;
+mod journaled_open;
 mod journaled_replay;
 mod journaled_serve;
+mod keys;
 mod number;
+mod open;
 mod print;
 mod replay;
 mod serve;

@@ -13,6 +13,21 @@ pub(crate) fn gathering<W: Write + Drop>(alloc: Global, output: W) -> Result<Buf
     }
 }
 
+/// Prints `settled C`, with the number of calls, and the lines of the report.
+pub(crate) fn print_settled<W: Write + Drop>(
+    alloc: Global,
+    calls: u64,
+    lines: &[String],
+    output: W,
+) -> Result<u8, Fault> {
+    let mut output = gathering(alloc, output)?;
+    let Ok(()) = output.write_fmt(format_args!("settled {calls}\n")) else {
+        return Err(Fault::Write);
+    };
+    print(&mut output, lines)?;
+    Ok(0)
+}
+
 /// Prints lines, and sends them on.
 pub(crate) fn print<W: Write>(output: &mut W, lines: &[String]) -> Result<(), Fault> {
     for line in lines {

@@ -1,4 +1,4 @@
-use crate::print::{gathering, print};
+use crate::print::print_settled;
 use hub_faults::Fault;
 use hub_server::{ServerFault, SessionEnd, SettledShift, serve_connections};
 use shift_size::ShiftSize;
@@ -29,6 +29,14 @@ where
     serve(rt, listener, size, output, errors)
 }
 
+/// Listens on the port of this machine alone.
+pub(crate) fn bind<R: Net>(rt: &R, port: u16) -> Result<R::Listener, Fault> {
+    match TcpListener::bind(rt, (Ipv4Addr::LOCALHOST, port)) {
+        Ok(listener) => Ok(listener),
+        Err(_) => Err(Fault::Socket),
+    }
+}
+
 /// Listens on the port of this machine alone, and reports among the errors where that is.
 pub(crate) fn listen<R: Net, E: Write>(
     rt: &R,
@@ -36,9 +44,7 @@ pub(crate) fn listen<R: Net, E: Write>(
     size: ShiftSize,
     errors: &mut E,
 ) -> Result<R::Listener, Fault> {
-    let Ok(listener) = TcpListener::bind(rt, (Ipv4Addr::LOCALHOST, port)) else {
-        return Err(Fault::Socket);
-    };
+    let listener = bind(rt, port)?;
     let sessions = size.sessions();
     // Where standard error fails, nobody is told where the shift listens; it is served all the same.
     let _ = errors.write_fmt(format_args!("listening on 127.0.0.1:{port}, {sessions} sessions\n"));
@@ -63,13 +69,13 @@ where
     E: Write,
 {
     match serve_connections(rt, rt.alloc(), listener, size) {
-        Ok(settled) => print_settled(rt, settled, output, errors),
-        Err(fault) => Err(explained(fault, errors)),
+        Ok(settled) => print_shift(rt, settled, output, errors),
+        Err(fault) => Err(explained(fault, "shift", errors)),
     }
 }
 
 /// Prints what a shift came to: each session that could not be served to its end among the errors, and `settled C` and the report.
-pub(crate) fn print_settled<R, W, E>(
+pub(crate) fn print_shift<R, W, E>(
     rt: &R,
     settled: SettledShift,
     output: W,
@@ -80,27 +86,20 @@ where
     W: Write + Drop,
     E: Write,
 {
-    let alloc = rt.alloc();
     let SettledShift { shift, calls } = settled;
     for (session, end) in shift.ends.iter().enumerate() {
         report_end(session, *end, errors);
     }
-    let lines = hub_lines(rt, alloc, &shift.hub);
+    let lines = hub_lines(rt, rt.alloc(), &shift.hub);
     // The program ends here. To give back the memory of each call would take as long as many calls.
     forget(shift);
-    let lines = lines?;
-    let mut output = gathering(alloc, output)?;
-    let Ok(()) = output.write_fmt(format_args!("settled {calls}\n")) else {
-        return Err(Fault::Write);
-    };
-    print(&mut output, &lines)?;
-    Ok(0)
+    print_settled(rt.alloc(), calls, &lines?, output)
 }
 
-/// The fault of the command, once it is told in which respect a shift did not settle.
-pub(crate) fn explained<E: Write>(fault: ServerFault, errors: &mut E) -> Fault {
-    if let ServerFault::NotSettled(_) = fault {
-        let _ = errors.write_fmt(format_args!("{fault}\n"));
+/// The fault of the command, once it is told in which respect a shift or a service did not settle.
+pub(crate) fn explained<E: Write>(fault: ServerFault, what: &str, errors: &mut E) -> Fault {
+    if let ServerFault::NotSettled(why) = fault {
+        let _ = errors.write_fmt(format_args!("the {what} did not settle: {why}\n"));
     }
     Fault::from(fault)
 }

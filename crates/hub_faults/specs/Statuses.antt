@@ -6,19 +6,21 @@ use Rattle.wagon_number.specs.declared.fault.NumberFault.{NumberFault}
 use Rattle.wagon_number.specs.declared.fault.NumberFault.TheVariants as of_number
 use Rattle.hub_replay.specs.declared.fault.RunFault.{RunFault}
 use Rattle.hub_replay.specs.declared.fault.RunFault.TheVariants as of_run
-use Rattle.hub_server.specs.declared.fault.ServerFault.{ServerFault}
-use Rattle.hub_server.specs.declared.fault.ServerFault.TheVariants as of_server
+use Rattle.server_faults.specs.declared.fault.ServerFault.{ServerFault}
+use Rattle.server_faults.specs.declared.fault.ServerFault.TheVariants as of_server
 use Rattle.disk_file.specs.declared.fault.OpenFault.{OpenFault as FileFault}
 use Rattle.disk_file.specs.declared.fault.OpenFault.TheVariants as of_file
 use Rattle.journaled_hub.specs.declared.fault.OpenFault.{OpenFault}
 use Rattle.journaled_hub.specs.declared.fault.OpenFault.TheVariants as of_journal
 use Rattle.journaled_hub.specs.declared.fault.JournaledRunFault.{JournaledRunFault}
 use Rattle.journaled_hub.specs.declared.fault.JournaledRunFault.TheVariants as of_journaled
+use Rattle.railway_keys.specs.declared.fault.KeyFileFault.{KeyFileFault}
+use Rattle.railway_keys.specs.declared.fault.KeyFileFault.TheVariants as of_keys
 use Rattle.hub_faults.specs.declared.fault.Fault.{Fault}
-use Rattle.hub_faults.specs.declared.fault.Fault.TheVariants.{Arguments, NotTwelveDigits, BadCheckDigit, Read, Write, NoEnd, Memory, Socket, Thread, NotSettled, JournalFile, JournalBusy, JournalRefused}
+use Rattle.hub_faults.specs.declared.fault.Fault.TheVariants.{Arguments, NotTwelveDigits, BadCheckDigit, Read, Write, NoEnd, Memory, Socket, Thread, NotSettled, JournalFile, JournalBusy, JournalRefused, KeysFile, KeysRefused}
 
--- 1: the text is refused; 2: no arguments; 3: a stream failed or has no end; 4: memory was refused; 5: no socket or no thread; 6: a
--- shift did not settle; 7: a call of the journal's file failed; 8: the journal is busy or was refused
+-- 1: the text is refused; 2: no arguments, or the keys are refused; 3: a stream failed or has no end; 4: memory was refused; 5: no socket or no thread; 6: the
+-- calls did not settle; 7: a call of the journal's file failed; 8: the journal is busy or was refused
 abbrev pub status_of : Fault → ℕ
 status_of Arguments = 2
 status_of NotTwelveDigits = 1
@@ -33,6 +35,8 @@ status_of NotSettled = 6
 status_of JournalFile = 7
 status_of JournalBusy = 8
 status_of JournalRefused = 8
+status_of KeysFile = 3
+status_of KeysRefused = 2
 
 -- why the arguments of the command line were not read
 abbrev pub fault_of_arguments : ErrorKind → Fault
@@ -74,3 +78,8 @@ fault_of_journal of_journal.Full = JournalRefused
 abbrev pub fault_of_journaled_run : JournaledRunFault → Fault
 fault_of_journaled_run (of_journaled.Run run) = fault_of_run run
 fault_of_journaled_run of_journaled.Journal = JournalFile
+
+-- why the keys were not taken
+abbrev pub fault_of_keys : KeyFileFault → Fault
+fault_of_keys (of_keys.Line number why) = KeysRefused
+fault_of_keys of_keys.Memory = Memory

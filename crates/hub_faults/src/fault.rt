@@ -1,12 +1,13 @@
 ghost use Rattle.std.specs.Prelude.{◌≡◌};
 ghost use Rattle.std.specs.IoError.{error_kind};
-ghost use Rattle.hub_faults.specs.Statuses.{status_of, fault_of_arguments, fault_of_number, fault_of_run, fault_of_server, fault_of_file, fault_of_journal, fault_of_journaled_run};
+ghost use Rattle.hub_faults.specs.Statuses.{status_of, fault_of_arguments, fault_of_number, fault_of_run, fault_of_server, fault_of_file, fault_of_journal, fault_of_journaled_run, fault_of_keys};
 ghost use Rattle.hub_faults.specs.declared.fault.Fault.TheVariants as faults;
 
 use disk_file::OpenFault as FileFault;
 use hub_replay::RunFault;
-use hub_server::ServerFault;
 use journaled_hub::{JournaledRunFault, OpenFault};
+use railway_keys::KeyFileFault;
+use server_faults::ServerFault;
 use std::alloc::AllocError;
 use std::io;
 use std::io::ErrorKind;
@@ -46,6 +47,12 @@ pub enum Fault {
     /// The journal's file is none, or has what no crash leaves.
     #[error("fault: journal refused")]
     JournalRefused,
+    /// The file of the keys could not be read.
+    #[error("fault: keys file")]
+    KeysFile,
+    /// The file of the keys has what is none.
+    #[error("fault: keys refused")]
+    KeysRefused,
 }
 
 impl Fault {
@@ -59,16 +66,16 @@ impl Fault {
         }
     }
 
-    /// The status that the program ends with: 1 for a text that is no number, 2 where the arguments could not be read, 3 where
-    /// reading or writing failed, 4 where memory was refused, 5 where a socket or a thread could not be had, 6 where a shift
-    /// did not settle, 7 where a call of the journal's file failed, 8 where the journal is busy or was refused.
+    /// The status that the program ends with: 1 for a text that is no number, 2 where the arguments could not be read or the keys were
+    /// refused, 3 where reading or writing failed, 4 where memory was refused, 5 where a socket or a thread could not be had, 6 where the
+    /// calls of a shift or a service did not settle, 7 where a call of the journal's file failed, 8 where the journal is busy or was refused.
     pub fn status(self) -> u8
         ensures { result ≡ status_of self }
     {
         match self {
             Fault::NotTwelveDigits | Fault::BadCheckDigit => 1,
-            Fault::Arguments => 2,
-            Fault::Read | Fault::Write | Fault::NoEnd => 3,
+            Fault::Arguments | Fault::KeysRefused => 2,
+            Fault::Read | Fault::Write | Fault::NoEnd | Fault::KeysFile => 3,
             Fault::Memory => 4,
             Fault::Socket | Fault::Thread => 5,
             Fault::NotSettled => 6,
@@ -163,6 +170,17 @@ impl From<JournaledRunFault> for Fault {
         match fault {
             JournaledRunFault::Run(fault) => Fault::from(fault),
             JournaledRunFault::Journal => Fault::JournalFile,
+        }
+    }
+}
+
+impl From<KeyFileFault> for Fault {
+    ghost from_gives = { λ keys fault. fault ≡ fault_of_keys keys };
+
+    fn from(fault: KeyFileFault) -> Fault {
+        match fault {
+            KeyFileFault::Line(..) => Fault::KeysRefused,
+            KeyFileFault::Memory => Fault::Memory,
         }
     }
 }

@@ -5,11 +5,11 @@
 //! | status | fault |
 //! |---|---|
 //! | 1 | a text that is no vehicle number |
-//! | 2 | arguments of the command line that cannot be read |
+//! | 2 | arguments of the command line that cannot be read; keys that were refused |
 //! | 3 | reading or writing failed, or no end came |
 //! | 4 | memory was refused |
 //! | 5 | a socket or a thread could not be had |
-//! | 6 | a shift did not settle |
+//! | 6 | the calls of a shift or a service did not settle |
 //! | 7 | a call of the journal's file failed |
 //! | 8 | the journal is busy, damaged, of another program, or has a wrong line |
 //!

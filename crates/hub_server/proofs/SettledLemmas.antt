@@ -11,9 +11,10 @@ use Rattle.hub_shifts.specs.declared.shift.ShiftFault.TheVariants as of_shift
 use Rattle.hub_shifts.specs.Shifts.{IsShift}
 use Rattle.hub_shifts.proofs.OrderLemmas.{lanes_in_order}
 use Rattle.hub_shifts.proofs.TellingLemmas.{in_order}
-use Rattle.hub_server.specs.declared.fault.ServerFault.{ServerFault}
-use Rattle.hub_server.specs.declared.fault.ServerFault.TheVariants.{NotSettled, Memory}
-use Rattle.hub_server.specs.Faults.{fault_of_shift, fault_of_settling}
+use Rattle.server_faults.specs.declared.fault.ServerFault.TheVariants.{NotSettled, Memory}
+use Rattle.server_faults.specs.Faults.{fault_of_settling}
+use Rattle.server_faults.proofs.FaultLemmas.{why_is}
+use Rattle.hub_server.specs.Faults.{fault_of_shift}
 use Rattle.hub_server.specs.Settled.{IsSettledShift, IsUnsettledShift}
 
 -- a shift of these sessions, whose tallies settled
@@ -31,20 +32,6 @@ settled streams_of ends given sessions workers calls s many same some shift told
       in_order = in_order (map streams_of ends) workers s of_workers told;
       lanes = lanes_in_order (map streams_of ends) workers s of_workers some;
     }
-
--- in which respect a shift did not settle
-why_of : ServerFault → SettleFault
-why_of (NotSettled why) = why
-why_of fault = of_settling.Memory
-
-why_is : (f why : SettleFault) → fault_of_settling f ≡ NotSettled why → f ≡ why
-unfolding why_of
-why_is of_settling.Memory why is = cc is
-why_is (of_settling.CountDiffers a b) why is = ap why_of is
-why_is (of_settling.Foreign a b) why is = ap why_of is
-why_is (of_settling.Earlier a b) why is = ap why_of is
-why_is (of_settling.Twice a) why is = ap why_of is
-why_is (of_settling.OutOfOrder a b) why is = ap why_of is
 
 -- a shift of these sessions, whose tallies did not settle
 pub unsettled : {A : Type 0} (streams_of : A → Streams) (ends : List A) (given sessions workers : ℕ) (s : Shift) (f why : SettleFault)

@@ -6,11 +6,12 @@ ghost use Rattle.journaled_hub.specs.JournaledHubs.{history_of, IsOnDisk};
 ghost use Rattle.hub_shared.specs.declared.settling.SettleFault.{SettleFault};
 ghost use Rattle.hub_server.specs.Settled.{IsSettledShift, IsUnsettledShift};
 
-use crate::fault::ServerFault;
+use crate::server::fault_of_shift;
 use connections::{Acceptor, ends_of};
 use hub_shifts::{JournaledShift, SettledShift, run_journaled_shift, settle_shift};
 use journal::{Journal, RawFile};
 use journaled_hub::JournaledHub;
+use server_faults::ServerFault;
 use shift_size::ShiftSize;
 use std::alloc::Global;
 use std::io::{Read, Write};
@@ -55,7 +56,10 @@ where
 {
     let acceptor = Acceptor::new(listener, size.sessions());
     let connections = ends_of(rt, alloc, &acceptor, size.sessions())?;
-    let JournaledShift { shift, journal } = run_journaled_shift(rt, alloc, connections, hub)?;
+    let JournaledShift { shift, journal } = match run_journaled_shift(rt, alloc, connections, hub) {
+        Ok(run) => run,
+        Err(fault) => return Err(fault_of_shift(fault)),
+    };
     if journal.has_failed() {
         return Err(ServerFault::Journal);
     }

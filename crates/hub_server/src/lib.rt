@@ -10,22 +10,20 @@
 //! Where it gives a shift, that is a shift of so many sessions and workers, and its history is told by the sessions' tallies.
 //! `specs/Settled.antt` says the rest of it: the history has the answers of each session's jobs and is an interleaving of what the
 //! sessions were told, and each lane has its sessions' jobs in order, as the laws of `hub_shifts` define both. Each fault has its
-//! kind ([`ServerFault`]); that the shift did not settle is answered only of one that did not. Nothing is promised of what a
+//! kind ([`ServerFault`], of `server_faults`); that the shift did not settle is answered only of one that did not. Nothing is promised of what a
 //! connection carries, nor that a client reads or sends. Where a shift with a journal is given, all calls of its history are in the
 //! journal, on the disk; that a call of the journal's file failed is answered only where one did.
 //!
 //! | part | what it has |
 //! |---|---|
-//! | `fault` | why there is no settled shift |
 //! | `server` | the shift over them, settled |
 //! | `journaled_server` | the same with a journal |
 #![tactic(auto)]
 
-mod fault;
 mod journaled_server;
 mod server;
 
-pub use fault::ServerFault;
 pub use hub_shifts::{SessionEnd, SettledShift};
 pub use journaled_server::{SettledJournaledShift, serve_journaled_connections};
 pub use server::serve_connections;
+pub use server_faults::ServerFault;

@@ -1,11 +1,12 @@
 //! A shift over the connections of a listener.
 ghost use Rattle.std.specs.Prelude.{◌≡◌, IfOk, IfErr};
 ghost use Rattle.hub_shared.specs.declared.settling.SettleFault.{SettleFault};
+ghost use Rattle.hub_server.specs.Faults.{fault_of_shift};
 ghost use Rattle.hub_server.specs.Settled.{IsSettledShift, IsUnsettledShift};
 
-use crate::fault::ServerFault;
 use connections::{Acceptor, ends_of};
-use hub_shifts::{OpenGate, SettledShift, run_shift, settle_shift};
+use hub_shifts::{OpenGate, SettledShift, ShiftFault, run_shift, settle_shift};
+use server_faults::ServerFault;
 use shift_size::ShiftSize;
 use std::alloc::Global;
 use std::io::{Read, Write};
@@ -37,7 +38,20 @@ where
 {
     let acceptor = Acceptor::new(listener, size.sessions());
     let connections = ends_of(rt, alloc, &acceptor, size.sessions())?;
-    let shift = run_shift(rt, alloc, &OpenGate, connections, size.workers())?;
+    let shift = match run_shift(rt, alloc, &OpenGate, connections, size.workers()) {
+        Ok(shift) => shift,
+        Err(fault) => return Err(fault_of_shift(fault)),
+    };
     let settled = settle_shift(alloc, shift)?;
     Ok(settled)
+}
+
+// Why a shift was not run.
+pub(crate) fn fault_of_shift(fault: ShiftFault) -> ServerFault
+    ensures { result ≡ fault_of_shift fault }
+{
+    match fault {
+        ShiftFault::Thread => ServerFault::Thread,
+        ShiftFault::Memory => ServerFault::Memory,
+    }
 }

@@ -1,7 +1,4 @@
 pub mod Common
-pub mod KeptLemmas
 pub mod OrderLemmas
+pub mod ShiftLemmas
 pub mod TellingLemmas
-pub mod ThreadLemmas
-pub mod OnlyLemmas
-pub mod JournaledLemmas

@@ -1,5 +1,4 @@
-pub mod Laws
-pub mod Room
-pub mod Shifts
-pub mod Starts
+pub mod Faults
 pub mod JournaledShifts
+pub mod Laws
+pub mod Shifts

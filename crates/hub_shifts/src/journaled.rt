@@ -1,23 +1,19 @@
 //! A whole shift with a journal.
-ghost use Rattle.std.specs.Prelude.{◌≡◌, ◌≤◌, ◌∷◌, [], map, vec_len, IfOk};
+ghost use Rattle.std.specs.Prelude.{◌≤◌, map, vec_len, IfOk};
 ghost use Rattle.session_lanes.specs.Ends.{streams_of};
 ghost use Rattle.journaled_hub.specs.JournaledHubs.{IsOnDisk};
-ghost use Rattle.journal_workers.specs.Work.{IsReady};
-ghost use Rattle.journal_workers.specs.declared.worker.JournalWorker.{JournalWorker};
 ghost use Rattle.hub_shifts.specs.JournaledShifts.{IsJournaledShift};
 
-use crate::lanes::{LanesEnd, LanesRun, ShiftPlaces, end_lanes, run_lanes};
-use crate::shift::{Shift, ShiftFault};
-use crate::threads::Back;
-use inbox::Pass;
+use crate::one_session::OneSession;
+use crate::shift::{Shift, ShiftFault, into_shift};
+use hub_serving::{ServedJournaledHub, serve_journaled_hub};
+use hub_threads::{Lent, NoKeeper};
 use journal::{Journal, RawFile};
-use journal_workers::JournalWorker;
 use journaled_hub::JournaledHub;
-use session_lanes::{LanePlaces, Outcomes, make_lane_places, with_room};
 use std::alloc::Global;
 use std::sync::Wait;
 use std::thread::Threads;
-use taf_codes::{Memory, Sink, Source};
+use taf_codes::{Sink, Source};
 
 /// What a shift with a journal leaves.
 #[derive(Drop)]
@@ -49,56 +45,16 @@ where
     ensures { IfOk result (λ s. IsJournaledShift
         (map (λ p. streams_of (S.remaining p.0) (K.contents p.1)) sessions.items) hub s) }
 {
-    let earlier = hub.len() as u64;
-    let LanePlaces {
-        lanes,
-        sessions,
-        passes,
-    } = make_lane_places(rt, alloc, sessions, 1)?;
-    let mut passes = passes;
-    let workers = one_worker(alloc, passes.take_last(), hub)?;
-    let places = ShiftPlaces {
-        lanes,
-        sessions,
-        workers,
+    let lent = Lent {
+        shared: &(),
+        kind: &OneSession,
+        keeper: &NoKeeper,
     };
-    let LanesRun { to_end, back } = run_lanes(rt, alloc, &(), places)?;
-    let Back { served, worked } = back;
-    let mut worked = worked;
-    let worker = worked.take_last();
-    let refused = worker.refused;
-    let (pass, hub) = worker.into_parts();
-    // The list has room for the pass that it had.
-    passes.push_reserved(pass);
-    let LanesEnd { outcomes, left } = end_lanes(rt, to_end, served, passes);
-    let Outcomes { ends, tallies } = outcomes;
-    let sum = hub.len() as u64 - earlier;
-    hub.history_is_legal();
-    let (hub, journal) = hub.into_parts();
-    let shift = Shift {
-        hub,
-        earlier,
-        sum,
-        refused,
-        ends,
-        tallies,
-        left,
-    };
-    Ok(JournaledShift { shift, journal })
-}
-
-// A list of one worker, which has this pass and this hub.
-fn one_worker<F: RawFile + Drop>(
-    alloc: Global,
-    pass: Pass,
-    hub: JournaledHub<F>,
-) -> Result<Vec<JournalWorker<F>>, Memory>
-    requires on_disk { IsOnDisk hub }
-    ensures { IfOk result (λ v. (worker : JournalWorker F) × (v.items ≡ worker ∷ [])
-        × IsReady worker × (worker.pass ≡ pass) × (worker.hub ≡ hub) × (worker.refused ≡ 0)) }
-{
-    let mut workers = with_room(alloc, 1)?;
-    let worker = JournalWorker::new(alloc, pass, hub)?;
-    workers.push_reserved(worker);
-    Ok(workers)
+    let ServedJournaledHub { served, journal } = serve_journaled_hub(
+        rt, alloc, lent, sessions, hub,
+    )?;
+    Ok(JournaledShift {
+        shift: into_shift(served),
+        journal,
+    })
 }

@@ -16,8 +16,7 @@
 //!
 //! | part | what it has |
 //! |---|---|
-//! | `promises` | what the threads promise |
-//! | `threads`, `lanes` | the threads of a shift, and its lanes |
+//! | `one_session` | what the threads do that serve |
 //! | `shift` | the shift |
 //! | `journaled` | the shift with a journal |
 //! | `settled` | a shift whose tallies tell its history |
@@ -25,12 +24,10 @@
 #![tactic(auto)]
 
 mod journaled;
-mod lanes;
 mod law;
-mod promises;
+mod one_session;
 mod settled;
 mod shift;
-mod threads;
 
 pub use hub_workers::{Gate, OpenGate};
 pub use journaled::{JournaledShift, run_journaled_shift};

@@ -9,7 +9,7 @@ pub(crate) static PROGRAM: &str = "Example:
 Statuses:
   0  all was done; refused messages and fault lines are answers
   1  TEXT is no vehicle number
-  2  the arguments name no command, or cannot be read
+  2  the arguments name no command, or cannot be read; or the keys were refused
   3  reading or writing failed, or the input has no end
   4  memory was refused
   5  a port, a connection or a thread could not be had
@@ -36,5 +36,12 @@ Statuses: 0, 1, 2, 3, 4";
 pub(crate) static SERVE: &str = "Example:
   taf_hub serve --port 7000 --sessions 3
   taf_hub serve --port 7000 --sessions 3 --journal hub.journal
+
+Statuses: 0, 2, 3, 4, 5, 6, 7, 8";
+
+pub(crate) static OPEN: &str = "Example:
+  taf_hub open --port 7000
+  taf_hub open --port 7000 --journal hub.journal --silence-seconds 3600
+  taf_hub open --port 7000 --keys railways.keys
 
 Statuses: 0, 2, 3, 4, 5, 6, 7, 8";

@@ -1,11 +1,15 @@
-ghost use Rattle.std.specs.Prelude.{◌≡◌, if◌then◌else◌, is_some, IfOk, IfSome};
+ghost use Rattle.std.specs.Prelude.{◌≡◌, ◌<◌, if◌then◌else◌, is_some, IfOk, IfSome};
+ghost use Rattle.std.specs.Duration.{as_nanos};
 ghost use Rattle.hub_tasks.specs.Tasks.{IsWithinLimits};
 
-use crate::help;
+use crate::commands::command;
+use crate::service::ServiceOptions;
+use accept_queue::Limits;
 use clap::error::ErrorKind;
-use clap::{Arg, ArgAction, ArgMatches, Command, Error, value_parser};
+use clap::{ArgMatches, Command, Error};
 use shift_size::ShiftSize;
-use std::alloc::{AllocError, Global};
+use std::alloc::Global;
+use std::time::Duration;
 
 /// What the program is to do.
 #[derive(Clone, Copy, Debug, PartialEq, Eq)]
@@ -23,97 +27,13 @@ pub enum Task<'a> {
         size: ShiftSize,
         journal: Option<&'a str>,
     },
-}
-
-fn replay<'a>(alloc: Global) -> Result<Command<'a>, AllocError> {
-    let journal = option(
-        alloc,
-        "journal",
-        "FILE",
-        "The journal: begins with its calls, and keeps each further one",
-    );
-    Command::new(alloc, "replay")
-        .about("Answers the records of standard input, one line for each, on a new hub")
-        .after_help(help::REPLAY)
-        .arg(journal)
-}
-
-fn check<'a>(alloc: Global) -> Result<Command<'a>, AllocError> {
-    let journal = Arg::new(alloc, "JOURNAL")
-        .required(true)
-        .action(ArgAction::Set)
-        .help("The file of the journal");
-    Command::new(alloc, "check")
-        .about("Reads a journal, and prints how many calls it has")
-        .after_help(help::CHECK)
-        .arg(journal)
-}
-
-fn number<'a>(alloc: Global) -> Result<Command<'a>, AllocError> {
-    let text = Arg::new(alloc, "TEXT")
-        .required(true)
-        .action(ArgAction::Set)
-        .help("Twelve digits, or the marked form as 21 81 2471 217-3");
-    Command::new(alloc, "number")
-        .about("Prints the vehicle number of a wagon in the marked form")
-        .after_help(help::NUMBER)
-        .arg(text)
-}
-
-fn option<'a>(alloc: Global, name: &'a str, value: &'a str, help: &'a str) -> Arg<'a> {
-    Arg::new(alloc, name)
-        .long(name)
-        .value_name(value)
-        .action(ArgAction::Set)
-        .help(help)
-}
-
-fn serve<'a>(alloc: Global) -> Result<Command<'a>, AllocError> {
-    let port = option(alloc, "port", "P", "The port of 127.0.0.1 to listen on")
-        .required(true)
-        .value_parser(value_parser!(u16).range(1..));
-    let sessions = option(
-        alloc,
-        "sessions",
-        "N",
-        "How many connections to serve, 1 to 64",
-    )
-    .required(true)
-    .value_parser(value_parser!(u8).range(1..65));
-    let workers = option(
-        alloc,
-        "workers",
-        "K",
-        "How many workers make their calls, 1 to 8",
-    )
-    .default_value("2")
-    .value_parser(value_parser!(u8).range(1..9));
-    let journal = option(
-        alloc,
-        "journal",
-        "FILE",
-        "The journal, as of replay; one worker makes the calls, so K is not given",
-    )
-    .conflicts_with("workers")?;
-    Command::new(alloc, "serve")
-        .about("Serves railways on connections of their own, on a new hub, until each has ended")
-        .after_help(help::SERVE)
-        .arg(port)?
-        .arg(sessions)?
-        .arg(workers)?
-        .arg(journal)
-}
-
-fn command<'a>(alloc: Global) -> Result<Command<'a>, AllocError> {
-    Command::new(alloc, "taf_hub")
-        .about("The hub for wagon movement, interchange and estimated times in rail freight")
-        .version(help::VERSION)
-        .after_help(help::PROGRAM)
-        .subcommand_required(true)
-        .subcommand(replay(alloc)?)?
-        .subcommand(check(alloc)?)?
-        .subcommand(number(alloc)?)?
-        .subcommand(serve(alloc)?)
+    /// With the file of the journal, if one is kept: then one worker makes the calls. With the file of the keys, if railways are asked
+    /// for theirs.
+    Open {
+        service: ServiceOptions,
+        journal: Option<&'a str>,
+        keys: Option<&'a str>,
+    },
 }
 
 /// The task that the arguments name, the program's name first. Numbers out of their limits are an error of clap's.
@@ -153,6 +73,7 @@ fn task_in<'a>(matches: &ArgMatches<'a>) -> Option<Task<'a>>
         }),
         "check" => Some(Task::Check(found.get_str("JOURNAL")?)),
         "serve" => shift_in(found),
+        "open" => service_in(found),
         _ => Some(Task::Number(found.get_str("TEXT")?)),
     }
 }
@@ -174,6 +95,53 @@ fn shift_in<'a>(matches: &ArgMatches<'a>) -> Option<Task<'a>>
         size,
         journal,
     })
+}
+
+// The service that is named. Its numbers passed clap's parsers, so they are within their limits.
+fn service_in<'a>(matches: &ArgMatches<'a>) -> Option<Task<'a>>
+    ensures limits { IfSome result IsWithinLimits }
+{
+    let port = matches.get_one::<u16>("port")?;
+    let workers = matches.get_one::<u8>("workers")?;
+    let journal = matches.get_str("journal");
+    let limits = limits_in(matches)?;
+    let workers = workers_of(journal, workers);
+    let is_within = 1 <= port && 1 <= workers && workers <= 8;
+    if !is_within {
+        return None;
+    }
+    let service = ServiceOptions {
+        port,
+        limits,
+        workers,
+    };
+    Some(Task::Open {
+        service,
+        journal,
+        keys: matches.get_str("keys"),
+    })
+}
+
+// The limits of a service that are named.
+fn limits_in(matches: &ArgMatches<'_>) -> Option<Limits> {
+    let sessions = matches.get_one::<u8>("sessions")?;
+    let mut limits = Limits::new(usize::from(sessions))?;
+    limits.silence_before_hello = seconds_in(matches, "hello-seconds")?;
+    limits.silence_between_lines = seconds_in(matches, "silence-seconds");
+    limits.write_timeout = seconds_in(matches, "write-seconds")?;
+    limits.grace = Duration::from_secs(u64::from(matches.get_one::<u32>("grace-seconds")?));
+    Some(limits)
+}
+
+// So many seconds, at least one.
+fn seconds_in(matches: &ArgMatches<'_>, name: &str) -> Option<Duration>
+    ensures { IfSome result (λ d. 0 < as_nanos d) }
+{
+    let seconds = matches.get_one::<u32>(name)?;
+    if seconds == 0 {
+        return None;
+    }
+    Some(Duration::from_secs(u64::from(seconds)))
 }
 
 // How many workers make the calls: with a journal one, and else as many as are named.

@@ -1,9 +1,12 @@
-//! What the workers gave back.
+//! What the workers gave back, and the end of the hub.
 ghost use Rattle.std.specs.Prelude.{◌≡◌, ◌≤◌, ◌+◌, length, map, vec_len, vec_capacity, sum_by, IfOk};
+ghost use Rattle.session_lanes.specs.Lanes.{EachAt};
 ghost use Rattle.session_lanes.specs.Room.{IsEmptyWithRoom};
+ghost use Rattle.hub_shared.specs.Seats.{IsRun, new_seat};
 
 use crate::worker::Worker;
-use hub_shared::Seat;
+use hub_core::Hub;
+use hub_shared::{Seat, SharedHub};
 use inbox::Pass;
 use session_lanes::with_room;
 use std::alloc::Global;
@@ -58,4 +61,46 @@ pub fn add_refused<L: Ledger>(seats: &[Seat<L>]) -> u64
         refused += seat.refused();
     }
     refused
+}
+
+/// What workers leave: the hub, how many calls were answered and how many met a fault, and the passes of the workers.
+#[derive(Drop)]
+pub struct ClosedHub {
+    pub hub: Hub,
+    pub sum: u64,
+    pub refused: u64,
+    pub passes: Vec<Pass>,
+}
+
+/// Closes the hub of up to 8 workers, each of which has one part of the seats, by the part that was kept. It takes no memory.
+///
+/// The sum is the length of the hub's history.
+pub fn close_hub<L: Ledger>(
+    hub: SharedHub<L>,
+    seat: Seat<L>,
+    worked: Vec<Worker<L>>,
+    parts: WorkerParts<L>,
+) -> ClosedHub
+    requires own { EachAt (λ k w. w.seat.parts ≡ 1) worked.items }
+    requires seat { (seat ≡ new_seat 1) × (L.parts ≡ length worked.items + 1) }
+    requires few { length worked.items ≤ 8 }
+    requires passes { IsEmptyWithRoom parts.passes (vec_len worked) }
+    requires seats { IsEmptyWithRoom parts.seats (vec_len worked + 1) }
+    ensures run { IsRun result.hub }
+    ensures sum { result.sum ≡ length result.hub }
+    ensures calls { sum_by (λ w. w.seat.count) worked.items ≡ result.sum }
+    ensures faults { sum_by (λ w. w.seat.refused) worked.items ≡ result.refused }
+    ensures passes { result.passes.items ≡ map (λ w. w.pass) worked.items }
+{
+    let WorkerParts { passes, seats } = split_workers(worked, parts);
+    let mut seats = seats;
+    seats.push_reserved(seat);
+    let refused = add_refused(seats.as_slice());
+    let (hub, sum) = hub.close(seats);
+    ClosedHub {
+        hub,
+        sum,
+        refused,
+        passes,
+    }
 }

@@ -4,13 +4,13 @@
 //! `session_lanes::Work` says: it takes the jobs of its lane, makes their calls on the shared hub, and answers their sessions. A
 //! session puts into one lane alone, so its calls are made in the order of its lines.
 //!
-//! [`make_places`] hands out to all threads what they begin with. [`split_workers`] gives the passes and the seats that the
-//! workers had.
+//! [`make_places`] hands out to all threads what they begin with. [`close_hub`] closes the hub by the seats that the workers had,
+//! and gives back their passes.
 //!
 //! # What is promised
 //!
 //! `specs/Work.antt` says what a worker gives back: that it put nothing, and that it counted a call or a fault for each job
-//! that it took. [`make_call`] makes the call of one job: its Done has the session and the index of the job, and the answer to
+//! that it took, and `specs/Counts.antt` what is said of all workers. [`make_call`] makes the call of one job: its Done has the session and the index of the job, and the answer to
 //! the job's own call.
 //!
 //! No contract says that a worker that waits is woken, nor that a Done reaches its session: an `AnswerQueue` promises nothing of
@@ -28,7 +28,7 @@ mod gate;
 mod places;
 mod worker;
 
-pub use closing::{WorkerParts, add_refused, split_workers};
+pub use closing::{ClosedHub, WorkerParts, add_refused, close_hub, split_workers};
 pub use gate::{Gate, OpenGate};
 pub use places::{Places, make_places};
 pub use worker::{SharedContext, Worker, make_call, work};

@@ -27,6 +27,14 @@ impl Answer {
         })
     }
 
+    /// The reply. None where the hub was refused memory.
+    pub(crate) fn reply(&self) -> Option<&Reply> {
+        match &self.reply {
+            Some((_, reply)) => Some(reply),
+            None => None,
+        }
+    }
+
     /// The same, as the answer to a job.
     pub(crate) fn done(&self, session: u32, index: u64) -> Result<Done, Memory> {
         let answer = match &self.reply {

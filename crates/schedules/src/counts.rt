@@ -6,6 +6,8 @@ use std::fmt::{self, Display, Formatter, Write};
 /// How much of each came in schedules.
 #[derive(Clone, Copy, Debug, Default, PartialEq, Eq)]
 pub struct Counts {
+    /// Connection handlers, each of which served one session or more.
+    pub handlers: u64,
     pub sessions: u64,
     /// Lines that were read.
     pub lines: u64,
@@ -19,17 +21,23 @@ pub struct Counts {
     pub strangers: u64,
     /// Sessions that took no answer any more.
     pub broken: u64,
+    /// Sessions whose connection broke: they read no more, and their jobs were answered.
+    pub broken_off: u64,
+    /// Sessions of railways that came back after their connection broke, and sent again what they had no answer to.
+    pub returned: u64,
 }
 
 impl Counts {
-    /// Counts a session and its lines.
-    pub(crate) fn add_session(&mut self, scheduled: &ScheduledSession) {
+    /// Counts a session, its lines, and those of them that said that memory was refused.
+    pub(crate) fn add_session(&mut self, scheduled: &ScheduledSession, refusals: usize) {
         self.sessions = self.sessions.saturating_add(1);
         self.lines = self.lines.saturating_add(scheduled.readings.len() as u64);
+        self.refusals = self.refusals.saturating_add(refusals as u64);
     }
 
     /// Adds those of another schedule.
     pub(crate) fn add(&mut self, other: Counts) {
+        self.handlers = self.handlers.saturating_add(other.handlers);
         self.sessions = self.sessions.saturating_add(other.sessions);
         self.lines = self.lines.saturating_add(other.lines);
         self.calls = self.calls.saturating_add(other.calls);
@@ -37,12 +45,15 @@ impl Counts {
         self.refusals = self.refusals.saturating_add(other.refusals);
         self.strangers = self.strangers.saturating_add(other.strangers);
         self.broken = self.broken.saturating_add(other.broken);
+        self.broken_off = self.broken_off.saturating_add(other.broken_off);
+        self.returned = self.returned.saturating_add(other.returned);
     }
 }
 
 impl Display for Counts {
     fn fmt<W: Write>(&self, f: &mut Formatter<W>) -> fmt::Result {
         let Counts {
+            handlers,
             sessions,
             lines,
             calls,
@@ -50,12 +61,21 @@ impl Display for Counts {
             refusals,
             strangers,
             broken,
+            broken_off,
+            returned,
         } = self;
-        write!(f, "{sessions} sessions, {lines} lines, {calls} calls; ")?;
+        write!(
+            f,
+            "{handlers} handlers, {sessions} sessions, {lines} lines, {calls} calls; "
+        )?;
         write!(
             f,
             "{full_lanes} full lanes, {refusals} refusals of memory, "
         )?;
-        write!(f, "{strangers} strangers, {broken} broken off")
+        write!(
+            f,
+            "{strangers} strangers, {broken} that took no answer any more, "
+        )?;
+        write!(f, "{broken_off} broken off, {returned} that came back")
     }
 }

@@ -9,12 +9,15 @@ pub enum ScheduleFault {
     /// Memory was refused where it was not scarce. Nothing is known of the schedule.
     #[error("memory was refused")]
     Memory,
-    /// The session said another line than in lock step.
-    #[error("session {0} says another line than in lock step")]
+    /// A session of this handler said another line than in lock step.
+    #[error("a session of handler {0} says another line than in lock step")]
     Line(u32),
-    /// The session has another tally than in lock step.
-    #[error("session {0} has another tally than in lock step")]
+    /// This handler has another tally than its sessions in lock step, one after another.
+    #[error("handler {0} has another tally than its sessions in lock step")]
     Tally(u32),
+    /// A message in a session of this handler was sent before, and got another reply.
+    #[error("a message to handler {0} gets another reply than before")]
+    Reply(u32),
     /// Lines or jobs are left, and nothing goes on.
     #[error("nothing goes on")]
     Stuck,

@@ -88,8 +88,8 @@ static STRAY: [&str; 12] = [
     r#"{"kind":"plan","from":"R100","no":7,"consignment":"C-3","load":"empty","commit":"2025-03-02T15:30Z","wagons":["218124712173"],"legs":[]}"#,
 ];
 
-/// How many lines a session has at most.
-pub(crate) const MOST_LINES: usize = 40;
+// How many lines are drawn for a session at most.
+const MOST_LINES: usize = 40;
 
 // The lines of a railway, its hello first.
 fn lines_of(railway: usize) -> &'static [&'static str] {
@@ -109,21 +109,60 @@ fn drawn(draws: &mut Draws, lines: &'static [&'static str]) -> &'static str {
     lines[draws.below(lines.len())]
 }
 
-/// Draws what a session reads: the lines of a railway in the order of its journeys, with others among them.
-pub(crate) fn draw_lines(alloc: Global, draws: &mut Draws) -> Result<Vec<&'static str>, Memory> {
-    let own = lines_of(draws.below(4));
-    let mut in_order = own.iter();
-    let mut lines = Vec::new(alloc);
-    for _ in 0..draws.below(MOST_LINES) + 1 {
-        let line = match draws.below(8) {
-            0 => drawn(draws, STRAY.as_slice()),
-            1 => drawn(draws, own),
-            _ => match in_order.next() {
-                Some(line) => *line,
-                None => drawn(draws, own),
-            },
+/// The lines of a session, and the hello of its railway.
+#[derive(Drop)]
+pub(crate) struct SessionLines {
+    hello: &'static str,
+    lines: Vec<&'static str>,
+}
+
+impl SessionLines {
+    /// Draws what a session reads: the lines of a railway in the order of its journeys, with others among them.
+    pub(crate) fn draw(alloc: Global, draws: &mut Draws) -> Result<SessionLines, Memory> {
+        let own = lines_of(draws.below(4));
+        let hello = match own.first() {
+            Some(line) => *line,
+            None => "",
         };
-        lines.push(line)?;
+        let mut in_order = own.iter();
+        let mut lines = Vec::new(alloc);
+        for _ in 0..draws.below(MOST_LINES) + 1 {
+            let line = match draws.below(8) {
+                0 => drawn(draws, STRAY.as_slice()),
+                1 => drawn(draws, own),
+                _ => match in_order.next() {
+                    Some(line) => *line,
+                    None => drawn(draws, own),
+                },
+            };
+            lines.push(line)?;
+        }
+        Ok(SessionLines { hello, lines })
     }
-    Ok(lines)
+
+    /// What the next session reads where the railway comes back: its hello, and these lines from the one at this index on.
+    pub(crate) fn again(&self, alloc: Global, from: usize) -> Result<SessionLines, Memory> {
+        let mut lines = Vec::new(alloc);
+        lines.push(self.hello)?;
+        for line in self.lines.iter().skip(from) {
+            lines.push(*line)?;
+        }
+        Ok(SessionLines {
+            hello: self.hello,
+            lines,
+        })
+    }
+
+    /// How many lines there are.
+    pub(crate) fn count(&self) -> usize {
+        self.lines.len()
+    }
+
+    /// The line at this index, if there is one.
+    pub(crate) fn get(&self, index: usize) -> Option<&'static str> {
+        match self.lines.get(index) {
+            Some(line) => Some(*line),
+            None => None,
+        }
+    }
 }

@@ -69,10 +69,13 @@ impl<'p> LockStepSession<'p> {
     }
 
     // Whether a line that gave a job out does so, and is said the answer. None where the job was not answered.
-    fn is_same_job(&mut self, reading: Reading) -> Result<Option<bool>, ScheduleFault> {
-        let Step::Ask(job) = self.step(reading.line) else {
+    fn is_same_job(&mut self, line: &str, index: u64) -> Result<Option<bool>, ScheduleFault> {
+        let Step::Ask(job) = self.step(line) else {
             return Ok(Some(false));
         };
+        if job.index != index || index != self.answered as u64 {
+            return Ok(Some(false));
+        }
         let Some(answer) = self.scheduled.answers.get(self.answered) else {
             return Ok(None);
         };
@@ -90,7 +93,7 @@ impl<'p> LockStepSession<'p> {
         match reading.came {
             Came::Nothing => Ok(Some(matches!(self.step(reading.line), Step::Nothing))),
             Came::Line => Ok(Some(self.is_same_line(reading))),
-            Came::Job => self.is_same_job(reading),
+            Came::Job(index) => self.is_same_job(reading.line, index),
         }
     }
 
@@ -109,7 +112,7 @@ impl<'p> LockStepSession<'p> {
     // Fails unless what is left of what was said is the line of a stranger where one came, and else nothing.
     fn check_rest(&mut self, is_cut: bool) -> Result<(), ScheduleFault> {
         let is_right = match self.scheduled.state {
-            SessionState::Open => !is_cut && self.next_said().is_none(),
+            SessionState::Open | SessionState::BrokenOff => !is_cut && self.next_said().is_none(),
             SessionState::Broken => self.next_said().is_none(),
             SessionState::Failed => is_cut
                 && self.next_said() == Some(STRANGER)

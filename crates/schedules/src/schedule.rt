@@ -3,20 +3,21 @@
 use crate::counts::Counts;
 use crate::draws::Draws;
 use crate::fault::ScheduleFault;
+use crate::first_replies::FirstReplies;
 use crate::lane::Lane;
-use crate::lines::draw_lines;
-use crate::lock_step::lock_step;
+use crate::lines::SessionLines;
 use crate::scarcity::Scarcity;
-use crate::scheduled_session::ScheduledSession;
+use crate::scheduled_handler::ScheduledHandler;
 use hub_core::Hub;
 use hub_shared::{SettleFault, Tally, settle};
 use inbox::Job;
 use session_lines::Done;
 use std::alloc::Global;
+use std::collections::VecDeque;
 use taf_codes::Memory;
 
-// How many sessions and workers there are at most.
-const MOST_SESSIONS: usize = 64;
+// How many handlers and workers there are at most.
+const MOST_HANDLERS: usize = 64;
 
 const MOST_WORKERS: usize = 8;
 
@@ -28,15 +29,17 @@ fn raise(count: &mut u64, is_more: bool) {
     *count = count.saturating_add(u64::from(is_more));
 }
 
-/// Sessions and workers that take turns. The hub lies on the heap, since what owns one itself takes the prover long.
+/// Handlers and workers that take turns. The hub lies on the heap, since what owns one itself takes the prover long.
 #[derive(Drop)]
 pub(crate) struct Schedule<'b> {
     alloc: Global,
     draws: Draws,
     scarcity: Scarcity<'b>,
     hub: Box<Hub>,
-    sessions: Vec<ScheduledSession>,
+    handlers: Vec<ScheduledHandler>,
     lanes: Vec<Lane>,
+    /// What railways send again that come back, once a handler is free.
+    returning: VecDeque<SessionLines>,
     /// So many turns of four are those of workers.
     worker_turns: usize,
     /// One turn of a session in so many ends it before its lines do. None does where this is 0.
@@ -45,108 +48,144 @@ pub(crate) struct Schedule<'b> {
 }
 
 impl<'b> Schedule<'b> {
-    /// Draws sessions with their lines, and lanes with their places.
+    /// Draws handlers with their sessions, and lanes with their places.
     pub(crate) fn new(
         alloc: Global,
         draws: Draws,
         scarcity: Scarcity<'b>,
     ) -> Result<Schedule<'b>, Memory> {
         let mut draws = draws;
-        let mut sessions = Vec::new(alloc);
-        for id in 0..draws.below(MOST_SESSIONS) + 1 {
-            let lines = draw_lines(alloc, &mut draws)?;
-            sessions.push(ScheduledSession::new(alloc, id as u32, lines)?)?;
+        let mut handlers = Vec::new(alloc);
+        for id in 0..draws.below(MOST_HANDLERS) + 1 {
+            handlers.push(ScheduledHandler::draw(alloc, id as u32, &mut draws)?)?;
         }
         let mut lanes = Vec::new(alloc);
         for _ in 0..draws.below(MOST_WORKERS) + 1 {
-            lanes.push(Lane::new(alloc, 1 + draws.below(MOST_SESSIONS)))?;
+            lanes.push(Lane::new(alloc, 1 + draws.below(MOST_HANDLERS)))?;
         }
         Ok(Schedule {
             alloc,
             scarcity,
             hub: Box::new(alloc, Hub::new(alloc))?,
-            sessions,
+            handlers,
             lanes,
+            returning: VecDeque::new(alloc),
             worker_turns: 1 + draws.below(3),
-            ending_odds: 100 * draws.below(4),
+            ending_odds: 50 * draws.below(4),
             draws,
             counts: Counts::default(),
         })
     }
 
-    // The lane of a session puts its job, if one waits and there is a place. None where no job waits.
-    fn put(&mut self, session: usize) -> Result<Option<bool>, Memory> {
+    // The lane of a handler's session puts its job, if one waits and there is a place. None where no job waits.
+    fn put(&mut self, handler: usize) -> Result<Option<bool>, Memory> {
         let lane = match self.lanes.len() {
             0 => 0,
-            lanes => session % lanes,
+            lanes => handler % lanes,
         };
-        let (Some(scheduled), Some(lane)) = (
-            self.sessions.get_mut(session),
-            self.lanes.get_mut(lane),
-        ) else {
+        let (Some(handler), Some(lane)) = (self.handlers.get_mut(handler), self.lanes.get_mut(lane))
+        else {
             return Ok(None);
         };
-        if !scheduled.is_waiting() {
+        if !handler.session.is_waiting() {
             return Ok(None);
         }
-        let is_put = scheduled.put(lane)?;
+        let is_put = handler.session.put(lane)?;
         raise(&mut self.counts.full_lanes, !is_put);
         Ok(Some(is_put))
     }
 
-    // A session ends before its lines do: it reads no more, it breaks off, or a stranger's answer comes.
-    fn end_early(&mut self, session: usize) -> Result<bool, Memory> {
-        let Some(scheduled) = self.sessions.get_mut(session) else {
+    // The connection of a session breaks. Every other railway comes back. Whether it broke.
+    fn break_off(&mut self, handler: usize) -> Result<bool, Memory> {
+        let Some(handler) = self.handlers.get_mut(handler) else {
             return Ok(false);
         };
-        match self.draws.below(4) {
-            0 => {
-                scheduled.stop_reading();
-                Ok(true)
-            }
-            1 => {
-                let is_broken = scheduled.break_off();
-                raise(&mut self.counts.broken, is_broken);
-                Ok(is_broken)
-            }
-            other => {
-                let is_stranger = scheduled.take_stranger(other == 2)?;
-                raise(&mut self.counts.strangers, is_stranger);
-                Ok(is_stranger)
-            }
+        let Some(again) = handler.session.break_off(self.alloc, &mut self.draws)? else {
+            return Ok(false);
+        };
+        raise(&mut self.counts.broken_off, true);
+        if self.draws.once_in(2) {
+            self.returning.push_back(again)?;
         }
+        Ok(true)
     }
 
-    // A turn of a session. Whether it did anything.
-    fn take_turn(&mut self, session: usize) -> Result<bool, Memory> {
-        if let Some(is_put) = self.put(session)? {
+    // A session ends before its lines do: its connection breaks, its port fails, or a stranger's answer comes.
+    fn end_early(&mut self, handler: usize) -> Result<bool, Memory> {
+        let way = self.draws.below(8);
+        if way > 2 {
+            return self.break_off(handler);
+        }
+        let Some(handler) = self.handlers.get_mut(handler) else {
+            return Ok(false);
+        };
+        if way == 0 {
+            let is_broken = handler.session.fail_port();
+            raise(&mut self.counts.broken, is_broken);
+            return Ok(is_broken);
+        }
+        let is_stranger = handler.session.take_stranger(way == 1)?;
+        raise(&mut self.counts.strangers, is_stranger);
+        Ok(is_stranger)
+    }
+
+    // A handler that is free takes the next connection: that of a railway that comes back, or else of one that is drawn. Whether
+    // it did.
+    fn take_connection(&mut self, handler: usize) -> Result<bool, Memory> {
+        let Some(handler) = self.handlers.get_mut(handler) else {
+            return Ok(false);
+        };
+        if !handler.is_free() {
+            return Ok(false);
+        }
+        let again = self.returning.pop_front();
+        raise(&mut self.counts.returned, again.is_some());
+        let lines = match again {
+            Some(lines) => lines,
+            None => SessionLines::draw(self.alloc, &mut self.draws)?,
+        };
+        handler.go_on(self.alloc, lines)?;
+        Ok(true)
+    }
+
+    // A turn of a handler. Whether it did anything.
+    fn take_turn(&mut self, handler: usize) -> Result<bool, Memory> {
+        if let Some(is_put) = self.put(handler)? {
             return Ok(is_put);
         }
         if self.ending_odds > 0 && self.draws.once_in(self.ending_odds) {
-            return self.end_early(session);
+            return self.end_early(handler);
         }
-        let Some(scheduled) = self.sessions.get_mut(session) else {
+        let way = self.draws.below(4);
+        if self.take_connection(handler)? {
+            return Ok(true);
+        }
+        let Some(handler) = self.handlers.get_mut(handler) else {
             return Ok(false);
         };
-        match self.draws.below(4) {
-            0 | 1 => scheduled.read(&mut self.draws, &mut self.scarcity),
-            2 => scheduled.take(&mut self.draws, &mut self.scarcity),
-            _ => scheduled.say_held(),
+        match way {
+            0 | 1 => handler.session.read(&mut self.draws, &mut self.scarcity),
+            2 => handler.session.take(&mut self.draws, &mut self.scarcity),
+            _ => handler.session.say_held(),
         }
     }
 
-    // A session goes on in whatever way it can. Whether it can.
-    fn go_on(&mut self, session: usize) -> Result<bool, Memory> {
-        if let Some(is_put) = self.put(session)? {
+    // A handler goes on in whatever way it can. Whether it can.
+    fn go_on(&mut self, handler: usize) -> Result<bool, Memory> {
+        if let Some(is_put) = self.put(handler)? {
             return Ok(is_put);
         }
-        let Some(scheduled) = self.sessions.get_mut(session) else {
+        if self.take_connection(handler)? {
+            return Ok(true);
+        }
+        let Some(handler) = self.handlers.get_mut(handler) else {
             return Ok(false);
         };
+        let session = &mut handler.session;
         Ok(
-            scheduled.say_held()?
-                || scheduled.take(&mut self.draws, &mut self.scarcity)?
-                || scheduled.read(&mut self.draws, &mut self.scarcity)?,
+            session.say_held()?
+                || session.take(&mut self.draws, &mut self.scarcity)?
+                || session.read(&mut self.draws, &mut self.scarcity)?,
         )
     }
 
@@ -174,35 +213,35 @@ impl<'b> Schedule<'b> {
             return Ok(false);
         };
         let done = self.answer(job);
-        if let Some(scheduled) = self.sessions.get_mut(done.session as usize) {
-            scheduled.arrive(done)?;
+        if let Some(handler) = self.handlers.get_mut(done.session as usize) {
+            handler.session.arrive(done)?;
         }
         Ok(true)
     }
 
-    // Sessions and workers take turns that are drawn.
+    // Handlers and workers take turns that are drawn.
     fn take_turns(&mut self) -> Result<(), Memory> {
-        let (sessions, workers) = (self.sessions.len(), self.lanes.len());
-        if sessions == 0 || workers == 0 {
+        let (handlers, workers) = (self.handlers.len(), self.lanes.len());
+        if handlers == 0 || workers == 0 {
             return Ok(());
         }
-        for _ in 0..self.draws.below(100).saturating_mul(sessions) {
+        for _ in 0..self.draws.below(200).saturating_mul(handlers) {
             if self.draws.below(4) < self.worker_turns {
                 let worker = self.draws.below(workers);
                 self.work(worker)?;
             } else {
-                let session = self.draws.below(sessions);
-                self.take_turn(session)?;
+                let handler = self.draws.below(handlers);
+                self.take_turn(handler)?;
             }
         }
         Ok(())
     }
 
-    // All sessions go on as they can, and all workers. Whether any did anything.
+    // All handlers go on as they can, and all workers. Whether any did anything.
     fn run_round(&mut self) -> Result<bool, Memory> {
         let mut has_done = false;
-        for session in 0..self.sessions.len() {
-            has_done |= self.go_on(session)?;
+        for handler in 0..self.handlers.len() {
+            has_done |= self.go_on(handler)?;
         }
         for worker in 0..self.lanes.len() {
             has_done |= self.work(worker)?;
@@ -218,39 +257,34 @@ impl<'b> Schedule<'b> {
                 break;
             }
         }
-        if self.sessions.iter().all(ScheduledSession::has_ended) {
+        if self.handlers.iter().all(ScheduledHandler::has_ended) {
             Ok(())
         } else {
             Err(ScheduleFault::Stuck)
         }
     }
 
-    /// Fails unless each session said what it says in lock step and the tallies settle.
+    /// Fails unless each session said what it says in lock step, the tallies settle, and each message has one reply.
     pub(crate) fn check(self) -> Result<Counts, ScheduleFault> {
         let Schedule {
             alloc,
             hub,
-            sessions,
+            handlers,
             mut counts,
             ..
         } = self;
         let mut tallies = Vec::new(alloc);
+        let mut replies = FirstReplies::new(alloc);
         let mut is_told = true;
-        for scheduled in sessions {
-            counts.add_session(&scheduled);
-            let beside = lock_step(alloc, &scheduled)?;
-            counts.refusals = counts.refusals.saturating_add(beside.refusals as u64);
-            let (id, taken) = (scheduled.id, scheduled.taken);
-            is_told &= taken == scheduled.replied;
-            let tally = scheduled.end();
-            if tally.entries().len() != taken || tally.entries() != beside.tally.entries() {
-                return Err(ScheduleFault::Tally(id));
-            }
+        counts.handlers = handlers.len() as u64;
+        counts.calls = hub.len() as u64;
+        for handler in handlers {
+            is_told &= handler.is_told();
+            let tally = handler.check(alloc, &mut counts, &mut replies)?;
             if tallies.push(tally).is_err() {
                 return Err(ScheduleFault::Memory);
             }
         }
-        counts.calls = hub.len() as u64;
         check_settling(alloc, &hub, tallies.as_slice(), is_told)?;
         Ok(counts)
     }

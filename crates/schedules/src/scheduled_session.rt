@@ -3,12 +3,14 @@ use crate::answer::Answer;
 use crate::draws::Draws;
 use crate::fault::ScheduleFault;
 use crate::lane::Lane;
+use crate::lines::SessionLines;
 use crate::scarcity::Scarcity;
 use hub_shared::Tally;
 use inbox::Job;
 use session_lines::{Done, Session, Step};
 use std::alloc::Global;
 use std::collections::VecDeque;
+use std::mem;
 use taf_codes::Memory;
 
 /// What came of a line that a session read.
@@ -18,8 +20,8 @@ pub(crate) enum Came {
     Nothing,
     /// A line was said, or held.
     Line,
-    /// A job was given out.
-    Job,
+    /// A job of this index was given out.
+    Job(u64),
 }
 
 /// A line that a session read.
@@ -36,7 +38,9 @@ pub(crate) struct Reading {
 pub(crate) enum SessionState {
     /// It reads its lines and takes its answers.
     Open,
-    /// It takes no answer any more, and reads no line.
+    /// Its connection broke: it reads no line, and takes the answers to its jobs that are out.
+    BrokenOff,
+    /// Its port failed: it takes no answer any more, and reads no line.
     Broken,
     /// A stranger's answer came.
     Failed,
@@ -48,7 +52,7 @@ pub(crate) enum SessionState {
 pub(crate) struct ScheduledSession {
     pub(crate) id: u32,
     pub(crate) session: Box<Session>,
-    lines: Vec<&'static str>,
+    lines: SessionLines,
     pub(crate) readings: Vec<Reading>,
     pub(crate) state: SessionState,
     /// The job that waits for a place in the lane.
@@ -57,20 +61,24 @@ pub(crate) struct ScheduledSession {
     arrived: VecDeque<Done>,
     pub(crate) answers: Vec<Answer>,
     /// How many of its calls the hub answered.
-    pub(crate) replied: usize,
+    replied: usize,
     /// How many of these answers it took as its own.
     pub(crate) taken: usize,
     /// The lines that it said, each with a newline.
     pub(crate) said: Vec<u8>,
+    /// How many these are.
+    said_lines: usize,
 }
 
 impl ScheduledSession {
+    /// A session of the handler of this number, behind those that were told what the tally has.
     pub(crate) fn new(
         alloc: Global,
         id: u32,
-        lines: Vec<&'static str>,
+        lines: SessionLines,
+        tally: Tally,
     ) -> Result<ScheduledSession, Memory> {
-        let session = Box::new(alloc, Session::new(alloc, id))?;
+        let session = Box::new(alloc, Session::with_tally(alloc, id, tally))?;
         Ok(ScheduledSession {
             id,
             session,
@@ -83,19 +91,44 @@ impl ScheduledSession {
             replied: 0,
             taken: 0,
             said: Vec::new(alloc),
+            said_lines: 0,
         })
     }
 
-    /// Whether it has read all its lines, and has all answers and no job that waits.
+    // Whether each of its jobs has its answer, and none waits.
+    fn is_idle(&self) -> bool {
+        self.waiting.is_none() && self.session.is_idle()
+    }
+
+    /// Whether it has read all its lines and has all answers, so that its handler goes on with another session.
+    pub(crate) fn is_over(&self) -> bool {
+        match self.state {
+            SessionState::Open => self.readings.len() == self.lines.count() && self.is_idle(),
+            SessionState::BrokenOff => self.is_idle(),
+            SessionState::Broken | SessionState::Failed => false,
+        }
+    }
+
+    // Whether it takes no answer any more. Its handler serves no other session then, to which answers might still come.
+    fn is_last(&self) -> bool {
+        matches!(self.state, SessionState::Broken | SessionState::Failed)
+    }
+
+    /// Whether it does nothing any more.
     pub(crate) fn has_ended(&self) -> bool {
-        let has_read = self.readings.len() == self.lines.len() && self.session.is_idle();
-        self.waiting.is_none() && (has_read || self.state != SessionState::Open)
+        self.is_over() || (self.is_last() && self.waiting.is_none())
+    }
+
+    /// Whether it took each answer of the hub.
+    pub(crate) fn is_told(&self) -> bool {
+        self.taken == self.replied
     }
 
     // Notes a line that it says.
     fn say(&mut self, line: &[u8]) -> Result<(), Memory> {
         self.said.extend_from_slice(line)?;
         self.said.push(b'\n')?;
+        self.said_lines = self.said_lines.saturating_add(1);
         Ok(())
     }
 
@@ -109,8 +142,9 @@ impl ScheduledSession {
                 Came::Line
             }
             Step::Ask(job) => {
+                let index = job.index;
                 self.waiting = Some(job);
-                Came::Job
+                Came::Job(index)
             }
         };
         self.readings.push(Reading { came, ..reading })?;
@@ -132,7 +166,6 @@ impl ScheduledSession {
         let Some(line) = self.lines.get(self.readings.len()) else {
             return Ok(false);
         };
-        let line: &'static str = *line;
         let is_scarce = scarcity.begin(draws);
         let step = self.session.on_line(line.as_bytes());
         scarcity.end();
@@ -151,7 +184,7 @@ impl ScheduledSession {
         draws: &mut Draws,
         scarcity: &mut Scarcity<'_>,
     ) -> Result<bool, Memory> {
-        if self.state != SessionState::Open || !self.session.has_job_in_front() {
+        if self.is_last() || !self.session.has_job_in_front() {
             return Ok(false);
         }
         let Some(done) = self.arrived.pop_front() else {
@@ -169,7 +202,7 @@ impl ScheduledSession {
 
     /// Takes a stranger's answer, where it can: that of a later job, or of another session. Whether it did.
     pub(crate) fn take_stranger(&mut self, is_later: bool) -> Result<bool, Memory> {
-        if self.state != SessionState::Open || !self.session.has_job_in_front() {
+        if self.is_last() || !self.session.has_job_in_front() {
             return Ok(false);
         }
         let Some(mut done) = self.arrived.pop_front() else {
@@ -197,24 +230,50 @@ impl ScheduledSession {
         }
     }
 
-    /// Reads no line any more.
-    pub(crate) fn stop_reading(&mut self) {
-        self.lines.truncate(self.readings.len());
+    // How many lines it read before the one with the answer at this index.
+    fn read_before(&self, answer: usize) -> usize {
+        let mut answers: usize = 0;
+        let mut before: usize = 0;
+        for reading in &self.readings {
+            answers = answers.saturating_add(usize::from(reading.came != Came::Nothing));
+            if answers > answer {
+                break;
+            }
+            before = before.saturating_add(1);
+        }
+        before
     }
 
-    /// Reads no line and takes no answer any more. Whether it did.
-    pub(crate) fn break_off(&mut self) -> bool {
-        let was_open = self.state == SessionState::Open;
-        if was_open {
+    /// Its connection breaks: it reads no line any more. Gives what its railway sends again, which misses the last answers, or
+    /// None where its connection is not open.
+    pub(crate) fn break_off(
+        &mut self,
+        alloc: Global,
+        draws: &mut Draws,
+    ) -> Result<Option<SessionLines>, Memory> {
+        if self.state != SessionState::Open {
+            return Ok(None);
+        }
+        self.state = SessionState::BrokenOff;
+        let heard = draws.below(self.said_lines.saturating_add(1));
+        let again = self.lines.again(alloc, self.read_before(heard))?;
+        Ok(Some(again))
+    }
+
+    /// Its port fails: it reads no line and takes no answer any more. Whether it did.
+    pub(crate) fn fail_port(&mut self) -> bool {
+        let is_failing = !self.is_last();
+        if is_failing {
             self.state = SessionState::Broken;
         }
-        was_open
+        is_failing
     }
 
-    /// Gives its tally, and is done.
-    pub(crate) fn end(self) -> Tally {
-        let ScheduledSession { session, .. } = self;
-        Box::into_inner(session).on_end()
+    /// Gives its tally, for the next session of its handler, and is done.
+    pub(crate) fn take_tally(&mut self, alloc: Global) -> Result<Tally, Memory> {
+        let none = Box::new(alloc, Session::new(alloc, self.id))?;
+        let session = mem::replace(&mut self.session, none);
+        Ok(Box::into_inner(session).on_end())
     }
 
     /// Whether a job of it waits for a place.

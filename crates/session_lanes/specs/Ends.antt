@@ -1,5 +1,5 @@
 -- What the thread of a session gives back.
-use Rattle.std.specs.Prelude.{◌≡◌, ℕ, Bool, true, false, List, [], Option, Result, Ok, Err, is_ok}
+use Rattle.std.specs.Prelude.{◌≡◌, ℕ, Bool, true, false, List, [], ◌++◌, Option, Result, Ok, Err, is_ok}
 use Rattle.std.specs.List.{All}
 use Rattle.inbox.specs.declared.rule.Job.{Job}
 use Rattle.tallies.specs.declared.tally.Told.{Told}
@@ -47,3 +47,21 @@ pub record IsServed {S K : Type 0} (remaining : S → Option (List ℕ)) (writte
       s.tally.entries s.pass.put
   pub own_jobs : All (λ (j : Job). j.session ≡ session) s.pass.put
   pub put_only : s.pass ≡ record start.pass { put = s.pass.put }
+
+-- A session of this number by a pass and with a tally that earlier ones left: behind what these were told it was told this, behind
+-- what they put it put these jobs, its own, and it took none.
+pub record IsServedNext {S K : Type 0} (remaining : S → Option (List ℕ)) (written : K → Option (List ℕ))
+    (start : SessionStart S K) (told : List Told) (s : Served) : Type 0 where
+  pub more : List Told
+  pub put : List Job
+  pub ended : HasEnded start.session (streams_of (remaining start.reader) (written start.writer)) s.end
+      more put
+  pub own_jobs : All (λ (j : Job). j.session ≡ start.session) put
+  pub told_is : s.tally.entries ≡ told ++ more
+  pub pass_is : s.pass ≡ record start.pass { put = start.pass.put ++ put }
+
+-- whatever it put behind what was put before: it ended so, and was told something behind what was told before
+abbrev pub HasEndedBehind : ℕ → Streams → SessionEnd → List Told → List Job → List Told → List Job → Type 0
+HasEndedBehind session began end told put told_after put_after =
+    (mine : List Job) → put_after ≡ put ++ mine
+    → (more : List Told) × (told_after ≡ told ++ more) × HasEnded session began end more mine

@@ -1,9 +1,10 @@
 //! A session's way to its worker.
-ghost use Rattle.std.specs.Prelude.{◌≡◌, ◌+◌, []};
+ghost use Rattle.std.specs.Prelude.{◌≡◌, ◌+◌};
 ghost use Rattle.std.specs.List.{All};
 ghost use Rattle.inbox.specs.declared.rule.Job.{Job};
 ghost use Rattle.inbox.specs.States.{PassState};
 ghost use Rattle.session_lanes.specs.Lanes.{no_pass};
+ghost use Rattle.session_lanes.specs.Passes.{put_since, PutsOnly, PutsMore};
 
 use crate::queues::{AnswerQueue, JobQueue};
 use inbox::{Job, Pass};
@@ -22,9 +23,9 @@ impl Begun for Brand {
     ghost began = { no_pass };
 }
 
-// Puts the jobs of a session into its lane, and takes their answers from the session's queue.
+// Puts the jobs of a session into its lane, behind those of the sessions before it, and takes their answers from its queue.
 #[derive(Drop)]
-pub(crate) struct ShiftPort<'a, B: Begun, R: Wait> {
+pub(crate) struct LanePort<'a, B: Begun, R: Wait> {
     rt: &'a R,
     session: u32,
     jobs: &'a JobQueue,
@@ -33,25 +34,25 @@ pub(crate) struct ShiftPort<'a, B: Begun, R: Wait> {
     failures: u64,
     of: PhantomData<B>,
     ghost own: { B.began.inbox ≡ jobs.now.id },
-    ghost put_only: { pass ≡ record B.began { put = pass.put } },
-    ghost own_jobs: { All (λ (j : Job). j.session ≡ session) pass.put },
+    ghost puts_only: { PutsOnly B.began pass },
+    ghost own_jobs: { All (λ (j : Job). j.session ≡ session) (put_since B.began pass) },
 }
 
-impl<'a, B: Begun, R: Wait> ShiftPort<'a, B, R> {
+impl<'a, B: Begun, R: Wait> LanePort<'a, B, R> {
+    #[tactic(auto, using(crate::proofs::PassLemmas::puts_nothing, crate::proofs::PassLemmas::own_nothing))]
     pub(crate) fn new(
         rt: &'a R,
         session: u32,
         jobs: &'a JobQueue,
         pass: Pass,
         answers: &'a AnswerQueue,
-    ) -> ShiftPort<'a, B, R>
+    ) -> LanePort<'a, B, R>
         requires own { pass.inbox ≡ jobs.now.id }
         requires began { pass ≡ B.began }
-        requires none { pass.put ≡ [] }
         ensures session { result.session ≡ session }
-        ensures none { result.pass.put ≡ [] }
+        ensures sent { result.pass.put ≡ B.began.put }
     {
-        ShiftPort {
+        LanePort {
             rt,
             session,
             jobs,
@@ -62,12 +63,12 @@ impl<'a, B: Begun, R: Wait> ShiftPort<'a, B, R> {
         }
     }
 
+    #[tactic(auto, using(crate::proofs::PassLemmas::puts_more))]
     pub(crate) fn into_pass(self) -> Pass
         ensures value { result ≡ self.entry.pass }
-        ensures put_only { result ≡ record B.began { put = result.put } }
-        ensures own_jobs { All (λ (j : Job). j.session ≡ self.entry.session) result.put }
+        ensures more { PutsMore self.entry.session B.began result }
     {
-        let ShiftPort { pass, .. } = self;
+        let LanePort { pass, .. } = self;
         pass
     }
 
@@ -87,7 +88,7 @@ impl<'a, B: Begun, R: Wait> ShiftPort<'a, B, R> {
     }
 }
 
-impl<'a, B: Begun, R: Wait> Port for ShiftPort<'a, B, R> {
+impl<'a, B: Begun, R: Wait> Port for LanePort<'a, B, R> {
     ghost session = { λ p. p.session };
 
     ghost sent = { λ p. p.pass.put };
@@ -95,6 +96,7 @@ impl<'a, B: Begun, R: Wait> Port for ShiftPort<'a, B, R> {
     ghost failures = { λ p. p.failures };
 
     // The lane has a place for each job that its sessions may have out, so it is not found full.
+    #[tactic(auto, using(crate::proofs::PassLemmas::puts_one, crate::proofs::PassLemmas::own_one))]
     fn send(&mut self, job: Job) -> Result<(), PortFault> {
         let mut job = job;
         for _ in self.rt.forever() {

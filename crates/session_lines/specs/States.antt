@@ -26,6 +26,10 @@ new_state id = record {
   tally = [];
 }
 
+-- a session that has read no line, and whose tally has these entries already
+abbrev pub state_with_tally : ℕ → List Told → State
+state_with_tally id told = record (new_state id) { tally = told }
+
 -- how many jobs are out
 abbrev pub jobs_out : List Slot → ℕ
 jobs_out [] = 0

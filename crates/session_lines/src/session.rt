@@ -1,7 +1,7 @@
 //! The session with its slots.
 ghost use Rattle.std.specs.Prelude.{◌≡◌, ◌≢◌, ◌+◌, ◌<◌, ◌≤◌, ◌^◌, ◌⊎◌, length, [], true, false, Ok};
 ghost use Rattle.session_lines.specs.declared.meaning.Meaning.TheVariants.{Hello, Calls};
-ghost use Rattle.session_lines.specs.States.{jobs_out, new_state};
+ghost use Rattle.session_lines.specs.States.{jobs_out, new_state, state_with_tally};
 ghost use Rattle.call_lines.specs.Lines.{reply_text};
 ghost use Rattle.session_lines.specs.Texts.{line_fault_text};
 ghost use Rattle.session_lines.specs.Meanings.{text_meaning};
@@ -104,6 +104,13 @@ impl Session {
     pub fn new(alloc: Global, id: u32) -> Session
         ensures { result ≡ new_state id }
     {
+        Session::with_tally(alloc, id, Tally::new(alloc))
+    }
+
+    /// A session that has read no line, and that notes what it is told behind what this tally has already. Takes no memory.
+    pub fn with_tally(alloc: Global, id: u32, tally: Tally) -> Session
+        ensures { result ≡ state_with_tally id tally.entries }
+    {
         Session {
             alloc,
             reader: CallReader::new(alloc),
@@ -114,7 +121,7 @@ impl Session {
             out_count: 0,
             slots: VecDeque::new(alloc),
             has_failed: false,
-            tally: Tally::new(alloc),
+            tally,
         }
     }
 

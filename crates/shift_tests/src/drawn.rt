@@ -1,4 +1,4 @@
-//! Sessions and workers that take turns in an order that is drawn.
+//! Sessions and workers that take turns in an order that is drawn, and sessions that come and go.
 
 use schedules::{Counts, run_seeds};
 use std::test::Fail;
@@ -8,7 +8,13 @@ const SEEDS: u64 = 200;
 
 // Whether all that goes wrong in schedules did.
 fn has_all(counts: Counts) -> bool {
-    counts.full_lanes > 0 && counts.refusals > 0 && counts.strangers > 0 && counts.broken > 0
+    let ended_early = [
+        counts.strangers,
+        counts.broken,
+        counts.broken_off,
+        counts.returned,
+    ];
+    counts.full_lanes > 0 && counts.refusals > 0 && ended_early.iter().all(|count| *count > 0)
 }
 
 #[test]

@@ -1,4 +1,4 @@
-use Rattle.std.proofs.Common.{◌∙◌, ◌≡◌, ℕ, length, refl, sym, subst, arith, ap}
+use Rattle.std.proofs.Common.{◌∙◌, ◌≡◌, length, refl, sym, subst, arith, ap}
 use Rattle.std.proofs.lemmas.Result.{err_from_is_err_and}
 use Rattle.journaled_hub.specs.HistoryLines.{lines_of_history}
 use Rattle.hub_shifts.specs.declared.shift.Shift.{Shift}
@@ -11,28 +11,26 @@ returns-clause-settled g c =
     let ends = c.in_ok-connections.connections in
     let many : length ends.items ≡ c.args.size.sessions = sym ends.ok.0 ∙ (c.in_ok-connections.ensures ∙ c.sessions-2.ensures) in
     subst (λ (s : Shift). IsSettledShift c.args.size.sessions 1 s c.in_ok-settled.settled.calls) (sym c.in_ok-settled.ensures.same)
-    (settled _ ends.items 1 c.args.size.sessions 1 _ _ many refl (omega arith) c.in_ok-shift.ensures.shift c.in_ok-settled.ensures.ok c.in_ok-settled.ensures.calls)
+    (settled _ ends.items 1 c.args.size.sessions 1 _ _ many refl (omega arith) c.in-Ok.ensures.shift c.in_ok-settled.ensures.ok c.in_ok-settled.ensures.calls)
 
 pub returns-clause-durable : goal.returns-clause-durable
 returns-clause-durable g c =
-    c.in_ok-shift.ensures.on_disk (sym c.has_failed.ensures ∙ c.if-has_failed.false) ∙ ap (λ (s : Shift). lines_of_history s.hub) (sym c.in_ok-settled.ensures.same)
+    c.in-Ok.ensures.journal.on_disk (sym c.has_failed.ensures ∙ c.if-has_failed.false) ∙ ap (λ (s : Shift). lines_of_history s.hub) (sym c.in_ok-settled.ensures.same)
 
 pub returns-in_err-connections-clause-not_settled : goal.returns-in_err-connections-clause-not_settled
 returns-in_err-connections-clause-not_settled g c =
     let p = err_from_is_err_and c.from_residual.result c.from_residual.ensures.1 in
     rw (p.1, p.2) (λ why is. absurd (no_shift why is))
 
-pub returns-in_err-shift-clause-not_settled : goal.returns-in_err-shift-clause-not_settled
-returns-in_err-shift-clause-not_settled g c =
-    let p = err_from_is_err_and c.from_residual-in_err-shift.result c.from_residual-in_err-shift.ensures.1 in
-    rw (p.1, p.2) (λ why is. absurd (no_end _ why is))
+pub returns-in-Err-clause-not_settled : goal.returns-in-Err-clause-not_settled
+returns-in-Err-clause-not_settled g c = λ why is. absurd (no_end _ why (sym c.fault_of_shift.ensures ∙ is))
 
 pub returns-in_err-settled-clause-not_settled : goal.returns-in_err-settled-clause-not_settled
 returns-in_err-settled-clause-not_settled g c =
     let ends = c.in_ok-connections.connections in
     let many : length ends.items ≡ c.args.size.sessions = sym ends.ok.0 ∙ (c.in_ok-connections.ensures ∙ c.sessions-2.ensures) in
     let p = err_from_is_err_and c.from_residual-in_err-settled.result c.from_residual-in_err-settled.ensures.1 in
-    rw (p.1, p.2) (λ why is. unsettled _ ends.items 1 c.args.size.sessions 1 _ _ why many refl c.in_ok-shift.ensures.shift c.in_err-settled.ensures.told c.in_err-settled.ensures.err is)
+    rw (p.1, p.2) (λ why is. unsettled _ ends.items 1 c.args.size.sessions 1 _ _ why many refl c.in-Ok.ensures.shift c.in_err-settled.ensures.told c.in_err-settled.ensures.err is)
 
 pub settle_shift-requires : goal.settle_shift-requires
-settle_shift-requires g c = record { within = fits _ _ _ c.in_ok-shift.ensures.shift }
+settle_shift-requires g c = record { within = fits _ _ _ c.in-Ok.ensures.shift }

@@ -1,0 +1,176 @@
+"""`taf_hub open` with clients that no service should have, beside two railways whose answers are compared and timed."""
+import os
+import pathlib
+import socket
+import threading
+import time
+
+from connections import WAGONS, Honest
+from hub_server import Service, Wrong, hello, line_of, need, plan, vehicle_number
+
+# The two railways, and three places for others.
+SESSIONS = 5
+TIMES = ["--hello-seconds", "1", "--silence-seconds", "2", "--write-seconds", "2", "--grace-seconds", "1"]
+FULL = b'{"fault":"full"}\n'
+
+# How many connections come at once, and how many of them find neither a place nor room to wait.
+FLOOD, BEYOND = 200, 200 - 3 - 64
+
+# Whatever is to end does so within so many seconds.
+LIMIT = 20
+
+
+class Client(threading.Thread):
+    """One that plays something, and ends with what is wrong."""
+
+    def __init__(self, play, connection):
+        super().__init__(daemon=True, name=play.__name__)
+        self.play, self.connection, self.wrong = play, connection, "it does not end"
+        connection.settimeout(LIMIT)
+
+    def run(self):
+        try:
+            self.play(self.connection)
+            self.wrong = None
+        except (Wrong, OSError) as it:
+            self.wrong = f"{self.name}: {it!r}"
+        finally:
+            self.connection.close()
+
+
+def play_all(clients):
+    for it in clients:
+        it.start()
+    for it in clients:
+        it.join(2 * LIMIT)
+    wrong = [it.wrong for it in clients if it.wrong]
+    need(not wrong, "; ".join(wrong))
+
+
+def said_to_the_end(connection):
+    """All that is said until the hub closes the connection, or resets it."""
+    said = b""
+    try:
+        while piece := connection.recv(4096):
+            said += piece
+    except ConnectionError:
+        pass
+    return said
+
+
+# What clients do.
+
+
+def never_read(connection):
+    """Asks for a record without reading: it is cut off once nothing that is written to it was taken for long enough."""
+    connection.setsockopt(socket.SOL_SOCKET, socket.SO_RCVBUF, 4096)
+    wagon = vehicle_number("33807000001")
+    ask = line_of({"kind": "ask", "from": "R305", "wagon": wagon})
+    try:
+        connection.sendall(line_of(hello("R305")) + line_of(plan("R305", 1, wagon)))
+        while True:
+            connection.sendall(ask * 100)
+    except ConnectionError:
+        pass
+
+
+def vanish(connection):
+    """Says hello, and nothing from then on, as one does whose machine is gone: it is cut off."""
+    connection.sendall(line_of(hello("R306")))
+    need(said_to_the_end(connection) == b'{"hello":"R306"}\n', "a client that is gone is told something else")
+
+
+def say_nothing(connection):
+    """Says half a hello: it is cut off, and told nothing."""
+    connection.sendall(line_of(hello("R307"))[:9])
+    need(said_to_the_end(connection) == b"", "a client that says nothing is told something")
+
+
+def come_in_a_flood(connection):
+    """It is told that the hub is full, or cut off since it says nothing."""
+    connection.said = said_to_the_end(connection)
+    need(connection.said in (FULL, b""), f"a connection of many is told {connection.said}")
+
+
+def come_and_go(service, count):
+    """So many connections, one after another, each of which says hello and ends."""
+    for number in range(count):
+        with service.connect() as connection:
+            connection.settimeout(LIMIT)
+            connection.sendall(line_of(hello("R308")))
+            connection.shutdown(socket.SHUT_WR)
+            need(said_to_the_end(connection) == b'{"hello":"R308"}\n', f"connection {number} is not answered")
+
+
+class Stream(socket.socket):
+    """A connection that keeps what it was told."""
+
+    said = None
+
+
+def flood(service):
+    """How many of many connections that come at once are told that the hub is full."""
+    clients = []
+    for _ in range(FLOOD):
+        connection = Stream()
+        connection.connect(("127.0.0.1", service.port))
+        clients.append(Client(come_in_a_flood, connection))
+    play_all(clients)
+    return sum(it.connection.said == FULL for it in clients)
+
+
+def kept_of(service):
+    """How many files and how many threads the service has."""
+    process = pathlib.Path(f"/proc/{service.process.pid}")
+    return len(list((process / "fd").iterdir())), len(list((process / "task").iterdir()))
+
+
+def keeps_again(service, wanted):
+    """Whether it soon has so many again: a connection is closed a moment after its client has read the end."""
+    end = time.monotonic() + LIMIT
+    while kept_of(service) != wanted and time.monotonic() < end:
+        time.sleep(0.01)
+    return kept_of(service) == wanted
+
+
+def end_beside_one_that_never_reads(service):
+    """Ends the service, and gives what it printed, and how many seconds it took."""
+    last = Client(never_read, service.connect())
+    last.start()
+    time.sleep(0.5)
+    start = time.monotonic()
+    settled, _, peak = service.end(LIMIT)
+    seconds = time.monotonic() - start
+    last.join(LIMIT)
+    need(not last.wrong, last.wrong)
+    return settled, peak, seconds
+
+
+def service():
+    count = int(os.environ.get("CONNECTIONS", 10_000))
+    hub = Service(SESSIONS, 2, options=TIMES)
+    try:
+        honest = [Honest(hub.connect(), f"R10{i}", wagon) for i, wagon in enumerate(WAGONS)]
+        for it in honest:
+            it.start()
+        time.sleep(0.5)
+        before = kept_of(hub)
+        play_all([Client(play, hub.connect()) for play in (never_read, vanish, say_nothing)])
+        full = flood(hub)
+        come_and_go(hub, count)
+        need(keeps_again(hub, before), f"files and threads before all clients and after them: {before}, {kept_of(hub)}")
+        for it in honest:
+            it.ends.set()
+            it.join(10)
+        settled, peak, seconds = end_beside_one_that_never_reads(hub)
+    finally:
+        hub.process.kill()
+    wrong = [it.wrong for it in honest if it.wrong]
+    need(not wrong, "; ".join(wrong))
+    calls, slowest = sum(it.calls for it in honest), max(it.slowest for it in honest)
+    need(settled >= calls, f"{settled} calls settled, and {calls} were answered")
+    need(full >= BEYOND, f"{full} of {FLOOD} connections were told that the hub is full")
+    need(slowest < 2, f"an answer took {slowest:.3f} seconds")
+    need(seconds < 10, f"the service took {seconds:.1f} seconds to end")
+    print(f"service: 3 clients cut off, {full} of {FLOOD} told full, {count} one after another, beside 2 railways with {calls} calls,", end=" ")
+    print(f"the slowest answer within {slowest * 1000:.1f} ms; ended in {seconds:.1f} s; settled {settled}, {peak} MiB")

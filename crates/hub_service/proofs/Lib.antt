@@ -1,0 +1,4 @@
+pub mod Common
+pub mod HandlerLemmas
+pub mod OrderLemmas
+pub mod RegroupLemmas

@@ -1,0 +1,4 @@
+pub mod Common
+pub mod JournaledLemmas
+pub mod OnlyLemmas
+pub mod PlaceLemmas

@@ -1,0 +1,2 @@
+pub mod JournaledHubs
+pub mod ServedHubs

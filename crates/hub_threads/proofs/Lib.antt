@@ -1,0 +1,4 @@
+pub mod Common
+pub mod KeptLemmas
+pub mod OrderLemmas
+pub mod ThreadLemmas

@@ -1,0 +1,4 @@
+pub mod Kept
+pub mod Room
+pub mod Served
+pub mod Starts

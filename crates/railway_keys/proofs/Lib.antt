@@ -1,0 +1,6 @@
+mod AdmissionLemmas
+mod DigestLemmas
+mod FileLemmas
+mod FirstLineLemmas
+mod FrontLemmas
+mod GuardLemmas
