@@ -3,7 +3,7 @@ ghost use Rattle.std.specs.Prelude.{IfOk};
 ghost use Rattle.journaled_hub.specs.JournaledHubs.{IsOnDisk};
 
 use crate::journal_file::{may_be_journal, report_file, report_foreign};
-use crate::serve::explained;
+use crate::serve::{Served, explained};
 use disk_file::{DiskFile, keep_end};
 use hub_faults::Fault;
 use hub_server::ServerFault;
@@ -102,11 +102,11 @@ fn report_journal<E: Write>(path: &str, calls: usize, torn: &Option<TornEnd>, er
 pub(crate) fn explained_with_journal<E: Write>(
     path: &str,
     fault: ServerFault,
-    what: &str,
+    served: Served,
     errors: &mut E,
 ) -> Fault {
     if let ServerFault::Journal = fault {
         report_file(path, &fault, errors);
     }
-    explained(fault, what, errors)
+    explained(fault, served, errors)
 }

@@ -2,6 +2,7 @@
 use crate::journal_open::{explained_with_journal, open};
 use crate::keys::read_keys;
 use crate::open::{listen, print_service};
+use crate::serve::Served;
 use hub_faults::Fault;
 use hub_tasks::ServiceOptions;
 use open_server::{SettledJournaledService, serve_open_journaled};
@@ -21,9 +22,10 @@ pub struct JournaledOpen<'a> {
     pub keys: Option<&'a str>,
 }
 
-/// Reads the keys of railways, where a file of them is named, opens the journal or makes it, and prints what it had. Then it listens on the port of this machine alone, serves whoever connects on
-/// the hub of the journal until the input ends, and prints what it comes to as `open` without a journal does. Where a call of the
-/// journal's file failed, a line among the errors says so, and nothing else is printed.
+/// Reads the keys of railways, where a file of them is named, opens the journal or makes it, and prints what it had. Then it listens on
+/// the port of this machine alone, serves whoever connects on the hub of the journal until the input ends, and prints what it comes to
+/// as `open` without a journal does. Where a call of the journal's file failed, a line among the errors says so, and nothing else is
+/// printed.
 pub fn perform<R, I, W, E>(
     rt: &R,
     journaled: JournaledOpen<'_>,
@@ -59,6 +61,6 @@ where
             drop(journal);
             print_service(rt, settled, output)
         }
-        Err(fault) => Err(explained_with_journal(path, fault, "service", errors)),
+        Err(fault) => Err(explained_with_journal(path, fault, Served::Service, errors)),
     }
 }

@@ -1,6 +1,6 @@
 //! `serve` with a journal.
 use crate::journal_open::{explained_with_journal, open};
-use crate::serve::{listen, print_shift};
+use crate::serve::{Served, listen, print_shift};
 use hub_faults::Fault;
 use hub_server::{SettledJournaledShift, serve_journaled_connections};
 use shift_size::ShiftSize;
@@ -46,6 +46,6 @@ where
             drop(journal);
             print_shift(rt, settled, output, errors)
         }
-        Err(fault) => Err(explained_with_journal(path, fault, "shift", errors)),
+        Err(fault) => Err(explained_with_journal(path, fault, Served::Shift, errors)),
     }
 }

@@ -3,7 +3,7 @@ ghost use Rattle.std.specs.Prelude.{◌≡◌, IfOk};
 
 use crate::keys::read_keys;
 use crate::print::print_settled;
-use crate::serve::{bind, explained};
+use crate::serve::{Served, bind, explained};
 use accept_queue::{AcceptQueue, Limits, control_of};
 use hub_faults::Fault;
 use hub_tasks::ServiceOptions;
@@ -54,7 +54,7 @@ where
     let listening = listen(rt, service, keys, errors)?;
     match serve_open(rt, rt.alloc(), listening, input, service.workers) {
         Ok(settled) => print_service(rt, settled, output),
-        Err(fault) => Err(explained(fault, "service", errors)),
+        Err(fault) => Err(explained(fault, Served::Service, errors)),
     }
 }
 

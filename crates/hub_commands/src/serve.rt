@@ -2,6 +2,7 @@ use crate::print::print_settled;
 use hub_faults::Fault;
 use hub_server::{ServerFault, SessionEnd, SettledShift, serve_connections};
 use shift_size::ShiftSize;
+use std::fmt::{self, Display, Formatter};
 use std::io::{Read, Write};
 use std::mem::forget;
 use std::net::{Ipv4Addr, Net, OpenListener, OpenStream, TcpListener};
@@ -9,6 +10,22 @@ use std::random::RandomSource;
 use std::sync::Wait;
 use std::thread::Threads;
 use wimo_report::hub_lines;
+
+/// What is served.
+#[derive(Clone, Copy)]
+pub(crate) enum Served {
+    Shift,
+    Service,
+}
+
+impl Display for Served {
+    fn fmt<W: fmt::Write>(&self, f: &mut Formatter<W>) -> fmt::Result {
+        match self {
+            Served::Shift => f.write_str("shift"),
+            Served::Service => f.write_str("service"),
+        }
+    }
+}
 
 /// Listens on the port of this machine alone, serves one shift there, and prints what it comes to.
 pub fn perform<R, W, E>(
@@ -70,7 +87,7 @@ where
 {
     match serve_connections(rt, rt.alloc(), listener, size) {
         Ok(settled) => print_shift(rt, settled, output, errors),
-        Err(fault) => Err(explained(fault, "shift", errors)),
+        Err(fault) => Err(explained(fault, Served::Shift, errors)),
     }
 }
 
@@ -96,10 +113,10 @@ where
     print_settled(rt.alloc(), calls, &lines?, output)
 }
 
-/// The fault of the command, once it is told in which respect a shift or a service did not settle.
-pub(crate) fn explained<E: Write>(fault: ServerFault, what: &str, errors: &mut E) -> Fault {
+/// The fault of the command, once it is told in which respect what was served did not settle.
+pub(crate) fn explained<E: Write>(fault: ServerFault, served: Served, errors: &mut E) -> Fault {
     if let ServerFault::NotSettled(why) = fault {
-        let _ = errors.write_fmt(format_args!("the {what} did not settle: {why}\n"));
+        let _ = errors.write_fmt(format_args!("the {served} did not settle: {why}\n"));
     }
     Fault::from(fault)
 }

@@ -11,7 +11,7 @@ use connections::{Acceptor, ends_of};
 use hub_shifts::{JournaledShift, SettledShift, run_journaled_shift, settle_shift};
 use journal::{Journal, RawFile};
 use journaled_hub::JournaledHub;
-use server_faults::ServerFault;
+use server_faults::{ServerFault, sound_journal};
 use shift_size::ShiftSize;
 use std::alloc::Global;
 use std::io::{Read, Write};
@@ -60,9 +60,7 @@ where
         Ok(run) => run,
         Err(fault) => return Err(fault_of_shift(fault)),
     };
-    if journal.has_failed() {
-        return Err(ServerFault::Journal);
-    }
+    let journal = sound_journal(journal)?;
     let settled = settle_shift(alloc, shift)?;
     Ok(SettledJournaledShift { settled, journal })
 }

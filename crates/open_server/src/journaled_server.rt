@@ -14,7 +14,7 @@ use crate::server::fault_of_threads;
 use hub_service::{JournaledService, SettledService, run_journaled_service, settle_service};
 use journal::{Journal, RawFile};
 use journaled_hub::JournaledHub;
-use server_faults::ServerFault;
+use server_faults::{ServerFault, sound_journal};
 use std::alloc::Global;
 use std::io::Read;
 use std::random::RandomSource;
@@ -70,9 +70,7 @@ where
         Ok(journaled) => journaled,
         Err(fault) => return Err(fault_of_threads(fault)),
     };
-    if journal.has_failed() {
-        return Err(ServerFault::Journal);
-    }
+    let journal = sound_journal(journal)?;
     let settled = settle_service(alloc, service)?;
     Ok(SettledJournaledService { settled, journal })
 }

@@ -2,8 +2,9 @@
 //!
 //! [`serve_open`] runs a service whose connection handlers take the connections of an accept queue (`accept_queue`, `hub_service`), into
 //! which a thread of its own puts those that it accepts. The calling thread reads its input to the end, and then ends the service in
-//! order: no connection is accepted any more, sessions answer what has come, and what is left of them after a grace is cut off. Then the tallies of the handlers are settled against the hub's history. [`serve_open_journaled`] serves on the hub of a
-//! journal, by one worker, and settles the calls since.
+//! order: no connection is accepted any more, sessions answer what has come, and what is left of them after a grace is cut off. Then the
+//! tallies of the handlers are settled against the hub's history. [`serve_open_journaled`] serves on the hub of a journal, by one
+//! worker, and settles the calls since.
 //!
 //! # What is promised
 //!

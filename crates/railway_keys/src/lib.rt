@@ -59,8 +59,6 @@ mod hello;
 mod hello_writer;
 mod keyed;
 mod table;
-#[cfg(test)]
-mod tests;
 mod told;
 
 pub use admission::Admission;

@@ -3,7 +3,7 @@ use Rattle.std.proofs.Common.{◌≡◌, ap}
 use Rattle.hub_shared.specs.declared.settling.SettleFault.{SettleFault}
 use Rattle.hub_shared.specs.declared.settling.SettleFault.TheVariants as of_settling
 use Rattle.server_faults.specs.declared.fault.ServerFault.{ServerFault}
-use Rattle.server_faults.specs.declared.fault.ServerFault.TheVariants.{NotSettled}
+use Rattle.server_faults.specs.declared.fault.ServerFault.TheVariants.{NotSettled, Journal}
 use Rattle.server_faults.specs.Faults.{fault_of_settling}
 
 -- in which respect it did not settle
@@ -19,3 +19,6 @@ why_is (of_settling.Foreign a b) why is = ap why_of is
 why_is (of_settling.Earlier a b) why is = ap why_of is
 why_is (of_settling.Twice a) why is = ap why_of is
 why_is (of_settling.OutOfOrder a b) why is = ap why_of is
+
+pub no_journal : (why : SettleFault) → Journal ≡ NotSettled why → ⊥
+no_journal why is = cc is

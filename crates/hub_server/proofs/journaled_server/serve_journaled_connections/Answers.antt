@@ -1,7 +1,9 @@
 use Rattle.std.proofs.Common.{◌∙◌, ◌≡◌, length, refl, sym, subst, arith, ap}
 use Rattle.std.proofs.lemmas.Result.{err_from_is_err_and}
+use Rattle.journal.specs.Journals.{lines_of, has_failed}
 use Rattle.journaled_hub.specs.HistoryLines.{lines_of_history}
 use Rattle.hub_shifts.specs.declared.shift.Shift.{Shift}
+use Rattle.server_faults.proofs.FaultLemmas.{no_journal}
 use Rattle.hub_server.specs.Settled.{IsSettledShift}
 use Rattle.hub_server.proofs.SettledLemmas.{settled, unsettled, no_shift, no_end, fits}
 use Rattle.hub_server.proofs.journaled_server.serve_journaled_connections.Goals as goal
@@ -15,7 +17,8 @@ returns-clause-settled g c =
 
 pub returns-clause-durable : goal.returns-clause-durable
 returns-clause-durable g c =
-    c.in-Ok.ensures.journal.on_disk (sym c.has_failed.ensures ∙ c.if-has_failed.false) ∙ ap (λ (s : Shift). lines_of_history s.hub) (sym c.in_ok-settled.ensures.same)
+    let same = c.in_ok-journal.ensures.same in
+    ap lines_of same ∙ c.in-Ok.ensures.journal.on_disk (ap has_failed (sym same) ∙ c.in_ok-journal.ensures.ok) ∙ ap (λ (s : Shift). lines_of_history s.hub) (sym c.in_ok-settled.ensures.same)
 
 pub returns-in_err-connections-clause-not_settled : goal.returns-in_err-connections-clause-not_settled
 returns-in_err-connections-clause-not_settled g c =
@@ -24,6 +27,11 @@ returns-in_err-connections-clause-not_settled g c =
 
 pub returns-in-Err-clause-not_settled : goal.returns-in-Err-clause-not_settled
 returns-in-Err-clause-not_settled g c = λ why is. absurd (no_end _ why (sym c.fault_of_shift.ensures ∙ is))
+
+pub returns-in_err-journal-clause-not_settled : goal.returns-in_err-journal-clause-not_settled
+returns-in_err-journal-clause-not_settled g c =
+    let p = err_from_is_err_and c.from_residual-in_err-journal.result c.from_residual-in_err-journal.ensures.1 in
+    rw (p.1, p.2) (λ why is. absurd (no_journal why (sym c.in_err-journal.ensures.err ∙ is)))
 
 pub returns-in_err-settled-clause-not_settled : goal.returns-in_err-settled-clause-not_settled
 returns-in_err-settled-clause-not_settled g c =

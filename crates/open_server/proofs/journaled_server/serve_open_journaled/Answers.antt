@@ -1,8 +1,10 @@
 use Rattle.std.proofs.Common.{rules, arith, ◌∙◌, sym, subst, ap}
 use Rattle.std.proofs.lemmas.Result.{err_from_is_err_and}
+use Rattle.journal.specs.Journals.{lines_of, has_failed}
 use Rattle.journaled_hub.specs.HistoryLines.{lines_of_history}
 use Rattle.hub_service.specs.declared.service.Service.{Service}
 use Rattle.hub_service.specs.JournaledServices.{IsJournaledService}
+use Rattle.server_faults.proofs.FaultLemmas.{no_journal}
 use Rattle.open_server.specs.Settled.{IsSettledService}
 use Rattle.open_server.proofs.SettledLemmas.{settled, unsettled, no_memory, no_threads, fits}
 use Rattle.open_server.proofs.journaled_server.serve_open_journaled.Goals as goal
@@ -16,7 +18,8 @@ returns-clause-settled g c =
 pub returns-clause-durable : goal.returns-clause-durable
 returns-clause-durable g c =
     let run : IsJournaledService c.args.listening.queue.limits.handlers c.args.hub c.in-Ok.journaled = search rules in
-    run.journal.on_disk (sym c.has_failed.ensures ∙ c.if-has_failed.false) ∙ ap (λ (s : Service). lines_of_history s.hub) (sym c.in_ok-settled.ensures.same)
+    let same = c.in_ok-journal.ensures.same in
+    ap lines_of same ∙ run.journal.on_disk (ap has_failed (sym same) ∙ c.in_ok-journal.ensures.ok) ∙ ap (λ (s : Service). lines_of_history s.hub) (sym c.in_ok-settled.ensures.same)
 
 pub returns-in_err-handlers-clause-not_settled : goal.returns-in_err-handlers-clause-not_settled
 returns-in_err-handlers-clause-not_settled g c =
@@ -25,6 +28,11 @@ returns-in_err-handlers-clause-not_settled g c =
 
 pub returns-in-Err-clause-not_settled : goal.returns-in-Err-clause-not_settled
 returns-in-Err-clause-not_settled g c = λ why is. absurd (no_threads _ why (sym c.fault_of_threads.ensures ∙ is))
+
+pub returns-in_err-journal-clause-not_settled : goal.returns-in_err-journal-clause-not_settled
+returns-in_err-journal-clause-not_settled g c =
+    let p = err_from_is_err_and c.from_residual-in_err-journal.result c.from_residual-in_err-journal.ensures.1 in
+    rw (p.1, p.2) (λ why is. absurd (no_journal why (sym c.in_err-journal.ensures.err ∙ is)))
 
 pub returns-in_err-settled-clause-not_settled : goal.returns-in_err-settled-clause-not_settled
 returns-in_err-settled-clause-not_settled g c =

@@ -1,9 +1,9 @@
 //! Tests of keys, of their files, of guards and of the writers behind them. Each digest is what `printf %s KEY | sha256sum` gives.
-use crate::{
+use connections::Connections;
+use railway_keys::{
     Admission, HelloWriter, KeyDigest, KeyFileFault, KeyGuard, KeyLineFault, KeyTable,
     KeyedConnections,
 };
-use connections::Connections;
 use std::alloc::Global;
 use std::test::Fail;
 use taf_codes::{Failed, Failures, Railway, Sink, Source, Std};

@@ -43,7 +43,7 @@ fn a_quiet_session_ends_with_the_service(rt: HostRuntime) -> Result<(), Fail> {
     Ok(())
 }
 
-// Whether it sends until nothing more is taken for a fifth of a second.
+// Whether it sends until nothing more is taken for a second.
 fn send_all<T: Write, R: Clock>(rt: &R, client: &mut T) -> bool {
     let bytes = [b'a'; 4096];
     let mut refused = 0u32;
@@ -56,7 +56,7 @@ fn send_all<T: Write, R: Clock>(rt: &R, client: &mut T) -> bool {
             }
             Err(_) => return false,
         }
-        if refused == 10 {
+        if refused == 50 {
             return true;
         }
     }
