@@ -1,5 +1,6 @@
 ghost use Rattle.std.specs.Prelude.{◌≡◌, ◌↔◌, ◌<◌, ◌≤◌, [], ◌∷◌, ◌++◌, List, length, map, take, drop, slice_get, option_copied, IfOk, IfErr, OnErr, IsTrue, Err};
 ghost use Rattle.hub_model.specs.Replies.{records_of, view};
+ghost use Rattle.hub_answers.specs.Shown.{shown_of, shown_to};
 ghost use Rattle.hub_model.specs.Histories.{IsLegal, answer, run, state_of};
 ghost use Rattle.hub_model.specs.Bounds.{AreWithinLimits};
 ghost use Rattle.hub_model.specs.Laws.{AreDated};
@@ -9,14 +10,15 @@ ghost use Rattle.hub_core.specs.Faults.{IsFault};
 use crate::applying::apply_call;
 use crate::state::State;
 use crate::view::View;
-use hub_answers::{apart, view_part};
+use hub_answers::{ShownWagon, apart, ask, shown_part, shown_wagon, view_part};
 use hub_model::{Entry, histories_are_runs};
 use seeded_state::SeededState;
 use std::alloc::Global;
 use std::marker::Model;
-use taf_codes::Memory;
+use taf_codes::{Memory, Railway};
 use taf_messages::{Call, Reply};
 use tallies::HubFault;
+use wagon_number::WagonNumber;
 
 /// The most calls that a hub takes.
 pub(crate) const MAX_CALLS: usize = 1_000_000;
@@ -137,6 +139,38 @@ impl Hub {
     {
         let records = view_part(self.alloc, &self.state.tables, from, most)?;
         Ok(View::from_vec(records))
+    }
+
+    /// The reply that a railway's question for a wagon would get. It is not entered.
+    pub fn asked(&self, by: Railway, wagon: WagonNumber) -> Result<Reply, Memory>
+        ensures { IfOk result (λ r. r ≡ answer self.now (Call.Ask by wagon)) }
+    {
+        ask(self.alloc, &self.state.tables, by, wagon)
+    }
+
+    /// A wagon as a railway is shown it without a question, if it may see it.
+    pub fn shown_wagon(
+        &self,
+        by: Railway,
+        wagon: WagonNumber,
+    ) -> Result<Option<ShownWagon>, Memory>
+        ensures { IfOk result (λ r. r ≡ shown_of (state_of self.now) by wagon) }
+    {
+        shown_wagon(self.alloc, &self.state.tables, by, wagon)
+    }
+
+    /// What a railway may see of planned wagons: of at most so many, from this place on of the order of [`Hub::view`], which is
+    /// counted from 0.
+    pub fn shown_part(
+        &self,
+        by: Railway,
+        from: usize,
+        most: usize,
+    ) -> Result<Vec<ShownWagon>, Memory>
+        ensures { let s = state_of self.now in
+            IfOk result (λ v. v.items ≡ shown_to s by (take most (drop from s.fleet))) }
+    {
+        shown_part(self.alloc, &self.state.tables, by, from, most)
     }
 
     /// Whether both calls are sends whose messages may come in either order: they share no wagon,

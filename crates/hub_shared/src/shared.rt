@@ -1,15 +1,20 @@
 //! The hub that threads share.
 ghost use Rattle.std.specs.Prelude.{◌≡◌, ◌<◌, length, sum_by, IfOk, IfErr, OnOk, OnErr};
 ghost use Rattle.hub_shared.specs.Seats.{IsRun, IsAnswerInRun, IsFaultInRun, new_seat, after_answer, after_fault};
+ghost use Rattle.hub_shared.specs.Looks.{IsAskedInRun, IsShownInRun, IsLook};
 
 use crate::booked::{Booked, serve_one};
+use crate::looks::{Look, ask_in, look_in, shown_in};
 use crate::seat::Seat;
+use hub_answers::ShownWagon;
 use hub_core::{Hub, HubFault};
 use seeded_state::SeededState;
 use std::alloc::Global;
 use std::sync::ledger::{Blank, Ledger};
 use std::sync::{Mutex, Wait};
+use taf_codes::{Memory, Railway};
 use taf_messages::{Call, Reply};
+use wagon_number::WagonNumber;
 
 /// A hub that threads share, one call at a time.
 #[derive(Drop)]
@@ -60,6 +65,41 @@ impl<L: Ledger> SharedHub<L> {
         ensures refused { OnErr result (seat.new ≡ after_fault seat.old) }
     {
         serve_one(&mut *self.booked.lock(rt), seat, call)
+    }
+
+    /// Takes the lock, which may wait, and gives the reply that the railway's question for the wagon would get then. No call is
+    /// made. Want of memory is the only error.
+    pub fn asked(&self, rt: &impl Wait, by: Railway, wagon: WagonNumber) -> Result<Reply, Memory>
+        ensures { IfOk result (IsAskedInRun by wagon) }
+    {
+        ask_in(&*self.booked.lock(rt), by, wagon)
+    }
+
+    /// Takes the lock, which may wait, and gives the wagon as the railway is shown it then, if it may see it. No call is made. Want
+    /// of memory is the only error.
+    pub fn shown_wagon(
+        &self,
+        rt: &impl Wait,
+        by: Railway,
+        wagon: WagonNumber,
+    ) -> Result<Option<ShownWagon>, Memory>
+        ensures { IfOk result (IsShownInRun by wagon) }
+    {
+        shown_in(&*self.booked.lock(rt), by, wagon)
+    }
+
+    /// Takes the lock, which may wait, and gives what the railway may see of at most so many planned wagons, from this place of
+    /// their order on. No call is made. Want of memory is the only error.
+    pub fn look(
+        &self,
+        rt: &impl Wait,
+        by: Railway,
+        from: usize,
+        most: usize,
+    ) -> Result<Look, Memory>
+        ensures { IfOk result (IsLook by from most) }
+    {
+        look_in(&*self.booked.lock(rt), by, from, most)
     }
 
     /// The hub, and the sum of the counts of all seats, which is the length of its history. The seats have to have all
