@@ -6,7 +6,7 @@ ghost use Rattle.journaled_hub.specs.JournaledHubs.{history_of, IsOnDisk};
 ghost use Rattle.hub_shared.specs.declared.settling.SettleFault.{SettleFault};
 ghost use Rattle.open_server.specs.Settled.{IsSettledService, IsUnsettledService};
 
-use crate::acceptor::run_with_acceptor;
+use crate::acceptor::AcceptThread;
 use crate::handlers::handler_starts;
 use crate::keeper::InputKeeper;
 use crate::listening::Listening;
@@ -14,6 +14,7 @@ use crate::server::fault_of_threads;
 use hub_service::{JournaledService, SettledService, run_journaled_service, settle_service};
 use journal::{Journal, RawFile};
 use journaled_hub::JournaledHub;
+use hub_threads::run_beside;
 use server_faults::{ServerFault, sound_journal};
 use std::alloc::Global;
 use std::io::Read;
@@ -37,30 +38,31 @@ pub struct SettledJournaledService<F> {
 pub fn serve_open_journaled<F, I, R>(
     rt: &R,
     alloc: Global,
-    listening: Listening,
+    listening: &Listening,
     input: I,
     hub: JournaledHub<F>,
 ) -> Result<SettledJournaledService<F>, ServerFault>
 where
     F: RawFile + Send + Drop,
-    I: Read + Drop,
+    I: Read + Send + Drop,
     R: Threads + Wait + Clock + Sync + RandomSource,
     requires { IsOnDisk hub }
-    ensures settled { IfOk result (λ s. IsSettledService listening.queue.limits.handlers 1
+    ensures settled { IfOk result (λ s. IsSettledService listening.now.queue.limits.handlers 1
         s.settled.service s.settled.calls) }
     ensures earlier { IfOk result (λ s. s.settled.service.earlier ≡ length (history_of hub)) }
     ensures sound { IfOk result (λ s. has_failed s.journal ≡ false) }
     ensures durable { IfOk result
         (λ s. lines_of s.journal ≡ lines_of_history s.settled.service.hub) }
     ensures not_settled { IfErr result (λ f. (why : SettleFault) → f ≡ ServerFault.NotSettled why
-        → IsUnsettledService listening.queue.limits.handlers 1 why) }
+        → IsUnsettledService listening.now.queue.limits.handlers 1 why) }
 {
-    let handlers = handler_starts(rt, alloc, &listening)?;
-    let keeper = InputKeeper::new(rt, &listening, input);
+    let handlers = handler_starts(rt, alloc, listening)?;
+    let keeper = InputKeeper::new(rt, listening, input);
     let keeper = &keeper;
-    let run = run_with_acceptor(
+    let acceptor = AcceptThread { rt, listening };
+    let run = run_beside(
         rt,
-        &listening,
+        &acceptor,
         move ||
             requires handlers { (1 ≤ vec_len handlers) × (vec_len handlers ≤ 64) }
             requires on_disk { IsOnDisk hub }

@@ -4,11 +4,12 @@ ghost use Rattle.hub_shared.specs.declared.settling.SettleFault.{SettleFault};
 ghost use Rattle.open_server.specs.Faults.{fault_of_threads};
 ghost use Rattle.open_server.specs.Settled.{IsSettledService, IsUnsettledService};
 
-use crate::acceptor::run_with_acceptor;
+use crate::acceptor::AcceptThread;
 use crate::handlers::handler_starts;
 use crate::keeper::InputKeeper;
 use crate::listening::Listening;
 use hub_service::{Hooks, SettledService, ThreadFault, run_service, settle_service};
+use hub_threads::run_beside;
 use hub_workers::OpenGate;
 use server_faults::ServerFault;
 use std::alloc::Global;
@@ -27,25 +28,26 @@ use std::thread::Threads;
 pub fn serve_open<I, R>(
     rt: &R,
     alloc: Global,
-    listening: Listening,
+    listening: &Listening,
     input: I,
     workers: usize,
 ) -> Result<SettledService, ServerFault>
 where
-    I: Read + Drop,
+    I: Read + Send + Drop,
     R: Threads + Wait + Clock + Sync + RandomSource,
     requires workers { (1 ≤ workers) × (workers ≤ 8) }
     ensures settled { IfOk result (λ s.
-        IsSettledService listening.queue.limits.handlers workers s.service s.calls) }
+        IsSettledService listening.now.queue.limits.handlers workers s.service s.calls) }
     ensures not_settled { IfErr result (λ f. (why : SettleFault) → f ≡ ServerFault.NotSettled why
-        → IsUnsettledService listening.queue.limits.handlers workers why) }
+        → IsUnsettledService listening.now.queue.limits.handlers workers why) }
 {
-    let handlers = handler_starts(rt, alloc, &listening)?;
-    let keeper = InputKeeper::new(rt, &listening, input);
+    let handlers = handler_starts(rt, alloc, listening)?;
+    let keeper = InputKeeper::new(rt, listening, input);
     let keeper = &keeper;
-    let run = run_with_acceptor(
+    let acceptor = AcceptThread { rt, listening };
+    let run = run_beside(
         rt,
-        &listening,
+        &acceptor,
         move ||
             requires handlers { (1 ≤ vec_len handlers) × (vec_len handlers ≤ 64) }
             requires workers { (1 ≤ workers) × (workers ≤ 8) }
