@@ -60,7 +60,7 @@ abbrev pub IsList : ℕ → Request (List ℕ) → Railway → (List ShownWagon 
 IsList run q by text r =
     (now : HubCounts) × AreCounts now
     × (((value_of q (codes "if-none-match") ≡ Some (tag_of run now.calls)) × IsResponse 304 (tagged (kept_fields (codes "no-store")) run now.calls) [] r)
-        ⊎ ((seen : List ShownWagon) × IsFleetSeen by now.wagons seen × IsResponse 200 (tagged data_fields run now.calls) (as_line (text seen)) r))
+    ⊎ ((seen : List ShownWagon) × IsFleetSeen by now.wagons seen × IsResponse 200 (tagged data_fields run now.calls) (as_line (text seen)) r))
 
 -- ---- resources
 

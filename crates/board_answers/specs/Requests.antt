@@ -28,9 +28,13 @@ value_of q name = option_map (λ value. value.bytes) (get (head_of q).headers na
 abbrev pub asked_path : Request (List ℕ) → List ℕ
 asked_path q = uri_path (head_of q).uri
 
+-- it is one of these hosts
+abbrev pub is_host_of : List (String Global) → List ℕ → Bool
+is_host_of hosts host = list_any (λ own. bytes_eq (string_bytes own) host) hosts
+
 abbrev pub is_one_of : List (String Global) → Option (List ℕ) → Bool
 is_one_of hosts None = false
-is_one_of hosts (Some host) = list_any (λ own. bytes_eq (string_bytes own) host) hosts
+is_one_of hosts (Some host) = is_host_of hosts host
 
 -- the host that is asked for is one of the board's
 abbrev pub is_own_host : AccessState → Request (List ℕ) → Bool
@@ -40,9 +44,12 @@ is_own_host access q = is_one_of access.hosts (value_of q (codes "host"))
 abbrev pub is_page_of : List ℕ → List ℕ → Bool
 is_page_of origin host = bytes_eq origin (codes "http://" ++ host)
 
+abbrev pub is_page_of_any : List (String Global) → List ℕ → Bool
+is_page_of_any hosts origin = list_any (λ own. is_page_of origin (string_bytes own)) hosts
+
 abbrev pub is_page_of_one : List (String Global) → Option (List ℕ) → Bool
 is_page_of_one hosts None = true
-is_page_of_one hosts (Some origin) = list_any (λ own. is_page_of origin (string_bytes own)) hosts
+is_page_of_one hosts (Some origin) = is_page_of_any hosts origin
 
 -- what asks is no page, or one of the board
 abbrev pub is_own_origin : AccessState → Request (List ℕ) → Bool

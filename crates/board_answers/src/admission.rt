@@ -1,6 +1,6 @@
 //! Whether a request is answered.
 ghost use Rattle.std.specs.Prelude.{◌≡◌, option_copied, MatchResult};
-ghost use Rattle.board_answers.specs.Requests.{IsAdmitted, IsRefused, is_own_host, is_own_origin, is_page_of, is_reading, is_let_in, owner_of, key_of};
+ghost use Rattle.board_answers.specs.Requests.{IsAdmitted, IsRefused, is_host_of, is_own_host, is_own_origin, is_page_of, is_page_of_any, is_reading, is_let_in, owner_of, key_of};
 
 use crate::access::Access;
 use crate::refusal::Refusal;
@@ -38,12 +38,16 @@ fn is_own_host(access: &Access<'_>, request: &Request<Bytes>) -> bool
     ensures { result ≡ is_own_host access.now request.now }
 {
     match request.headers().get(header::HOST) {
-        Some(host) => access
-            .hosts
-            .iter()
-            .any(|own| own.as_bytes() == host.as_bytes()),
+        Some(host) => is_host_of(access.hosts, host.as_bytes()),
         None => false,
     }
+}
+
+// Whether this is one of the hosts.
+fn is_host_of(hosts: &[String], host: &[u8]) -> bool
+    ensures { result ≡ is_host_of hosts.now host.now }
+{
+    hosts.iter().any(|own| own.as_bytes() == host)
 }
 
 // Whether the request is of a page of the board, or of none.
@@ -51,9 +55,16 @@ fn is_own_origin(access: &Access<'_>, request: &Request<Bytes>) -> bool
     ensures { result ≡ is_own_origin access.now request.now }
 {
     match request.headers().get(header::ORIGIN) {
-        Some(origin) => access.hosts.iter().any(|own| is_page_of(origin.as_bytes(), own.as_str())),
+        Some(origin) => is_page_of_any(access.hosts, origin.as_bytes()),
         None => true,
     }
+}
+
+// Whether the origin is that of one of these hosts, by http.
+fn is_page_of_any(hosts: &[String], origin: &[u8]) -> bool
+    ensures { result ≡ is_page_of_any hosts.now origin.now }
+{
+    hosts.iter().any(|own| is_page_of(origin, own.as_str()))
 }
 
 // Whether the origin is that of this host, by http.

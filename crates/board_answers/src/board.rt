@@ -1,6 +1,6 @@
 //! Each request to its answer.
 ghost use Rattle.std.specs.Prelude.{◌≡◌, [], ◌++◌, codes, Some, IsTrue, OnOk};
-ghost use Rattle.http_server.specs.Response.{IsBlank, IsResponse};
+ghost use Rattle.http_server.specs.Response.{IsBlank, IsResponse, fields_of};
 ghost use Rattle.board_answers.specs.Answers.{AreMetrics, IsAnswered, IsList, Shows, SaysRefusal, data_fields, page_fields, status_for, text_of, typed_fields};
 ghost use Rattle.board_answers.specs.Requests.{value_of};
 
@@ -163,8 +163,22 @@ fn show_page(response: &mut Response) -> Result<(), Memory>
     ensures { OnOk result (IsResponse 200 page_fields (HEAD.now ++ TAIL.now) response.new) }
 {
     begin_page(response)?;
-    response.body.push(Bytes::from_static(HEAD.as_bytes()))?;
-    Ok(response.body.push(Bytes::from_static(TAIL.as_bytes()))?)
+    Ok(give_page(response, HEAD, TAIL)?)
+}
+
+// Gives an answer that has none yet its body, in two parts.
+fn give_page(
+    response: &mut Response,
+    head: &'static str,
+    tail: &'static str,
+) -> Result<(), AllocError>
+    requires { response.old.body.items ≡ [] }
+    ensures body { OnOk result (response.new.body.items ≡ head.now ++ tail.now) }
+    ensures fields { fields_of response.new ≡ fields_of response.old }
+    ensures status { response.new.status ≡ response.old.status }
+{
+    response.body.push(Bytes::from_static(head.as_bytes()))?;
+    response.body.push(Bytes::from_static(tail.as_bytes()))
 }
 
 // Begins the answer that has the page.
@@ -184,7 +198,11 @@ fn show_wagon(response: &mut Response, line: WagonLine) -> Result<(), Memory>
         (IsResponse (status_for line.is_shown) data_fields line.text.items response.new) }
 {
     let WagonLine { text, is_shown } = line;
-    let status = if is_shown { StatusCode::OK } else { StatusCode::NOT_FOUND };
+    let status = if is_shown {
+        StatusCode::OK
+    } else {
+        StatusCode::NOT_FOUND
+    };
     begin_typed(response, status, JSON)?;
     give(response, text)
 }

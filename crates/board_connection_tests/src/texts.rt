@@ -1,4 +1,5 @@
 //! A service of a few texts, and its clients.
+ghost use Rattle.std.specs.Prelude.{◌≡◌};
 
 use board_connections::{BoardListener, LimitedService, Limits, ServingEnd};
 use bytes::Bytes;
@@ -41,11 +42,13 @@ impl Texts {
 }
 
 impl Service for Texts {
-    ghost answers = { λ _ _ _ _. Unit {0} };
+    ghost answers = { λ old _ _ new. new ≡ old };
 
-    fn call(&mut self, request: &Request<Bytes>, response: &mut Response) -> Result<(), AllocError>
-        ensures err { OnErr result (self.new ≡ self.old) }
-    {
+    fn call(
+        &mut self,
+        request: &Request<Bytes>,
+        response: &mut Response,
+    ) -> Result<(), AllocError> {
         match request.uri().path() {
             "/short" => response
                 .body

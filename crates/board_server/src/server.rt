@@ -1,6 +1,6 @@
 //! The board of a hub.
 use board_answers::{Access, Board};
-use board_connections::{BoardListener, Limits, LimitedService, ServingEnd};
+use board_connections::{BoardListener, LimitedService, Limits, ServingEnd};
 use hub_shared::HubLooks;
 use railway_keys::KeyTable;
 use std::alloc::{AllocGlobal, Global};

@@ -1,9 +1,9 @@
 //! A board, and requests to it.
 use board_answers::{Access, Board};
+use http_server::{Config, Connection, serve};
 use hub_core::Hub;
 use hub_replay::run;
 use hub_shared::OwnLooks;
-use http_server::{Config, Connection, serve};
 use railway_keys::KeyTable;
 use std::alloc::Global;
 use std::hash::RandomState;

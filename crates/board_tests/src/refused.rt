@@ -6,8 +6,16 @@ use std::test::*;
 
 // The lines of a request, the status of its answer and a line that it has.
 static REFUSED: [(&str, &str, &str); 8] = [
-    ("GET /health HTTP/1.1\r\nhost: evil.example:7080\r\n", "421", ""),
-    ("GET /health HTTP/1.1\r\nhost: 127.0.0.1:7081\r\n", "421", ""),
+    (
+        "GET /health HTTP/1.1\r\nhost: evil.example:7080\r\n",
+        "421",
+        "",
+    ),
+    (
+        "GET /health HTTP/1.1\r\nhost: 127.0.0.1:7081\r\n",
+        "421",
+        "",
+    ),
     (
         "GET /R100/wagons.json HTTP/1.1\r\nhost: 127.0.0.1:7080\r\norigin: http://evil.example\r\n",
         "403",
@@ -25,7 +33,11 @@ static REFUSED: [(&str, &str, &str); 8] = [
     ),
     ("GET /R100 HTTP/1.1\r\nhost: 127.0.0.1:7080\r\n", "404", ""),
     ("GET /r100/ HTTP/1.1\r\nhost: 127.0.0.1:7080\r\n", "404", ""),
-    ("GET /R100/wagons.json/ HTTP/1.1\r\nhost: 127.0.0.1:7080\r\n", "404", ""),
+    (
+        "GET /R100/wagons.json/ HTTP/1.1\r\nhost: 127.0.0.1:7080\r\n",
+        "404",
+        "",
+    ),
 ];
 
 #[test]
@@ -46,12 +58,32 @@ static KEYS: &str = "R100 edc77e5b0841753cfaf348c4f1c08a3d8dd80d2a5e6cab9bb7201d
 
 // A path, a field and the status.
 static KEYED: [(&str, &str, &str); 7] = [
-    ("/R100/wagons.json", "authorization: Bearer green-signal-101\r\n", "200"),
-    ("/R100/wagons/218124712173/legs.json", "authorization: Bearer green-signal-101\r\n", "200"),
-    ("/R100/wagons.json", "authorization: Bearer green-signal-10\r\n", "401"),
-    ("/R100/wagons.json", "authorization: green-signal-101\r\n", "401"),
+    (
+        "/R100/wagons.json",
+        "authorization: Bearer green-signal-101\r\n",
+        "200",
+    ),
+    (
+        "/R100/wagons/218124712173/legs.json",
+        "authorization: Bearer green-signal-101\r\n",
+        "200",
+    ),
+    (
+        "/R100/wagons.json",
+        "authorization: Bearer green-signal-10\r\n",
+        "401",
+    ),
+    (
+        "/R100/wagons.json",
+        "authorization: green-signal-101\r\n",
+        "401",
+    ),
     ("/R100/legs.json", "", "401"),
-    ("/R101/wagons.json", "authorization: Bearer green-signal-101\r\n", "401"),
+    (
+        "/R101/wagons.json",
+        "authorization: Bearer green-signal-101\r\n",
+        "401",
+    ),
     ("/R100/", "", "200"),
 ];
 

@@ -21,11 +21,17 @@ use test_scripts::Script;
 const FOUND: &str = "HTTP/1.1 200 OK\r\n";
 
 // What is shown of the wagon that is planned: the reply that the question of its lead would get.
-const SHOWN: &str = r#"{"record":{"commit":"2025-03-01T15:30Z","consignment":"C-1","estimates":[],"eta":null,"events":[{"by":"R100","kind":"plan","no":1}],"late":false,"lead":"R100","leg":0,"load":"loaded","place":"DE00001","responsible":null,"stage":"planned","status":"loading","wagon":"218124712173"},"reply":"record"}
+const SHOWN: &str =
+    r#"{"record":{"commit":"2025-03-01T15:30Z","consignment":"C-1","estimates":[],"eta":null,"events":[{"by":"R100","kind":"plan","no":1}],"late":false,"lead":"R100","leg":0,"load":"loaded","place":"DE00001","responsible":null,"stage":"planned","status":"loading","wagon":"218124712173"},"reply":"record"}
 "#;
 
 // The answer of the board to a request for a path.
-fn answer_of<R: Net>(rt: &R, alloc: Global, address: SocketAddr, path: &str) -> io::Result<Vec<u8>> {
+fn answer_of<R: Net>(
+    rt: &R,
+    alloc: Global,
+    address: SocketAddr,
+    path: &str,
+) -> io::Result<Vec<u8>> {
     let port = address.port();
     let request = format!(in alloc;
         "GET {path} HTTP/1.1\r\nhost: 127.0.0.1:{port}\r\nconnection: close\r\n\r\n"
@@ -66,7 +72,8 @@ where
     let (shown, ended) = thread::join(
         rt,
         || {
-            let shown = is_answered_there(rt, alloc, address, &script) && is_shown(rt, alloc, board);
+            let shown = is_answered_there(rt, alloc, address, &script)
+                && is_shown(rt, alloc, board);
             drop(until);
             shown
         },

@@ -32,12 +32,7 @@ impl Display for Served {
 }
 
 /// Listens on the port of this machine alone, serves one shift there, with its board, if it has one, and prints what it comes to.
-pub fn perform<R, W, E>(
-    rt: &R,
-    shift: ShiftOptions,
-    output: W,
-    errors: &mut E,
-) -> Result<u8, Fault>
+pub fn perform<R, W, E>(rt: &R, shift: ShiftOptions, output: W, errors: &mut E) -> Result<u8, Fault>
 where
     R: Net + Threads + Wait + Clock + Sync + RandomSource + AllocGlobal,
     R::Stream: Send,

@@ -148,11 +148,7 @@ impl Hub {
     }
 
     /// A wagon as a railway is shown it without a question, if it may see it.
-    pub fn shown_wagon(
-        &self,
-        by: Railway,
-        wagon: WagonNumber,
-    ) -> Result<Option<ShownWagon>, Memory>
+    pub fn shown_wagon(&self, by: Railway, wagon: WagonNumber) -> Result<Option<ShownWagon>, Memory>
         ensures { IfOk result (λ r. r ≡ shown_of (state_of self.now) by wagon) }
     {
         shown_wagon(self.alloc, &self.state.tables, by, wagon)

@@ -51,9 +51,7 @@ pub(crate) struct SharedKeeper<'r, 'h, 'k, L: Ledger, D, R> {
     pub keeper: &'k D,
 }
 
-impl<'r, 'h, 'k, L: Ledger, D: HubKeeper, R: Wait> Keeper
-    for SharedKeeper<'r, 'h, 'k, L, D, R>
-{
+impl<'r, 'h, 'k, L: Ledger, D: HubKeeper, R: Wait> Keeper for SharedKeeper<'r, 'h, 'k, L, D, R> {
     fn keep(&self) {
         self.keeper.keep();
     }

@@ -31,10 +31,10 @@ use std::thread::Threads;
 /// workers in threads of their own.
 ///
 /// What is lent has the gate that each job passes before its call. Thread `i` puts its jobs into the lane of worker `i mod workers`.
-/// The calling thread does what the keeper does, which may look at the hub in one thread more, and then waits until each thread that serves has ended and the workers have made all
-/// calls that were left. All memory that is taken here is taken before the first thread starts: where it is refused, the answer is
-/// [`ThreadFault::Memory`]. None serves before all threads are there: where one can't be started the others end at once, and the
-/// answer is [`ThreadFault::Thread`]. After either fault no thread is left, and there is no hub.
+/// The calling thread does what the keeper does, which may look at the hub in one thread more, and then waits until each thread that
+/// serves has ended and the workers have made all calls that were left. All memory that is taken here is taken before the first thread
+/// starts: where it is refused, the answer is [`ThreadFault::Memory`]. None serves before all threads are there: where one can't be
+/// started the others end at once, and the answer is [`ThreadFault::Thread`]. After either fault no thread is left, and there is no hub.
 pub fn serve_hub<H, S, K, G, D, R>(
     rt: &R,
     alloc: Global,

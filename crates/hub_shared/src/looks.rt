@@ -53,12 +53,7 @@ pub trait HubLooks {
         ensures { IfOk result AreCounts };
 
     /// What the railway may see of at most so many planned wagons, from this place of their order on, which is counted from 0.
-    fn fleet(
-        &self,
-        by: Railway,
-        from: usize,
-        most: usize,
-    ) -> Result<Vec<ShownWagon>, LookFault>
+    fn fleet(&self, by: Railway, from: usize, most: usize) -> Result<Vec<ShownWagon>, LookFault>
         ensures { IfOk result (λ seen. IsFleetLook by from most seen.items) };
 
     /// What the railway is told and shown of a wagon.
@@ -84,12 +79,7 @@ impl<'h, L: Ledger, R: Wait> HubLooks for SharedLooks<'h, L, R> {
         Ok(self.hub.counts(self.rt))
     }
 
-    fn fleet(
-        &self,
-        by: Railway,
-        from: usize,
-        most: usize,
-    ) -> Result<Vec<ShownWagon>, LookFault> {
+    fn fleet(&self, by: Railway, from: usize, most: usize) -> Result<Vec<ShownWagon>, LookFault> {
         Ok(self.hub.look_at_fleet(self.rt, by, from, most)?)
     }
 
@@ -115,12 +105,7 @@ impl<'h> HubLooks for OwnLooks<'h> {
         Ok(counts_of(self.hub))
     }
 
-    fn fleet(
-        &self,
-        by: Railway,
-        from: usize,
-        most: usize,
-    ) -> Result<Vec<ShownWagon>, LookFault> {
+    fn fleet(&self, by: Railway, from: usize, most: usize) -> Result<Vec<ShownWagon>, LookFault> {
         Ok(look_at_fleet(self.hub, by, from, most)?)
     }
 

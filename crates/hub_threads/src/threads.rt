@@ -57,9 +57,8 @@ impl<W: Drop> Back<W> {
 }
 
 // Runs a thread for each worker and for each that serves, and one for the keeper where it wants one, does meanwhile what the keeper
-// does, and joins them. Once a thread is
-// started nothing returns before all are joined, and memory is refused before the first one starts or not at all. The closure
-// captures all of it at one lifetime, so its two loops stand in one function.
+// does, and joins them. Once a thread is started nothing returns before all are joined, and memory is refused before the first one
+// starts or not at all. The closure captures all of it at one lifetime, so its two loops stand in one function.
 pub(crate) fn run_threads<'x, W, C, H, S, K, D, R>(
     rt: &'x R,
     alloc: Global,
@@ -111,8 +110,8 @@ where
             let (mut serving, mut working) = (serving, working);
             let room = Back::with_room(alloc, sessions.len(), workers.len())?;
             let first = lanes[0].jobs();
-            let mut all_started =
-                !keeper.has_thread() || scope.spawn(move || keeper.run(first)).is_ok();
+            let mut all_started = !keeper.has_thread()
+                || scope.spawn(move || keeper.run(first)).is_ok();
             let mut lane = 0;
             for start in workers {
                 let jobs = lanes[lane].jobs();

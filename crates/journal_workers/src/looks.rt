@@ -206,12 +206,7 @@ impl<'x, R: Wait> HubLooks for JournalLooks<'x, R> {
         }
     }
 
-    fn fleet(
-        &self,
-        by: Railway,
-        from: usize,
-        most: usize,
-    ) -> Result<Vec<ShownWagon>, LookFault> {
+    fn fleet(&self, by: Railway, from: usize, most: usize) -> Result<Vec<ShownWagon>, LookFault> {
         let question = Question::Fleet { by, from, most };
         let Some((asked, seen)) = self.pending.ask(self.rt, self.jobs, question) else {
             return Err(LookFault::Ended);
