@@ -2,14 +2,14 @@
 
 /// The policy under which the page is sent: its style and script by their sums, and nothing from elsewhere.
 pub const POLICY: &str =
-    "default-src 'none'; style-src 'sha256-oQ7cfOCsZUDH+qb6qs2LN+MVRM7k6U0j8pldUwa/jzg='; script-src 'sha256-7NNVa/lUKGJlEHzUSrSNL1pAoLYmptQHQQ5wDrvH/h0='; img-src data:; connect-src 'self'; base-uri 'none'; form-action 'none'; require-trusted-types-for 'script'; trusted-types 'none'; frame-ancestors 'none'";
+    "default-src 'none'; style-src 'sha256-oQ7cfOCsZUDH+qb6qs2LN+MVRM7k6U0j8pldUwa/jzg='; script-src 'sha256-qn5VK4djElYBr3Mf1XhOaxkGRHuRQM46KOB+tnTu068='; img-src data:; connect-src 'self'; base-uri 'none'; form-action 'none'; require-trusted-types-for 'script'; trusted-types 'none'; frame-ancestors 'none'";
 
 /// The page up to where the texts of a finished run are put.
 pub static HEAD: &str = r##"<!doctype html>
 <html lang="en">
 <head>
 <meta charset="utf-8">
-<meta http-equiv="Content-Security-Policy" content="default-src 'none'; style-src 'sha256-oQ7cfOCsZUDH+qb6qs2LN+MVRM7k6U0j8pldUwa/jzg='; script-src 'sha256-7NNVa/lUKGJlEHzUSrSNL1pAoLYmptQHQQ5wDrvH/h0='; img-src data:; connect-src 'self'; base-uri 'none'; form-action 'none'; require-trusted-types-for 'script'; trusted-types 'none'">
+<meta http-equiv="Content-Security-Policy" content="default-src 'none'; style-src 'sha256-oQ7cfOCsZUDH+qb6qs2LN+MVRM7k6U0j8pldUwa/jzg='; script-src 'sha256-qn5VK4djElYBr3Mf1XhOaxkGRHuRQM46KOB+tnTu068='; img-src data:; connect-src 'self'; base-uri 'none'; form-action 'none'; require-trusted-types-for 'script'; trusted-types 'none'">
 <meta name="viewport" content="width=device-width, initial-scale=1">
 <meta name="color-scheme" content="light dark">
 <meta name="referrer" content="no-referrer">
@@ -1398,6 +1398,10 @@ function askForKey() {
   setText(byId("key-why"), keyOf() ? "That is not the key of " + owner + "." : "The hub shows these wagons to " + owner + " alone.");
   keepKey(null);
   isLocked = true;
+  openKeyDialog();
+}
+
+function openKeyDialog() {
   if (!byId("key-dialog").open) byId("key-dialog").showModal();
 }
 
@@ -1454,7 +1458,8 @@ function begin() {
   byId("forget").addEventListener("click", forgetKey);
   byId("skip").addEventListener("click", (event) => { event.preventDefault(); content.focus() });
   byId("key-form").addEventListener("submit", takeKey);
-  byId("key-dialog").addEventListener("cancel", (event) => event.preventDefault());
+  // Escape closes the dialog. As long as the key is wanted it opens again.
+  byId("key-dialog").addEventListener("close", () => { if (isLocked) openKeyDialog() });
   document.addEventListener("copy", copySelected);
   document.addEventListener("selectionchange", () => { if (isWaiting && getSelection().isCollapsed) draw() });
   document.addEventListener("visibilitychange", () => { if (!document.hidden && owner && !isFile && !isLocked) poll() });
