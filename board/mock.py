@@ -1,5 +1,6 @@
 #!/usr/bin/env python3
-"""Stands in for taf_hub while the page of the board is worked on: it serves the page's paths, and takes the records of sessions.
+"""Stands in for taf_hub while the page of the board is worked on: it serves the page's paths, and takes the records of sessions. And it
+writes the page of a finished run.
 
     board/mock.py open --port PORT --board PORT [--keys FILE] [--records FILE]    until standard input ends
     board/mock.py board [--for RAILWAY] < RECORDS > FILE                          the page of a finished run
@@ -108,7 +109,7 @@ class Board(BaseHTTPRequestHandler):
 
     def answer(self):
         # As it was sent: http.server takes slashes away.
-        hub, path = self.server.hub, self.requestline.split(" ")[1]
+        hub, path = self.server.hub, self.requestline.split(" ")[1].split("?")[0]
         port = self.server.server_address[1]
         hosts = (f"127.0.0.1:{port}", f"localhost:{port}")
         if self.headers.get("host") not in hosts:

@@ -2,14 +2,14 @@
 
 /// The policy under which the page is sent: its style and script by their sums, and nothing from elsewhere.
 pub const POLICY: &str =
-    "default-src 'none'; style-src 'sha256-oQ7cfOCsZUDH+qb6qs2LN+MVRM7k6U0j8pldUwa/jzg='; script-src 'sha256-7NNVa/lUKGJlEHzUSrSNL1pAoLYmptQHQQ5wDrvH/h0='; img-src data:; connect-src 'self'; base-uri 'none'; form-action 'none'; require-trusted-types-for 'script'; trusted-types 'none'; frame-ancestors 'none'";
+    "default-src 'none'; style-src 'sha256-uzg/pqd8XQqwjPk9LtW17xu4MgOwHvPq1SQsCgnF9iM='; script-src 'sha256-CIwQR+7TLtWM+br/S4rTPGq3MviUFWZN7lM2i8q+wP0='; img-src data:; connect-src 'self'; base-uri 'none'; form-action 'none'; require-trusted-types-for 'script'; trusted-types 'none'; frame-ancestors 'none'";
 
 /// The page up to where the texts of a finished run are put.
 pub static HEAD: &str = r##"<!doctype html>
 <html lang="en">
 <head>
 <meta charset="utf-8">
-<meta http-equiv="Content-Security-Policy" content="default-src 'none'; style-src 'sha256-oQ7cfOCsZUDH+qb6qs2LN+MVRM7k6U0j8pldUwa/jzg='; script-src 'sha256-7NNVa/lUKGJlEHzUSrSNL1pAoLYmptQHQQ5wDrvH/h0='; img-src data:; connect-src 'self'; base-uri 'none'; form-action 'none'; require-trusted-types-for 'script'; trusted-types 'none'">
+<meta http-equiv="Content-Security-Policy" content="default-src 'none'; style-src 'sha256-uzg/pqd8XQqwjPk9LtW17xu4MgOwHvPq1SQsCgnF9iM='; script-src 'sha256-CIwQR+7TLtWM+br/S4rTPGq3MviUFWZN7lM2i8q+wP0='; img-src data:; connect-src 'self'; base-uri 'none'; form-action 'none'; require-trusted-types-for 'script'; trusted-types 'none'">
 <meta name="viewport" content="width=device-width, initial-scale=1">
 <meta name="color-scheme" content="light dark">
 <meta name="referrer" content="no-referrer">
@@ -147,7 +147,8 @@ dialog {
 dialog::backdrop { background: rgb(0 0 0 / .45) }
 dialog input { width: 100%; margin: .2rem 0 .8rem }
 [hidden] { display: none !important }
-@media (min-width: 80rem) { .sheet.rows { overflow: visible } }
+.sheet.rows.fits { overflow: visible }
+@media screen and (max-width: 90rem) { th, td { padding: .45rem .4rem } }
 @media screen and (max-width: 62rem) { .wide { display: none } }
 @media screen and (max-width: 46rem) {
   .middle { display: none }
@@ -486,7 +487,8 @@ class RowTable {
     this.table = element("table", { onkeydown: (event) => this.key(event) }, this.caption, head, this.body);
     this.counted = element("span", { class: "rows", "aria-live": "polite" });
     this.pager = this.makePager();
-    this.root = element("div", { class: "block" }, element("div", { class: "sheet rows" }, this.table, this.empty), this.pager);
+    this.sheet = element("div", { class: "sheet rows" }, this.table, this.empty);
+    this.root = element("div", { class: "block" }, this.sheet, this.pager);
     tables.add(this);
   }
 
@@ -551,6 +553,8 @@ class RowTable {
     for (const button of this.back) button.setAttribute("aria-disabled", String(this.first === 0));
     for (const button of this.forth) button.setAttribute("aria-disabled", String(this.first === this.lastPage));
     this.heads.forEach((head, i) => this.sortMark(head, this.columns[i]));
+    // Its heads stay in sight where the table is no wider than its sheet. Else it is moved sideways within the sheet.
+    this.sheet.classList.toggle("fits", this.table.offsetWidth <= this.sheet.clientWidth);
   }
 
   // Rows that are there as they would be drawn are left alone: a letter of a search often changes none.
@@ -1398,6 +1402,10 @@ function askForKey() {
   setText(byId("key-why"), keyOf() ? "That is not the key of " + owner + "." : "The hub shows these wagons to " + owner + " alone.");
   keepKey(null);
   isLocked = true;
+  openKeyDialog();
+}
+
+function openKeyDialog() {
   if (!byId("key-dialog").open) byId("key-dialog").showModal();
 }
 
@@ -1454,7 +1462,8 @@ function begin() {
   byId("forget").addEventListener("click", forgetKey);
   byId("skip").addEventListener("click", (event) => { event.preventDefault(); content.focus() });
   byId("key-form").addEventListener("submit", takeKey);
-  byId("key-dialog").addEventListener("cancel", (event) => event.preventDefault());
+  // Escape closes the dialog. As long as the key is wanted it opens again.
+  byId("key-dialog").addEventListener("close", () => { if (isLocked) openKeyDialog() });
   document.addEventListener("copy", copySelected);
   document.addEventListener("selectionchange", () => { if (isWaiting && getSelection().isCollapsed) draw() });
   document.addEventListener("visibilitychange", () => { if (!document.hidden && owner && !isFile && !isLocked) poll() });

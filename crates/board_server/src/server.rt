@@ -10,6 +10,9 @@ use std::random::RandomSource;
 use std::sync::{Mutex, Wait};
 use std::time::{Clock, SystemTime};
 
+// The port of http where none is named.
+const HTTP_PORT: u16 = 80;
+
 /// A listener on a port of 127.0.0.1 that shows the wagons of a hub to browsers.
 #[derive(Drop)]
 pub struct BoardServer {
@@ -28,14 +31,11 @@ impl BoardServer {
     ) -> io::Result<BoardServer> {
         let alloc = rt.alloc();
         let (listener, end) = BoardListener::bind(rt, port, Limits::new())?;
-        let mut hosts = Vec::with_capacity(alloc, 2)?;
-        hosts.push(format!(in alloc; "127.0.0.1:{port}")?)?;
-        hosts.push(format!(in alloc; "localhost:{port}")?)?;
         Ok(BoardServer {
             alloc,
             listener: Mutex::new(Some(listener)),
             end,
-            hosts,
+            hosts: hosts_of(alloc, port)?,
             run: run_number(rt)?,
         })
     }
@@ -63,6 +63,18 @@ impl BoardServer {
     pub fn end(&self) {
         self.end.end();
     }
+}
+
+// How the board is named at this port. Browsers leave out the port of http.
+fn hosts_of(alloc: Global, port: u16) -> io::Result<Vec<String>> {
+    let mut hosts = Vec::with_capacity(alloc, 4)?;
+    hosts.push(format!(in alloc; "127.0.0.1:{port}")?)?;
+    hosts.push(format!(in alloc; "localhost:{port}")?)?;
+    if port == HTTP_PORT {
+        hosts.push(String::from_str(alloc, "127.0.0.1")?)?;
+        hosts.push(String::from_str(alloc, "localhost")?)?;
+    }
+    Ok(hosts)
 }
 
 // A number that no other run of the hub has: the microseconds of its start.
