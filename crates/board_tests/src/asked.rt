@@ -20,7 +20,7 @@ const RUN: u64 = 7;
 /// A hub that has taken the calls of two railways, ten in all. It lies on the heap, since what owns a hub itself takes the prover long.
 pub(crate) fn two_railways(rt: &impl Threads, alloc: Global) -> Result<Box<Hub>, Fail> {
     let script = Script::of(alloc, &[FIRST, SECOND])?;
-    let mut hub = Box::new(alloc, Hub::new(alloc))?;
+    let mut hub = Box::new(alloc, Hub::new(alloc)?)?;
     let mut reader = Std::new(script.input.as_slice());
     let mut writer = Std::new(Vec::new(alloc));
     run(rt, alloc, &mut reader, &mut writer, &mut hub)?;
