@@ -1,6 +1,6 @@
 //! A board, and requests to it.
 use board_answers::{Access, Board};
-use http_server::{Config, Connection, serve};
+use http_server::{Config, Connection, Service, serve};
 use hub_core::Hub;
 use hub_replay::run;
 use hub_shared::OwnLooks;
@@ -8,9 +8,9 @@ use railway_keys::KeyTable;
 use std::alloc::Global;
 use std::hash::RandomState;
 use std::random::RandomSource;
-use std::str;
 use std::test::Fail;
 use std::thread::Threads;
+use std::{io, str};
 use taf_codes::Std;
 use test_scripts::{FIRST, SECOND, Script};
 
@@ -51,11 +51,21 @@ pub(crate) fn answer_to<R: RandomSource>(
     };
     let looks = OwnLooks::new(hub);
     let mut board = Board::new(alloc, &looks, access, RUN);
-    let mut connection = Connection::new(alloc, RandomState::new(rt)?, Config::default());
     let request = format!(in alloc; "{lines}connection: close\r\n\r\n")?;
+    Ok(said_to(rt, alloc, &mut board, request.as_str())?)
+}
+
+// What a service says on a connection of this request alone.
+fn said_to<S: Service, R: RandomSource>(
+    rt: &R,
+    alloc: Global,
+    service: &mut S,
+    request: &str,
+) -> io::Result<Vec<u8>> {
+    let mut connection = Connection::new(alloc, RandomState::new(rt)?, Config::default());
     let mut reader = request.as_bytes();
     let mut writer = Vec::new(alloc);
-    serve(&mut connection, &mut board, &mut reader, &mut writer)?;
+    serve(&mut connection, service, &mut reader, &mut writer)?;
     Ok(writer)
 }
 
