@@ -6,7 +6,7 @@ use Rattle.hub_service.specs.declared.service.Service.{Service}
 use Rattle.hub_service.specs.JournaledServices.{IsJournaledService}
 use Rattle.server_faults.proofs.FaultLemmas.{no_journal}
 use Rattle.open_server.specs.Settled.{IsSettledService}
-use Rattle.open_server.proofs.SettledLemmas.{settled, unsettled, no_memory, no_threads, fits}
+use Rattle.open_server.proofs.SettledLemmas.{settled, unsettled, no_threads, fits}
 use Rattle.open_server.proofs.journaled_server.serve_open_journaled.Goals as goal
 
 pub returns-clause-settled : goal.returns-clause-settled
@@ -21,17 +21,12 @@ returns-clause-durable g c =
     let same = c.in_ok-journal.ensures.same in
     ap lines_of same ∙ run.journal.on_disk (ap has_failed (sym same) ∙ c.in_ok-journal.ensures.ok) ∙ ap (λ (s : Service). lines_of_history s.hub) (sym c.in_ok-settled.ensures.same)
 
-pub returns-in_err-handlers-clause-not_settled : goal.returns-in_err-handlers-clause-not_settled
-returns-in_err-handlers-clause-not_settled g c =
-    let p = err_from_is_err_and c.from_residual.result c.from_residual.ensures.1 in
-    rw (p.1, p.2) (λ why is. absurd (no_memory why is))
-
 pub returns-in-Err-clause-not_settled : goal.returns-in-Err-clause-not_settled
 returns-in-Err-clause-not_settled g c = λ why is. absurd (no_threads _ why (sym c.fault_of_threads.ensures ∙ is))
 
 pub returns-in_err-journal-clause-not_settled : goal.returns-in_err-journal-clause-not_settled
 returns-in_err-journal-clause-not_settled g c =
-    let p = err_from_is_err_and c.from_residual-in_err-journal.result c.from_residual-in_err-journal.ensures.1 in
+    let p = err_from_is_err_and c.from_residual.result c.from_residual.ensures.1 in
     rw (p.1, p.2) (λ why is. absurd (no_journal why (sym c.in_err-journal.ensures.err ∙ is)))
 
 pub returns-in_err-settled-clause-not_settled : goal.returns-in_err-settled-clause-not_settled
