@@ -1,5 +1,5 @@
 //! The board beside what is served.
-use board_server::BoardServer;
+use board_server::{BoardKeeper, BoardServer};
 use hub_faults::Fault;
 use std::io::Write;
 use std::net::Net;
@@ -25,4 +25,9 @@ where
     // Where standard error fails, nobody is told where the board is; it is there all the same.
     let _ = errors.write_fmt(format_args!("board on http://127.0.0.1:{port}/\n"));
     Ok(Some(board))
+}
+
+/// The keeper of a shift that has this board, or none.
+pub(crate) fn keeper_of<'x, R>(rt: &'x R, board: Option<&'x BoardServer>) -> BoardKeeper<'x, R> {
+    BoardKeeper { rt, board }
 }

@@ -1,8 +1,7 @@
 //! `serve` with a journal.
-use crate::board::bind_board;
+use crate::board::{bind_board, keeper_of};
 use crate::journal_open::{explained_with_journal, open};
 use crate::serve::{Served, listen, print_shift};
-use board_server::BoardKeeper;
 use hub_faults::Fault;
 use hub_server::{SettledJournaledShift, serve_journaled_connections};
 use hub_tasks::ShiftOptions;
@@ -42,10 +41,7 @@ where
     let hub = open(rt, rt.alloc(), path, errors)?;
     let listener = listen(rt, port, size, errors)?;
     let board = bind_board(rt, board, errors)?;
-    let keeper = BoardKeeper {
-        rt,
-        board: board.as_ref(),
-    };
+    let keeper = keeper_of(rt, board.as_ref());
     // An answer is written once its call is in the journal, on the disk.
     match serve_journaled_connections(rt, &keeper, listener, size, hub) {
         Ok(SettledJournaledShift { settled, journal }) => {

@@ -1,6 +1,5 @@
-use crate::board::bind_board;
+use crate::board::{bind_board, keeper_of};
 use crate::print::print_settled;
-use board_server::BoardKeeper;
 use hub_faults::Fault;
 use hub_server::{NoKeeper, ServerFault, SessionEnd, SettledShift, serve_connections};
 use hub_tasks::ShiftOptions;
@@ -43,10 +42,7 @@ where
     let ShiftOptions { port, size, board } = shift;
     let listener = listen(rt, port, size, errors)?;
     let board = bind_board(rt, board, errors)?;
-    let keeper = BoardKeeper {
-        rt,
-        board: board.as_ref(),
-    };
+    let keeper = keeper_of(rt, board.as_ref());
     let settled = serve_connections(rt, &keeper, listener, size);
     print_served(rt, settled, output, errors)
 }
