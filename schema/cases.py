@@ -299,6 +299,75 @@ def long_fetch():
     return [*(long_plan(number) for number in range(50)), b'{"kind":"fetch","from":"R207","limit":50}']
 
 
+# Texts of the board
+
+RELEASED = {
+    "commit": "2025-03-01T15:30Z", "consignment": "C-1",
+    "estimates": [{"at": "2025-03-01T10:30Z", "leg": 0}, {"at": "2025-03-01T14:30Z", "leg": 1}],
+    "eta": "2025-03-01T14:30Z", "events": [], "late": False, "lead": "R100", "leg": 0, "load": "loaded", "place": "DE00001",
+    "responsible": None, "stage": "released", "status": "loading", "units": [UNIT], "wagon": WAGON,
+}
+PLANNED = without(RELEASED, ["units"]) | {"estimates": [], "eta": None, "stage": "planned", "wagon": OTHER}
+FIRST_LEG = {"minutes": 300, "origin": "DE00001", "ru": "R101", "target": "AT00002"}
+NEXT_LEG = {"minutes": 280, "origin": "AT00002", "ru": "R102", "target": "IT00003"}
+
+
+def with_change(value, **changes):
+    """The value with these changes. A key that is changed to `...` is left out."""
+    return {key: it for key, it in (value | changes).items() if it is not ...}
+
+
+def fleet_records(*records):
+    return {"records": list(records), "reply": "records"}
+
+
+def wagon_legs(*legs):
+    return {"legs": list(legs), "wagon": WAGON}
+
+
+def good_records():
+    more_than_deviations = [RELEASED | {"wagon": number} for number in wagons(61)]
+    return [fleet_records(), fleet_records(PLANNED, RELEASED), fleet_records(*more_than_deviations)]
+
+
+def refused_records():
+    """Lists with a record that has an event, lacks a key or has another value, and values of another form."""
+    event = {"by": "R100", "kind": "plan", "no": 1}
+    changes = [
+        {"events": [event]}, {"events": None}, {"events": ...}, {"place": ...}, {"units": []}, {"stage": "lost"}, {"wagon": int(WAGON)},
+    ]
+    records = [fleet_records(with_change(RELEASED, **it)) for it in changes]
+    changes = [{"records": ...}, {"records": None}, {"records": [WAGON]}, {"reply": ...}, {"reply": "record"}]
+    return [*records, *(with_change(fleet_records(), **it) for it in changes), [], {"record": RELEASED, "reply": "record"}]
+
+
+def good_legs():
+    slow_leg = FIRST_LEG | {"minutes": 100000}
+    return [wagon_legs(FIRST_LEG), wagon_legs(FIRST_LEG, NEXT_LEG), wagon_legs(*legs(8)), wagon_legs(slow_leg)]
+
+
+def refused_legs():
+    changes = [*({key: ...} for key in FIRST_LEG), {"minutes": 0}, {"minutes": 100001}, {"ru": "r101"}, {"target": None}]
+    one_leg = [wagon_legs(with_change(FIRST_LEG, **it)) for it in changes]
+    changes = [{"wagon": ...}, {"wagon": int(WAGON)}, {"legs": ...}, {"legs": None}]
+    return [*one_leg, *(with_change(wagon_legs(FIRST_LEG), **it) for it in changes), wagon_legs(), wagon_legs(*legs(9))]
+
+
+def good_fleet_legs():
+    return [{"legs": []}, {"legs": good_legs()}]
+
+
+def refused_fleet_legs():
+    return [[], {}, {"legs": None}, {"legs": [WAGON]}, wagon_legs(FIRST_LEG), *({"legs": [it]} for it in refused_legs())]
+
+
+# Of each definition values that the rules allow, and values that they do not.
+BOARD = {
+    "fleet_records": (good_records(), refused_records()),
+    "fleet_legs": (good_fleet_legs(), refused_fleet_legs()),
+    "wagon_legs": (good_legs(), refused_legs()),
+}
+
 REASONS = {reason for values in VALUES.values() for reason in values.program_alone} | {reason for reason, _, _ in PROGRAM_ALONE}
 
 # The lines of a session: what the schema of a hello says to each, and its answer.

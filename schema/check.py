@@ -6,6 +6,7 @@
 - What the schemas refuse of the examples the program refuses too.
 - Whatever the program answers fits its schema, without a key that the schema does not name.
 - Answers that the page of records shows in its text fit their schema, and the length of a long one is the one that it gives.
+- Texts of the board that were written from the rules are judged as the table says, and those that its page shows fit their schema.
 
 Prints nothing where all is so. Else it prints the first difference, and ends with status 1.
 """
@@ -38,8 +39,8 @@ def need(holds, what):
 
 
 def load(name):
-    """A schema, with the definitions of the other one named as its own."""
-    schema = json.loads((HERE / name).read_text().replace("records.json#", "#"))
+    """A schema, with the definitions of the others named as its own."""
+    schema = json.loads(re.sub(r"(records|answers)\.json#", "#", (HERE / name).read_text()))
     Draft202012Validator.check_schema(schema)
     return schema
 
@@ -56,12 +57,13 @@ def close(schema):
     return closed
 
 
-RECORDS, ANSWERS = load("records.json"), load("answers.json")
-DEFINITIONS = RECORDS["$defs"] | ANSWERS["$defs"]
+RECORDS, ANSWERS, BOARD = load("records.json"), load("answers.json"), load("board.json")
+DEFINITIONS = RECORDS["$defs"] | ANSWERS["$defs"] | BOARD["$defs"]
 KINDS = RECORDS["properties"]["kind"]["enum"]
 RECORD = Draft202012Validator(RECORDS)
 HELLO = Draft202012Validator(DEFINITIONS["hello"] | {"$defs": DEFINITIONS})
 ANSWER = Draft202012Validator(close(ANSWERS | {"$defs": DEFINITIONS}))
+BOARD_TEXT = Draft202012Validator(close(BOARD | {"$defs": DEFINITIONS}))
 
 
 def not_a_number(text):
@@ -196,6 +198,34 @@ def check_longest():
     need(f"{len(answer):,} bytes" in (TOP / "docs/RECORDS.md").read_text(), f"a long answer has {len(answer):,} bytes")
 
 
+# The board
+
+
+def of_definition(name):
+    """A reader of JSON with the schema of one definition."""
+    return Draft202012Validator({"$ref": f"#/$defs/{name}", "$defs": DEFINITIONS})
+
+
+def check_without_events():
+    """A record without events has the keys of a record, with the same values."""
+    record, other = DEFINITIONS["wagon_record"], DEFINITIONS["record_without_events"]
+    need(record["required"] == other["required"], "a record without events needs other keys than a record")
+    values = [cases.without(it["properties"], ["events"]) for it in (record, other)]
+    need(values[0] == values[1], "a record without events has other values than a record")
+
+
+def check_board():
+    """Values that were written from the rules, and the texts that the page of the board shows. No program wrote them."""
+    for name, (good, refused) in cases.BOARD.items():
+        one = of_definition(name)
+        for value in good:
+            need(BOARD_TEXT.is_valid(value) and one.is_valid(value | {"unknown": None}), f"the schema of {name} refuses {value}")
+        for value in refused:
+            need(not one.is_valid(value), f"the schema of {name} does not refuse {value}")
+    shown = re.findall(r'^ +({".*})$', (TOP / "board/README.md").read_text(), re.MULTILINE)
+    need(len(shown) == 2 and all(BOARD_TEXT.is_valid(json.loads(it)) for it in shown), "board/README.md shows other texts")
+
+
 # A session
 
 
@@ -242,6 +272,8 @@ def check_session():
 
 def main():
     check_names()
+    check_without_events()
+    check_board()
     check_shown_answers()
     check_table(check_examples())
     check_longest()

@@ -1,5 +1,5 @@
 //! The reader of a session, whose client may be silent only so long.
-ghost use Rattle.std.specs.Prelude.{◌≡◌};
+ghost use Rattle.std.specs.Prelude.{◌≡◌, false};
 ghost use Rattle.taf_codes.specs.Standard.{std_failures, std_inner};
 
 use std::io::Read;
@@ -23,6 +23,8 @@ impl<T: Read + OpenStream> TimedReader<T> {
     pub fn new(connection: T, silence_between_lines: Option<Duration>) -> TimedReader<T>
         ensures connection { std_inner result.reader ≡ connection }
         ensures failures { std_failures result.reader ≡ 0 }
+        ensures silence { result.silence_between_lines ≡ silence_between_lines }
+        ensures line { result.has_line ≡ false }
     {
         TimedReader {
             reader: Std::new(connection),

@@ -192,6 +192,6 @@ fn take_trips(clock: &impl Clock, alloc: Global, hub: &mut Hub, trips: u64) -> R
 
 /// A new hub takes the calls of trips: `count` of them at most, of whole trips, and of one trip at least.
 pub(crate) fn taken(clock: &impl Clock, alloc: Global, count: u64) -> Result<Measured> {
-    let mut hub = Hub::new(alloc);
+    let mut hub = Hub::new(alloc)?;
     take_trips(clock, alloc, &mut hub, (count / CALLS_OF_A_TRIP).max(1))
 }

@@ -198,11 +198,11 @@ static ENDS: [(&str, &str); 6] = [
     ),
     (
         "taf_hub|serve|--help",
-        "\n  taf_hub serve --port 7000 --sessions 3 --journal hub.journal\n\nStatuses: 0, 2, 3, 4, 5, 6, 7, 8\n",
+        "\n  taf_hub serve --port 7000 --sessions 3 --board 7080\n\nStatuses: 0, 2, 3, 4, 5, 6, 7, 8\n",
     ),
     (
         "taf_hub|open|--help",
-        "\n  taf_hub open --port 7000 --keys railways.keys\n\nStatuses: 0, 2, 3, 4, 5, 6, 7, 8\n",
+        "\n  taf_hub open --port 7000 --board 7080\n\nStatuses: 0, 2, 3, 4, 5, 6, 7, 8\n",
     ),
 ];
 

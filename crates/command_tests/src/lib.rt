@@ -14,6 +14,8 @@
 #![tactic(auto)]
 
 #[cfg(test)]
+mod board;
+#[cfg(test)]
 mod commands;
 #[cfg(test)]
 mod journaled_serving;

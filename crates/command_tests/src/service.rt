@@ -20,7 +20,7 @@ use std::{fs, io, thread};
 use test_scripts::Script;
 
 // An input, and what it ends with: it ends once that is dropped.
-fn input_until_dropped<R>(rt: &R) -> io::Result<(TcpStream, TcpStream)>
+pub(crate) fn input_until_dropped<R>(rt: &R) -> io::Result<(TcpStream, TcpStream)>
 where
     R: Net<Listener = TcpListener, Stream = TcpStream>,
 {
@@ -31,7 +31,7 @@ where
 }
 
 // Serves as these words say until the input ends.
-fn serve_until<H, I>(rt: &H, words: &str, input: I) -> Result<Ended, Fail>
+pub(crate) fn serve_until<H, I>(rt: &H, words: &str, input: I) -> Result<Ended, Fail>
 where
     H: Files<File = File>
         + Net<Listener = TcpListener, Stream = TcpStream>
@@ -41,7 +41,7 @@ where
         + Sync
         + RandomSource
         + AllocGlobal,
-    I: Read + Drop,
+    I: Read + Send + Drop,
 {
     let arguments = arguments(rt.alloc(), words)?;
     let (mut output, mut errors) = (Vec::new(rt.alloc()), Vec::new(rt.alloc()));

@@ -1,2 +1,3 @@
 pub mod SelectionLemmas
 pub mod FindLemmas
+pub mod ShownLemmas

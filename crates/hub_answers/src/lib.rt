@@ -4,7 +4,8 @@
 //!   intermodal unit on it (4.2.11).
 //! - [`deviation`] gives the lead railway of a consignment the records of those wagons that are
 //!   expected after what was promised to the customer (4.2.6).
-//! - [`view_part`] gives the records of wagons in the order of their first plans, all or some in a row.
+//! - [`view_part`] gives the records of wagons in the order of their first plans, all or some in a row, and [`shown_part`] those of
+//!   them that a railway may see, with the legs of their journeys.
 //! - [`apart`] tells whether two messages share nothing, so that they may come in either order.
 //!
 //! | asked for | refused as | where |
@@ -26,9 +27,13 @@ mod affected;
 mod asking;
 mod deviations;
 mod fleet;
+mod law;
 mod overtaking;
+mod shown;
 
 pub use asking::{ask, ask_unit};
 pub use deviations::deviation;
 pub use fleet::view_part;
+pub use law::{shown_is_asked, shown_is_for_the_trip};
 pub use overtaking::apart;
+pub use shown::{ShownWagon, shown_part, shown_wagon};

@@ -31,7 +31,7 @@ where
         + Sync
         + RandomSource
         + AllocGlobal,
-    R: Read + Drop,
+    R: Read + Send + Drop,
     W: Write + Drop,
     E: Write,
 {
@@ -62,7 +62,7 @@ where
         + Sync
         + RandomSource
         + AllocGlobal,
-    R: Read + Drop,
+    R: Read + Send + Drop,
     W: Write + Drop,
     E: Write,
 {
@@ -74,15 +74,13 @@ where
         Task::Check(path) => check::perform(rt, path, output, errors),
         Task::Number(text) => number::perform(output, text),
         Task::Serve {
-            port,
-            size,
+            shift,
             journal: None,
-        } => serve::perform(rt, port, size, output, errors),
+        } => serve::perform(rt, shift, output, errors),
         Task::Serve {
-            port,
-            size,
+            shift,
             journal: Some(path),
-        } => journaled_serve::perform(rt, JournaledServe { port, size, path }, output, errors),
+        } => journaled_serve::perform(rt, JournaledServe { shift, path }, output, errors),
         Task::Open {
             service,
             journal: None,

@@ -42,7 +42,7 @@ where
         + Sync
         + RandomSource
         + AllocGlobal,
-    I: Read + Drop,
+    I: Read + Send + Drop,
     W: Write + Drop,
     E: Write,
 {
@@ -55,7 +55,7 @@ where
     let hub = open(rt, rt.alloc(), path, errors)?;
     let listening = listen(rt, service, keys, errors)?;
     // An answer is written once its call is in the journal, on the disk.
-    match serve_open_journaled(rt, rt.alloc(), listening, input, hub) {
+    match serve_open_journaled(rt, rt.alloc(), &listening, input, hub) {
         Ok(SettledJournaledService { settled, journal }) => {
             // Another process may go on with it from here.
             drop(journal);

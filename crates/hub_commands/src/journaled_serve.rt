@@ -1,22 +1,22 @@
 //! `serve` with a journal.
+use crate::board::{bind_board, keeper_of};
 use crate::journal_open::{explained_with_journal, open};
 use crate::serve::{Served, listen, print_shift};
 use hub_faults::Fault;
 use hub_server::{SettledJournaledShift, serve_journaled_connections};
-use shift_size::ShiftSize;
+use hub_tasks::ShiftOptions;
 use std::fs::File;
 use std::io::Write;
 use std::net::Net;
 use std::random::RandomSource;
-use std::rt::Files;
+use std::rt::{Clock, Files};
 use std::sync::Wait;
 use std::thread::Threads;
 
-/// What the arguments name: the port, how large the shift is, and the file of the journal.
+/// What the arguments name: how the shift is run, and the file of the journal.
 #[derive(Clone, Copy)]
 pub struct JournaledServe<'a> {
-    pub port: u16,
-    pub size: ShiftSize,
+    pub shift: ShiftOptions,
     pub path: &'a str,
 }
 
@@ -30,17 +30,20 @@ pub fn perform<R, W, E>(
     errors: &mut E,
 ) -> Result<u8, Fault>
 where
-    R: Files<File = File> + Net + Threads + Wait + Sync + RandomSource + AllocGlobal,
+    R: Files<File = File> + Net + Threads + Wait + Clock + Sync + RandomSource + AllocGlobal,
     R::Stream: Send,
     R::Listener: Send,
     W: Write + Drop,
     E: Write,
 {
-    let JournaledServe { port, size, path } = serve;
+    let JournaledServe { shift, path } = serve;
+    let ShiftOptions { port, size, board } = shift;
     let hub = open(rt, rt.alloc(), path, errors)?;
     let listener = listen(rt, port, size, errors)?;
+    let board = bind_board(rt, board, errors)?;
+    let keeper = keeper_of(rt, board.as_ref());
     // An answer is written once its call is in the journal, on the disk.
-    match serve_journaled_connections(rt, rt.alloc(), listener, size, hub) {
+    match serve_journaled_connections(rt, &keeper, listener, size, hub) {
         Ok(SettledJournaledShift { settled, journal }) => {
             // Another process may go on with it from here.
             drop(journal);

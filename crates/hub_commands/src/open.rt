@@ -1,6 +1,7 @@
 //! `open`: a service for as long as standard input lasts.
 ghost use Rattle.std.specs.Prelude.{◌≡◌, IfOk};
 
+use crate::board::bind_board;
 use crate::keys::read_keys;
 use crate::print::print_settled;
 use crate::serve::{Served, bind, explained};
@@ -45,21 +46,21 @@ where
         + Sync
         + RandomSource
         + AllocGlobal,
-    I: Read + Drop,
+    I: Read + Send + Drop,
     W: Write + Drop,
     E: Write,
 {
     let KeyedOpen { service, keys } = keyed;
     let keys = read_keys(rt, keys, errors)?;
     let listening = listen(rt, service, keys, errors)?;
-    match serve_open(rt, rt.alloc(), listening, input, service.workers) {
+    match serve_open(rt, rt.alloc(), &listening, input, service.workers) {
         Ok(settled) => print_service(rt, settled, output),
         Err(fault) => Err(explained(fault, Served::Service, errors)),
     }
 }
 
-/// Listens on the port of this machine alone, with a queue for its connections and the keys that they are asked for, and reports among
-/// the errors where that is.
+/// Listens on the port of this machine alone, with a queue for its connections and the keys that they are asked for, and for the board
+/// on its own, and reports among the errors where that is.
 pub(crate) fn listen<R, E>(
     rt: &R,
     service: ServiceOptions,
@@ -67,22 +68,29 @@ pub(crate) fn listen<R, E>(
     errors: &mut E,
 ) -> Result<Listening, Fault>
 where
-    R: Net<Listener = TcpListener, Stream = TcpStream> + AllocGlobal,
+    R: Net<Listener = TcpListener, Stream = TcpStream> + Clock + RandomSource + AllocGlobal,
     E: Write,
     ensures { IfOk result (λ l. l.queue.limits ≡ service.limits) }
 {
-    let ServiceOptions { port, limits, .. } = service;
+    let ServiceOptions {
+        port,
+        limits,
+        board,
+        ..
+    } = service;
     let listener = bind(rt, port)?;
     let Ok(control) = control_of(&listener) else {
         return Err(Fault::Socket);
     };
     let queue = AcceptQueue::new(rt.alloc(), limits)?;
     report_listening(port, &limits, errors);
+    let board = bind_board(rt, board, errors)?;
     Ok(Listening {
         listener,
         control,
         queue,
         keys,
+        board,
     })
 }
 

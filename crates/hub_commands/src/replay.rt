@@ -32,7 +32,7 @@ fn answer(
     reader: &mut impl Source,
     writer: &mut impl Sink,
 ) -> Result<Vec<String>, Fault> {
-    let mut hub = Hub::with_hasher(alloc, SeededState::drawn(rt));
+    let mut hub = Hub::with_hasher(alloc, SeededState::drawn(rt))?;
     let report = report_of(rt, alloc, reader, writer, &mut hub);
     // The program ends here. To give back the memory of each call would take as long as many calls.
     forget(hub);

@@ -1,12 +1,15 @@
+use crate::board::{bind_board, keeper_of};
 use crate::print::print_settled;
 use hub_faults::Fault;
-use hub_server::{ServerFault, SessionEnd, SettledShift, serve_connections};
+use hub_server::{NoKeeper, ServerFault, SessionEnd, SettledShift, serve_connections};
+use hub_tasks::ShiftOptions;
 use shift_size::ShiftSize;
 use std::fmt::{self, Display, Formatter};
 use std::io::{Read, Write};
 use std::mem::forget;
 use std::net::{Ipv4Addr, Net, OpenListener, OpenStream, TcpListener};
 use std::random::RandomSource;
+use std::rt::Clock;
 use std::sync::Wait;
 use std::thread::Threads;
 use wimo_report::hub_lines;
@@ -27,23 +30,21 @@ impl Display for Served {
     }
 }
 
-/// Listens on the port of this machine alone, serves one shift there, and prints what it comes to.
-pub fn perform<R, W, E>(
-    rt: &R,
-    port: u16,
-    size: ShiftSize,
-    output: W,
-    errors: &mut E,
-) -> Result<u8, Fault>
+/// Listens on the port of this machine alone, serves one shift there, with its board, if it has one, and prints what it comes to.
+pub fn perform<R, W, E>(rt: &R, shift: ShiftOptions, output: W, errors: &mut E) -> Result<u8, Fault>
 where
-    R: Net + Threads + Wait + Sync + RandomSource + AllocGlobal,
+    R: Net + Threads + Wait + Clock + Sync + RandomSource + AllocGlobal,
     R::Stream: Send,
     R::Listener: Send,
     W: Write + Drop,
     E: Write,
 {
+    let ShiftOptions { port, size, board } = shift;
     let listener = listen(rt, port, size, errors)?;
-    serve(rt, listener, size, output, errors)
+    let board = bind_board(rt, board, errors)?;
+    let keeper = keeper_of(rt, board.as_ref());
+    let settled = serve_connections(rt, &keeper, listener, size);
+    print_served(rt, settled, output, errors)
 }
 
 /// Listens on the port of this machine alone.
@@ -85,7 +86,23 @@ where
     W: Write + Drop,
     E: Write,
 {
-    match serve_connections(rt, rt.alloc(), listener, size) {
+    let settled = serve_connections(rt, &NoKeeper, listener, size);
+    print_served(rt, settled, output, errors)
+}
+
+// Prints what a shift came to, or why it did not settle.
+fn print_served<R, W, E>(
+    rt: &R,
+    settled: Result<SettledShift, ServerFault>,
+    output: W,
+    errors: &mut E,
+) -> Result<u8, Fault>
+where
+    R: Threads + Sync + AllocGlobal,
+    W: Write + Drop,
+    E: Write,
+{
+    match settled {
         Ok(settled) => print_shift(rt, settled, output, errors),
         Err(fault) => Err(explained(fault, Served::Shift, errors)),
     }

@@ -1,5 +1,6 @@
 ghost use Rattle.std.specs.Prelude.{◌≡◌, ◌↔◌, ◌<◌, ◌≤◌, [], ◌∷◌, ◌++◌, List, length, map, take, drop, slice_get, option_copied, IfOk, IfErr, OnErr, IsTrue, Err};
 ghost use Rattle.hub_model.specs.Replies.{records_of, view};
+ghost use Rattle.hub_answers.specs.Shown.{shown_of, shown_to};
 ghost use Rattle.hub_model.specs.Histories.{IsLegal, answer, run, state_of};
 ghost use Rattle.hub_model.specs.Bounds.{AreWithinLimits};
 ghost use Rattle.hub_model.specs.Laws.{AreDated};
@@ -9,22 +10,24 @@ ghost use Rattle.hub_core.specs.Faults.{IsFault};
 use crate::applying::apply_call;
 use crate::state::State;
 use crate::view::View;
-use hub_answers::{apart, view_part};
+use hub_answers::{ShownWagon, apart, ask, shown_part, shown_wagon, view_part};
 use hub_model::{Entry, histories_are_runs};
 use seeded_state::SeededState;
 use std::alloc::Global;
 use std::marker::Model;
-use taf_codes::Memory;
+use taf_codes::{Memory, Railway};
 use taf_messages::{Call, Reply};
 use tallies::HubFault;
+use wagon_number::WagonNumber;
 
 /// The most calls that a hub takes.
 pub(crate) const MAX_CALLS: usize = 1_000_000;
 
-/// The hub, seen as its history: the entries in the order in which it took their calls.
+/// The hub, seen as its history: the entries in the order in which it took their calls. What it keeps lies on the heap, so that who
+/// owns a hub moves a pointer.
 #[derive(Drop)]
 pub struct Hub {
-    state: State,
+    state: Box<State>,
     alloc: Global,
 }
 
@@ -35,27 +38,25 @@ impl Model for Hub {
 
     ghost Value = { List Entry };
 
-    ghost view = { λ h. h.state.history.entries };
+    ghost view = { λ h. h.state.value.history.entries };
 
-    ghost invariant = { λ h. IsConsistent h.state };
+    ghost invariant = { λ h. IsConsistent h.state.value };
 }
 
 impl Hub {
-    /// A hub that has taken no call, and whose tables hash from the fixed seed. Takes no memory.
-    pub fn new(alloc: Global) -> Hub
-        ensures { result ≡ [] }
+    /// A hub that has taken no call, and whose tables hash from the fixed seed. Want of memory is the only error.
+    pub fn new(alloc: Global) -> Result<Hub, Memory>
+        ensures { IfOk result (λ hub. hub ≡ []) }
     {
         Hub::with_hasher(alloc, SeededState::fixed())
     }
 
-    /// A hub that has taken no call, and whose tables hash so. Takes no memory.
-    pub fn with_hasher(alloc: Global, hasher: SeededState) -> Hub
-        ensures { result ≡ [] }
+    /// A hub that has taken no call, and whose tables hash so. Want of memory is the only error.
+    pub fn with_hasher(alloc: Global, hasher: SeededState) -> Result<Hub, Memory>
+        ensures { IfOk result (λ hub. hub ≡ []) }
     {
-        Hub {
-            state: State::with_hasher(alloc, hasher),
-            alloc,
-        }
+        let state = Box::new(alloc, State::with_hasher(alloc, hasher))?;
+        Ok(Hub { state, alloc })
     }
 
     /// How many calls the hub has taken: at most 1,000,000.
@@ -89,7 +90,7 @@ impl Hub {
         ensures within { AreWithinLimits self.now }
     {
         histories_are_runs();
-        let _state = &self.state;
+        let _state = &*self.state;
     }
 
     /// Takes a call, and gives its position in the history and its reply.
@@ -108,7 +109,7 @@ impl Hub {
         if position >= MAX_CALLS {
             return Err(HubFault::Full(call));
         }
-        match apply_call(self.alloc, &mut self.state, call) {
+        match apply_call(self.alloc, &mut *self.state, call) {
             Ok(reply) => Ok((position as u64, reply)),
             Err(_) => Err(HubFault::Memory),
         }
@@ -139,14 +140,43 @@ impl Hub {
         Ok(View::from_vec(records))
     }
 
+    /// The reply that a railway's question for a wagon would get. It is not entered.
+    pub fn asked(&self, by: Railway, wagon: WagonNumber) -> Result<Reply, Memory>
+        ensures { IfOk result (λ r. r ≡ answer self.now (Call.Ask by wagon)) }
+    {
+        ask(self.alloc, &self.state.tables, by, wagon)
+    }
+
+    /// A wagon as a railway is shown it without a question, if it may see it.
+    pub fn shown_wagon(&self, by: Railway, wagon: WagonNumber) -> Result<Option<ShownWagon>, Memory>
+        ensures { IfOk result (λ r. r ≡ shown_of (state_of self.now) by wagon) }
+    {
+        shown_wagon(self.alloc, &self.state.tables, by, wagon)
+    }
+
+    /// What a railway may see of planned wagons: of at most so many, from this place on of the order of [`Hub::view`], which is
+    /// counted from 0.
+    pub fn shown_part(
+        &self,
+        by: Railway,
+        from: usize,
+        most: usize,
+    ) -> Result<Vec<ShownWagon>, Memory>
+        ensures { let s = state_of self.now in
+            IfOk result (λ v. v.items ≡ shown_to s by (take most (drop from s.fleet))) }
+    {
+        shown_part(self.alloc, &self.state.tables, by, from, most)
+    }
+
     /// Whether both calls are sends whose messages may come in either order: they share no wagon,
     /// unit, consignment, offer or name. It takes no memory.
     pub fn apart(&self, call: &Call, other: &Call) -> bool
         ensures { result ≡ are_apart (state_of self.now) call.now other.now }
     {
+        let state: &State = &self.state;
         match (call, other) {
             (Call::Send(message), Call::Send(also)) => {
-                apart(&self.state.tables, message.get(), also.get())
+                apart(&state.tables, message.get(), also.get())
             }
             _ => false,
         }

@@ -8,12 +8,12 @@ ghost use Rattle.hub_server.specs.Settled.{IsSettledShift, IsUnsettledShift};
 
 use crate::server::fault_of_shift;
 use connections::{Acceptor, ends_of};
-use hub_shifts::{JournaledShift, SettledShift, run_journaled_shift, settle_shift};
+use hub_shifts::{HubKeeper, JournaledShift, SettledShift, run_journaled_shift, settle_shift};
 use journal::{Journal, RawFile};
 use journaled_hub::JournaledHub;
 use server_faults::{ServerFault, sound_journal};
 use shift_size::ShiftSize;
-use std::alloc::Global;
+use std::alloc::AllocGlobal;
 use std::io::{Read, Write};
 use std::net::{OpenListener, OpenStream};
 use std::random::RandomSource;
@@ -32,9 +32,9 @@ pub struct SettledJournaledShift<F> {
 ///
 /// It waits for clients, and ends sessions, as [`crate::serve_connections`] does. The answer is [`ServerFault::Journal`] where a
 /// call of the journal's file failed: what was answered is in the journal, nothing was answered since, and nothing is settled.
-pub fn serve_journaled_connections<F, L, R>(
+pub fn serve_journaled_connections<F, L, D, R>(
     rt: &R,
-    alloc: Global,
+    keeper: &D,
     listener: L,
     size: ShiftSize,
     hub: JournaledHub<F>,
@@ -42,7 +42,8 @@ pub fn serve_journaled_connections<F, L, R>(
 where
     F: RawFile + Send + Drop,
     L: OpenListener + Send + Drop,
-    R: Threads + Wait + Sync + RandomSource,
+    D: HubKeeper + Sync,
+    R: Threads + Wait + Sync + RandomSource + AllocGlobal,
     L::Stream: Read + Write + OpenStream + Send + Drop,
     requires { IsOnDisk hub }
     ensures settled { IfOk result
@@ -54,9 +55,11 @@ where
     ensures not_settled { IfErr result (λ f. (why : SettleFault)
         → f ≡ ServerFault.NotSettled why → IsUnsettledShift size.sessions 1 why) }
 {
+    let alloc = rt.alloc();
     let acceptor = Acceptor::new(listener, size.sessions());
     let connections = ends_of(rt, alloc, &acceptor, size.sessions())?;
-    let JournaledShift { shift, journal } = match run_journaled_shift(rt, alloc, connections, hub) {
+    let run = run_journaled_shift(rt, alloc, keeper, connections, hub);
+    let JournaledShift { shift, journal } = match run {
         Ok(run) => run,
         Err(fault) => return Err(fault_of_shift(fault)),
     };

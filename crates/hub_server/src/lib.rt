@@ -23,7 +23,7 @@
 mod journaled_server;
 mod server;
 
-pub use hub_shifts::{SessionEnd, SettledShift};
+pub use hub_shifts::{HubKeeper, NoKeeper, SessionEnd, SettledShift};
 pub use journaled_server::{SettledJournaledShift, serve_journaled_connections};
 pub use server::serve_connections;
 pub use server_faults::ServerFault;

@@ -6,8 +6,8 @@ ghost use Rattle.hub_service.specs.JournaledServices.{IsJournaledService};
 use crate::service::{Service, into_service};
 use connection_handlers::ConnectionHandlers;
 use connections::Connections;
-use hub_serving::{ServedJournaledHub, serve_journaled_hub};
-use hub_threads::{Keeper, Lent, ThreadFault};
+use hub_serving::{HubKeeper, ServedJournaledHub, serve_journaled_hub};
+use hub_threads::{Lent, ThreadFault};
 use journal::{Journal, RawFile};
 use journaled_hub::JournaledHub;
 use std::alloc::Global;
@@ -39,7 +39,7 @@ pub fn run_journaled_service<F, A, D, R>(
 where
     F: RawFile + Send + Drop,
     A: Connections + Send + Drop,
-    D: Keeper,
+    D: HubKeeper + Sync,
     R: Threads + Wait + Sync,
     requires handlers { (1 ≤ vec_len handlers) × (vec_len handlers ≤ 64) }
     requires on_disk { IsOnDisk hub }

@@ -30,8 +30,9 @@ mod law;
 mod service;
 mod settled;
 
-pub use hub_threads::{Keeper, NoKeeper, ThreadFault};
+pub use hub_serving::{Hooks, HubKeeper, NoKeeper};
+pub use hub_threads::ThreadFault;
 pub use journaled::{JournaledService, run_journaled_service};
 pub use law::{handlers_in_order, sessions_in_order};
-pub use service::{Hooks, Service, run_service};
+pub use service::{Service, run_service};
 pub use settled::{SettledService, settle_service};

@@ -5,9 +5,9 @@ ghost use Rattle.hub_service.specs.Services.{IsService, service_of};
 use connection_handlers::ConnectionHandlers;
 use connections::Connections;
 use hub_core::Hub;
-use hub_serving::{ServedHub, serve_hub};
+use hub_serving::{Hooks, HubKeeper, ServedHub, serve_hub};
 use hub_shared::Tally;
-use hub_threads::{Keeper, Lent, ThreadFault};
+use hub_threads::{Lent, ThreadFault};
 use hub_workers::Gate;
 use inbox::Left;
 use std::alloc::Global;
@@ -31,12 +31,6 @@ pub struct Service {
     pub left: Vec<Left>,
 }
 
-/// What a service calls of those who run it: the gate before each call, and the keeper while the handlers serve.
-pub struct Hooks<'x, G, D> {
-    pub gate: &'x G,
-    pub keeper: &'x D,
-}
-
 /// Serves whoever connects, by 1 to 64 connection handlers in threads of their own, with 1 to 8 workers in threads of their own.
 ///
 /// Handler `i` serves the connections that are brought to it, one after another, by worker `i mod workers`. The calling thread does
@@ -54,7 +48,7 @@ pub fn run_service<A, G, D, R>(
 where
     A: Connections + Send + Drop,
     G: Gate + Sync,
-    D: Keeper,
+    D: HubKeeper + Sync,
     R: Threads + Wait + Sync + RandomSource,
     requires handlers { (1 ≤ vec_len handlers) × (vec_len handlers ≤ 64) }
     requires workers { (1 ≤ workers) × (workers ≤ 8) }

@@ -5,13 +5,14 @@ ghost use Rattle.journal_workers.specs.Work.{IsReady};
 ghost use Rattle.journal_workers.specs.declared.worker.JournalWorker.{JournalWorker};
 ghost use Rattle.hub_serving.specs.JournaledHubs.{IsServedJournaledHub};
 
+use crate::keeper::{HubKeeper, JournalKeeper};
 use crate::served::ServedHub;
 use hub_threads::{
-    Back, Keeper, LanesEnd, LanesRun, Lent, Serve, ThreadFault, ThreadPlaces, end_lanes, run_lanes,
+    Back, LanesEnd, LanesRun, Lent, Serve, ThreadFault, ThreadPlaces, end_lanes, run_lanes,
 };
 use inbox::Pass;
 use journal::{Journal, RawFile};
-use journal_workers::JournalWorker;
+use journal_workers::{JournalWorker, PendingLook};
 use journaled_hub::JournaledHub;
 use session_lanes::{LanePlaces, Outcomes, make_lane_places, with_room};
 use std::alloc::Global;
@@ -46,7 +47,7 @@ where
     H: Serve<S, K> + Sync,
     S: Send + Drop,
     K: Send + Drop,
-    D: Keeper,
+    D: HubKeeper + Sync,
     R: Threads + Wait + Sync,
     requires sessions { vec_len sessions ≤ 64 }
     requires on_disk { IsOnDisk hub }
@@ -64,6 +65,17 @@ where
         lanes,
         sessions,
         workers,
+    };
+    let pending = PendingLook::new();
+    let keeper = JournalKeeper {
+        rt,
+        pending: &pending,
+        keeper: lent.keeper,
+    };
+    let lent = Lent {
+        shared: &pending,
+        kind: lent.kind,
+        keeper: &keeper,
     };
     let LanesRun { to_end, back } = run_lanes(rt, alloc, lent, places)?;
     let Back { served, worked } = back;

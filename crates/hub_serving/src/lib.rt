@@ -15,15 +15,18 @@
 //!
 //! | part | what it has |
 //! |---|---|
+//! | `keeper` | what goes on beside the threads, and looks at the hub |
 //! | `served` | what the threads around a hub leave |
 //! | `shared` | a new hub that workers share |
 //! | `journaled` | the hub of a journal, which one worker has |
 #![tactic(auto)]
 
 mod journaled;
+mod keeper;
 mod served;
 mod shared;
 
 pub use journaled::{ServedJournaledHub, serve_journaled_hub};
+pub use keeper::{Hooks, HubKeeper, NoKeeper};
 pub use served::ServedHub;
 pub use shared::serve_hub;

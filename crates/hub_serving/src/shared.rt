@@ -8,11 +8,12 @@ ghost use Rattle.hub_threads.specs.Room.{HasRoomFor};
 ghost use Rattle.hub_workers.specs.Work.{IsWorked};
 ghost use Rattle.hub_serving.specs.ServedHubs.{IsServedHub, IsWorkedHub};
 
+use crate::keeper::{HubKeeper, SharedKeeper};
 use crate::served::ServedHub;
 use hub_shared::{Seat, SharedHub};
 use hub_threads::{
-    Back, Keeper, LanesEnd, LanesRun, LanesToEnd, Lent, Serve, ThreadFault, ThreadPlaces,
-    end_lanes, run_lanes,
+    Back, LanesEnd, LanesRun, LanesToEnd, Lent, Serve, ThreadFault, ThreadPlaces, end_lanes,
+    run_lanes,
 };
 use hub_workers::{
     ClosedHub, Gate, Places, SharedContext, Worker, WorkerParts, close_hub, make_places,
@@ -30,10 +31,10 @@ use std::thread::Threads;
 /// workers in threads of their own.
 ///
 /// What is lent has the gate that each job passes before its call. Thread `i` puts its jobs into the lane of worker `i mod workers`.
-/// The calling thread does what the keeper does, and then waits until each thread that serves has ended and the workers have made all
-/// calls that were left. All memory that is taken here is taken before the first thread starts: where it is refused, the answer is
-/// [`ThreadFault::Memory`]. None serves before all threads are there: where one can't be started the others end at once, and the
-/// answer is [`ThreadFault::Thread`]. After either fault no thread is left, and there is no hub.
+/// The calling thread does what the keeper does, which may look at the hub in one thread more, and then waits until each thread that
+/// serves has ended and the workers have made all calls that were left. All memory that is taken here is taken before the first thread
+/// starts: where it is refused, the answer is [`ThreadFault::Memory`]. None serves before all threads are there: where one can't be
+/// started the others end at once, and the answer is [`ThreadFault::Thread`]. After either fault no thread is left, and there is no hub.
 pub fn serve_hub<H, S, K, G, D, R>(
     rt: &R,
     alloc: Global,
@@ -46,7 +47,7 @@ where
     S: Send + Drop,
     K: Send + Drop,
     G: Gate + Sync,
-    D: Keeper,
+    D: HubKeeper + Sync,
     R: Threads + Wait + Sync + RandomSource,
     requires sessions { vec_len sessions ≤ 64 }
     requires workers { (1 ≤ workers) × (workers ≤ 8) }
@@ -81,7 +82,7 @@ where
     S: Send + Drop,
     K: Send + Drop,
     G: Gate + Sync,
-    D: Keeper,
+    D: HubKeeper + Sync,
     R: Threads + Wait + Sync + RandomSource,
     requires sessions { vec_len setup.sessions ≤ 64 }
     requires workers { (1 ≤ setup.workers) × (setup.workers ≤ 8) }
@@ -100,7 +101,7 @@ where
         kind,
         keeper,
     } = lent;
-    let (hub, mut seat) = SharedHub::<L>::with_hasher(alloc, SeededState::drawn(rt), blank);
+    let (hub, mut seat) = SharedHub::<L>::with_hasher(alloc, SeededState::drawn(rt), blank)?;
     let Places {
         lanes,
         sessions,
@@ -108,10 +109,15 @@ where
     } = make_places(rt, alloc, sessions, workers, &mut seat)?;
     let parts = WorkerParts::with_room(alloc, workers.len())?;
     let shared = SharedContext { gate, hub: &hub };
+    let keeper = SharedKeeper {
+        rt,
+        hub: &hub,
+        keeper,
+    };
     let lent = Lent {
         shared: &shared,
         kind,
-        keeper,
+        keeper: &keeper,
     };
     let places = ThreadPlaces {
         lanes,

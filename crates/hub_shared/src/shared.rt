@@ -1,15 +1,20 @@
 //! The hub that threads share.
 ghost use Rattle.std.specs.Prelude.{◌≡◌, ◌<◌, length, sum_by, IfOk, IfErr, OnOk, OnErr};
 ghost use Rattle.hub_shared.specs.Seats.{IsRun, IsAnswerInRun, IsFaultInRun, new_seat, after_answer, after_fault};
+ghost use Rattle.hub_shared.specs.Looks.{AreCounts, IsFleetLook, IsWagonLook};
 
 use crate::booked::{Booked, serve_one};
+use crate::looks::{HubCounts, WagonLook, counts_of, look_at_fleet, look_at_wagon};
 use crate::seat::Seat;
+use hub_answers::ShownWagon;
 use hub_core::{Hub, HubFault};
 use seeded_state::SeededState;
 use std::alloc::Global;
 use std::sync::ledger::{Blank, Ledger};
 use std::sync::{Mutex, Wait};
+use taf_codes::{Memory, Railway};
 use taf_messages::{Call, Reply};
+use wagon_number::WagonNumber;
 
 /// A hub that threads share, one call at a time.
 #[derive(Drop)]
@@ -18,32 +23,37 @@ pub struct SharedHub<L: Ledger> {
 }
 
 impl<L: Ledger> SharedHub<L> {
-    /// A hub that has taken no call, whose tables hash from the fixed seed, and the first seat, with all parts of the blank. Takes
-    /// no memory.
-    pub fn new(alloc: Global, blank: Blank) -> (SharedHub<L>, Seat<L>)
+    /// A hub that has taken no call, whose tables hash from the fixed seed, and the first seat, with all parts of the blank. Want of
+    /// memory is the only error.
+    pub fn new(alloc: Global, blank: Blank) -> Result<(SharedHub<L>, Seat<L>), Memory>
         requires name { blank.name ≡ L.name }
         requires parts { (blank.parts ≡ L.parts) × (0 < blank.parts) }
-        ensures { result.1 ≡ new_seat L.parts }
+        ensures { IfOk result (λ made. made.1 ≡ new_seat L.parts) }
     {
         SharedHub::with_hasher(alloc, SeededState::fixed(), blank)
     }
 
-    /// A hub that has taken no call, whose tables hash so, and the first seat, with all parts of the blank. Takes no memory.
-    pub fn with_hasher(alloc: Global, hasher: SeededState, blank: Blank) -> (SharedHub<L>, Seat<L>)
+    /// A hub that has taken no call, whose tables hash so, and the first seat, with all parts of the blank. Want of memory is the
+    /// only error.
+    pub fn with_hasher(
+        alloc: Global,
+        hasher: SeededState,
+        blank: Blank,
+    ) -> Result<(SharedHub<L>, Seat<L>), Memory>
         requires name { blank.name ≡ L.name }
         requires parts { (blank.parts ≡ L.parts) × (0 < blank.parts) }
-        ensures { result.1 ≡ new_seat L.parts }
+        ensures { IfOk result (λ made. made.1 ≡ new_seat L.parts) }
     {
+        let hub = Hub::with_hasher(alloc, hasher)?;
         let (book, mut share) = blank.open::<L>();
         let no_part = share.empty();
-        let hub = Hub::with_hasher(alloc, hasher);
         let seat = Seat {
             share,
             count: 0,
             refused: 0,
         };
         let booked = Mutex::new(Booked { hub, book, no_part });
-        (SharedHub { booked }, seat)
+        Ok((SharedHub { booked }, seat))
     }
 
     /// Takes the lock, which may wait, and makes one call by [`serve_one`]: after some history that one thread could have
@@ -60,6 +70,40 @@ impl<L: Ledger> SharedHub<L> {
         ensures refused { OnErr result (seat.new ≡ after_fault seat.old) }
     {
         serve_one(&mut *self.booked.lock(rt), seat, call)
+    }
+
+    /// Takes the lock, which may wait, and gives how many calls the hub has taken then, and how many wagons were planned.
+    pub fn counts(&self, rt: &impl Wait) -> HubCounts
+        ensures { AreCounts result }
+    {
+        counts_of(self.booked.lock(rt).hub())
+    }
+
+    /// Takes the lock, which may wait, and gives what the railway may see of at most so many planned wagons, from this place of
+    /// their order on. No call is made. Want of memory is the only error.
+    pub fn look_at_fleet(
+        &self,
+        rt: &impl Wait,
+        by: Railway,
+        from: usize,
+        most: usize,
+    ) -> Result<Vec<ShownWagon>, Memory>
+        ensures { IfOk result (λ seen. IsFleetLook by from most seen.items) }
+    {
+        look_at_fleet(self.booked.lock(rt).hub(), by, from, most)
+    }
+
+    /// Takes the lock, which may wait, and gives what the railway is told and shown of the wagon then. No call is made. Want of
+    /// memory is the only error.
+    pub fn look_at_wagon(
+        &self,
+        rt: &impl Wait,
+        by: Railway,
+        wagon: WagonNumber,
+    ) -> Result<WagonLook, Memory>
+        ensures { IfOk result (IsWagonLook by wagon) }
+    {
+        look_at_wagon(self.booked.lock(rt).hub(), by, wagon)
     }
 
     /// The hub, and the sum of the counts of all seats, which is the length of its history. The seats have to have all

@@ -6,8 +6,8 @@ ghost use Rattle.hub_shifts.specs.JournaledShifts.{IsJournaledShift};
 
 use crate::one_session::OneSession;
 use crate::shift::{Shift, ShiftFault, into_shift};
-use hub_serving::{ServedJournaledHub, serve_journaled_hub};
-use hub_threads::{Lent, NoKeeper};
+use hub_serving::{HubKeeper, ServedJournaledHub, serve_journaled_hub};
+use hub_threads::Lent;
 use journal::{Journal, RawFile};
 use journaled_hub::JournaledHub;
 use std::alloc::Global;
@@ -26,12 +26,13 @@ pub struct JournaledShift<F> {
 
 /// Serves 1 to 64 sessions on the hub of a journal, each by its reader and writer in a thread of its own, with one worker.
 ///
-/// It is as [`run_shift`](crate::run_shift), on a hub that has a history. A job is answered once its call is on the disk; the jobs
+/// It is as [`run_kept_shift`](crate::run_kept_shift), on a hub that has a history. A job is answered once its call is on the disk; the jobs
 /// that come while a sync is waited for share the next one. Where a call of the journal's file fails, no session is answered any more:
 /// each ends by the next line that it gives a job for, or where its reader comes to its end.
-pub fn run_journaled_shift<F, S, K, R>(
+pub fn run_journaled_shift<F, S, K, D, R>(
     rt: &R,
     alloc: Global,
+    keeper: &D,
     sessions: Vec<(S, K)>,
     hub: JournaledHub<F>,
 ) -> Result<JournaledShift<F>, ShiftFault>
@@ -39,6 +40,7 @@ where
     F: RawFile + Send + Drop,
     S: Source + Send + Drop,
     K: Sink + Send + Drop,
+    D: HubKeeper + Sync,
     R: Threads + Wait + Sync,
     requires sessions { (1 ≤ vec_len sessions) × (vec_len sessions ≤ 64) }
     requires on_disk { IsOnDisk hub }
@@ -48,7 +50,7 @@ where
     let lent = Lent {
         shared: &(),
         kind: &OneSession,
-        keeper: &NoKeeper,
+        keeper,
     };
     let ServedJournaledHub { served, journal } = serve_journaled_hub(
         rt, alloc, lent, sessions, hub,

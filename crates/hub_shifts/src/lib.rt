@@ -29,9 +29,10 @@ mod one_session;
 mod settled;
 mod shift;
 
+pub use hub_serving::{Hooks, HubKeeper, NoKeeper};
 pub use hub_workers::{Gate, OpenGate};
 pub use journaled::{JournaledShift, run_journaled_shift};
 pub use law::{lanes_in_order, shift_in_order};
 pub use session_lanes::SessionEnd;
 pub use settled::{SettledShift, settle_shift};
-pub use shift::{Shift, ShiftFault, run_shift};
+pub use shift::{Shift, ShiftFault, run_kept_shift, run_shift};

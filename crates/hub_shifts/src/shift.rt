@@ -6,9 +6,9 @@ ghost use Rattle.hub_shifts.specs.Faults.{fault_of_threads};
 
 use crate::one_session::OneSession;
 use hub_core::Hub;
-use hub_serving::{ServedHub, serve_hub};
+use hub_serving::{Hooks, HubKeeper, NoKeeper, ServedHub, serve_hub};
 use hub_shared::Tally;
-use hub_threads::{Lent, NoKeeper, ThreadFault};
+use hub_threads::{Lent, ThreadFault};
 use hub_workers::Gate;
 use inbox::Left;
 use session_lanes::SessionEnd;
@@ -85,10 +85,35 @@ where
     ensures { IfOk result (λ s. IsShift
         (map (λ p. streams_of (S.remaining p.0) (K.contents p.1)) sessions.items) workers s) }
 {
+    let keeper = &NoKeeper;
+    run_kept_shift(rt, alloc, Hooks { gate, keeper }, sessions, workers)
+}
+
+/// Serves sessions as [`run_shift`] does, with a keeper: the calling thread does what it does, and the hub is looked at meanwhile where
+/// it does so.
+pub fn run_kept_shift<S, K, G, D, R>(
+    rt: &R,
+    alloc: Global,
+    hooks: Hooks<'_, G, D>,
+    sessions: Vec<(S, K)>,
+    workers: usize,
+) -> Result<Shift, ShiftFault>
+where
+    S: Source + Send + Drop,
+    K: Sink + Send + Drop,
+    G: Gate + Sync,
+    D: HubKeeper + Sync,
+    R: Threads + Wait + Sync + RandomSource,
+    requires sessions { (1 ≤ vec_len sessions) × (vec_len sessions ≤ 64) }
+    requires workers { (1 ≤ workers) × (workers ≤ 8) }
+    ensures { IfOk result (λ s. IsShift
+        (map (λ p. streams_of (S.remaining p.0) (K.contents p.1)) sessions.items) workers s) }
+{
+    let Hooks { gate, keeper } = hooks;
     let lent = Lent {
         shared: gate,
         kind: &OneSession,
-        keeper: &NoKeeper,
+        keeper,
     };
     let served = serve_hub(rt, alloc, lent, sessions, workers)?;
     Ok(into_shift(served))

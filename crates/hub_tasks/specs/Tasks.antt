@@ -1,15 +1,15 @@
 -- What the arguments of the command line name.
-use Rattle.std.specs.Prelude.{◌≡◌, ◌≤◌, true, is_some}
+use Rattle.std.specs.Prelude.{◌≡◌, true, is_some}
 use Rattle.shift_size.specs.Sizes.{IsSize}
 use Rattle.hub_tasks.specs.declared.task.Task.{Task}
 use Rattle.hub_tasks.specs.declared.task.Task.TheVariants.{Replay, Check, Number, Serve, Open}
 
--- A shift has a port from 1 to 65,535, 1 to 64 sessions, and 1 to 8 workers, with a journal just one. So has a service: what its numbers
--- are is in the types of its options.
+-- A shift has 1 to 64 sessions, and 1 to 8 workers, with a journal just one; and so has a service. What their other numbers are is in the
+-- types of their options.
 abbrev pub IsWithinLimits : Task → Type 0
 IsWithinLimits (Replay journal) = Unit {0}
 IsWithinLimits (Check journal) = Unit {0}
 IsWithinLimits (Number text) = Unit {0}
-IsWithinLimits (Serve port size journal) =
-    (1 ≤ port) × (port ≤ 65535) × IsSize size.sessions size.workers × (is_some journal ≡ true → size.workers ≡ 1)
+IsWithinLimits (Serve shift journal) =
+    IsSize shift.size.sessions shift.size.workers × (is_some journal ≡ true → shift.size.workers ≡ 1)
 IsWithinLimits (Open service journal keys) = is_some journal ≡ true → service.workers ≡ 1

@@ -5,16 +5,27 @@ use std::alloc::{AllocError, Global};
 
 /// The program with its commands.
 pub(crate) fn command<'a>(alloc: Global) -> Result<Command<'a>, AllocError> {
+    let program = with(without_commands(alloc), replay(alloc))?;
+    let program = with(program, check(alloc))?;
+    let program = with(program, number(alloc))?;
+    let program = with(program, serve(alloc))?;
+    with(program, open(alloc))
+}
+
+fn without_commands<'a>(alloc: Global) -> Command<'a> {
     Command::new(alloc, "taf_hub")
         .about("The hub for wagon movement, interchange and estimated times in rail freight")
         .version(help::VERSION)
         .after_help(help::PROGRAM)
         .subcommand_required(true)
-        .subcommand(replay(alloc)?)?
-        .subcommand(check(alloc)?)?
-        .subcommand(number(alloc)?)?
-        .subcommand(serve(alloc)?)?
-        .subcommand(open(alloc)?)
+}
+
+// The program with one command more.
+fn with<'a>(
+    program: Command<'a>,
+    command: Result<Command<'a>, AllocError>,
+) -> Result<Command<'a>, AllocError> {
+    program.subcommand(command?)
 }
 
 fn replay<'a>(alloc: Global) -> Result<Command<'a>, AllocError> {
@@ -67,7 +78,8 @@ fn serve<'a>(alloc: Global) -> Result<Command<'a>, AllocError> {
         .arg(port(alloc))?
         .arg(sessions)?
         .arg(workers(alloc))?
-        .arg(journal_of_one_worker(alloc)?)
+        .arg(journal_of_one_worker(alloc)?)?
+        .arg(board(alloc))
 }
 
 fn open<'a>(alloc: Global) -> Result<Command<'a>, AllocError> {
@@ -86,7 +98,8 @@ fn open<'a>(alloc: Global) -> Result<Command<'a>, AllocError> {
         .arg(sessions)?
         .arg(workers(alloc))?
         .arg(journal_of_one_worker(alloc)?)?
-        .arg(keys(alloc))?;
+        .arg(keys(alloc))?
+        .arg(board(alloc))?;
     with_times(alloc, command)
 }
 
@@ -159,6 +172,16 @@ fn keys<'a>(alloc: Global) -> Arg<'a> {
         "FILE",
         "The keys of railways: a session begins only with the key of its railway",
     )
+}
+
+fn board<'a>(alloc: Global) -> Arg<'a> {
+    option(
+        alloc,
+        "board",
+        "P",
+        "The port of 127.0.0.1 for the board: a page that shows railways their wagons",
+    )
+    .value_parser(value_parser!(u16).range(1..))
 }
 
 fn option<'a>(alloc: Global, name: &'a str, value: &'a str, help: &'a str) -> Arg<'a> {

@@ -36,6 +36,7 @@ Statuses: 0, 1, 2, 3, 4";
 pub(crate) static SERVE: &str = "Example:
   taf_hub serve --port 7000 --sessions 3
   taf_hub serve --port 7000 --sessions 3 --journal hub.journal
+  taf_hub serve --port 7000 --sessions 3 --board 7080
 
 Statuses: 0, 2, 3, 4, 5, 6, 7, 8";
 
@@ -43,5 +44,6 @@ pub(crate) static OPEN: &str = "Example:
   taf_hub open --port 7000
   taf_hub open --port 7000 --journal hub.journal --silence-seconds 3600
   taf_hub open --port 7000 --keys railways.keys
+  taf_hub open --port 7000 --board 7080
 
 Statuses: 0, 2, 3, 4, 5, 6, 7, 8";

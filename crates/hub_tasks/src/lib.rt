@@ -5,10 +5,10 @@
 //! | `replay [--journal FILE]` | [`Task::Replay`] |
 //! | `check JOURNAL` | [`Task::Check`] |
 //! | `number TEXT` | [`Task::Number`] |
-//! | `serve --port P --sessions N [--workers K]` | [`Task::Serve`]: P is 1 to 65,535, N 1 to 64, K 1 to 8, and 2 if left out |
-//! | `serve --port P --sessions N --journal FILE` | [`Task::Serve`] with one worker; together with `--workers` an error |
-//! | `open --port P [--sessions N] [--workers K] [--keys FILE] [TIMES]` | [`Task::Open`]: as `serve`, and N is 64 if left out |
-//! | `open --port P [--sessions N] --journal FILE [--keys FILE] [TIMES]` | [`Task::Open`] with one worker; together with `--workers` an error |
+//! | `serve --port P --sessions N [--workers K] [--board Q]` | [`Task::Serve`]: P and Q are 1 to 65,535, N 1 to 64, K 1 to 8, and 2 if left out |
+//! | `serve --port P --sessions N --journal FILE [--board Q]` | [`Task::Serve`] with one worker; together with `--workers` an error |
+//! | `open --port P [--sessions N] [--workers K] [--keys FILE] [--board Q] [TIMES]` | [`Task::Open`]: as `serve`, and N is 64 if left out |
+//! | `open --port P [--sessions N] --journal FILE [--keys FILE] [--board Q] [TIMES]` | [`Task::Open`] with one worker; together with `--workers` an error |
 //!
 //! TIMES are `--hello-seconds S`, `--silence-seconds S`, `--write-seconds S` and `--grace-seconds S`, each if given: S is 1 to 86,400, and
 //! for the last also 0. If left out they are 10, without end, 30 and 5.
@@ -23,5 +23,5 @@ mod help;
 mod service;
 mod task;
 
-pub use service::ServiceOptions;
+pub use service::{ServiceOptions, ShiftOptions};
 pub use task::{Task, task_of};

@@ -1,7 +1,19 @@
-//! How a service is run.
+//! How a shift or a service is run.
 ghost use Rattle.std.specs.Prelude.{◌≤◌};
 
 use accept_queue::Limits;
+use shift_size::ShiftSize;
+
+/// How a shift is run.
+#[derive(Clone, Copy, Debug, PartialEq, Eq)]
+pub struct ShiftOptions {
+    /// Not 0.
+    pub port: u16,
+    pub size: ShiftSize,
+    /// The port of the board, if it has one.
+    pub board: Option<u16>,
+    ghost port_within: { (1 ≤ port) × (port ≤ 65535) },
+}
 
 /// How a service is run.
 #[derive(Clone, Copy, Debug, PartialEq, Eq)]
@@ -12,6 +24,8 @@ pub struct ServiceOptions {
     pub limits: Limits,
     /// How many workers make the calls, 1 to 8.
     pub workers: usize,
+    /// The port of the board, if it has one.
+    pub board: Option<u16>,
     ghost port_within: { (1 ≤ port) × (port ≤ 65535) },
     ghost workers_within: { (1 ≤ workers) × (workers ≤ 8) },
 }

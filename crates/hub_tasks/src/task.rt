@@ -3,7 +3,7 @@ ghost use Rattle.std.specs.Duration.{as_nanos};
 ghost use Rattle.hub_tasks.specs.Tasks.{IsWithinLimits};
 
 use crate::commands::command;
-use crate::service::ServiceOptions;
+use crate::service::{ServiceOptions, ShiftOptions};
 use accept_queue::Limits;
 use clap::error::ErrorKind;
 use clap::{ArgMatches, Command, Error};
@@ -21,10 +21,9 @@ pub enum Task<'a> {
     /// Of the journal in this file.
     Check(&'a str),
     Number(&'a str),
-    /// The port is not 0. With the file of the journal, if one is kept: then one worker makes the calls.
+    /// With the file of the journal, if one is kept: then one worker makes the calls.
     Serve {
-        port: u16,
-        size: ShiftSize,
+        shift: ShiftOptions,
         journal: Option<&'a str>,
     },
     /// With the file of the journal, if one is kept: then one worker makes the calls. With the file of the keys, if railways are asked
@@ -90,11 +89,12 @@ fn shift_in<'a>(matches: &ArgMatches<'a>) -> Option<Task<'a>>
     if port == 0 {
         return None;
     }
-    Some(Task::Serve {
+    let shift = ShiftOptions {
         port,
         size,
-        journal,
-    })
+        board: matches.get_one::<u16>("board"),
+    };
+    Some(Task::Serve { shift, journal })
 }
 
 // The service that is named. Its numbers passed clap's parsers, so they are within their limits.
@@ -114,6 +114,7 @@ fn service_in<'a>(matches: &ArgMatches<'a>) -> Option<Task<'a>>
         port,
         limits,
         workers,
+        board: matches.get_one::<u16>("board"),
     };
     Some(Task::Open {
         service,

@@ -50,7 +50,7 @@ pub(crate) static INTERCHANGE: &[&str] = &[DEPARTED, BOTH_DEPARTED, OFFERED, ANS
 
 /// A hub that has taken no call. It lies on the heap, since what owns a hub itself takes the prover long.
 pub(crate) fn new_hub(alloc: Global) -> Result<Box<Hub>, Fail> {
-    Ok(Box::new(alloc, Hub::new(alloc))?)
+    Ok(Box::new(alloc, Hub::new(alloc)?)?)
 }
 
 /// What the hub writes to these bytes.

@@ -5,7 +5,7 @@ ghost use Rattle.inbox.specs.declared.rule.Job.{Job};
 ghost use Rattle.session_lanes.specs.declared.ends.SessionStart.{SessionStart};
 ghost use Rattle.session_lanes.specs.declared.ends.Served.{Served};
 
-use session_lanes::{Served, SessionContext, SessionStart};
+use session_lanes::{JobQueue, Served, SessionContext, SessionStart};
 use std::alloc::Global;
 use std::sync::Wait;
 
@@ -29,15 +29,17 @@ pub trait Serve<S, K> {
         ensures served { has_served start result };
 }
 
-/// What the calling thread does while the others serve.
+/// What goes on beside the threads that serve and the workers: in the calling thread, and in one more where it is wanted.
 pub trait Keeper {
+    /// What the calling thread does once all threads are there. When it returns, they are joined.
     fn keep(&self);
-}
 
-/// The keeper that returns at once.
-#[derive(Clone, Copy, Debug, Default)]
-pub struct NoKeeper;
+    /// Whether a thread of its own is wanted.
+    fn has_thread(&self) -> bool;
 
-impl Keeper for NoKeeper {
-    fn keep(&self) {}
+    /// What that thread does until it is told to end. It is lent the queue of the first worker, to which it may give signals.
+    fn run(&self, first: &JobQueue);
+
+    /// Has [`Keeper::run`] return. It may be told before that begins.
+    fn end(&self);
 }

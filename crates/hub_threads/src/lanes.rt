@@ -36,7 +36,7 @@ pub struct LanesRun<W> {
 }
 
 /// Runs the threads of 1 to 8 workers and of up to 64 that serve, as threads of the kind `H` do, and joins them. The calling thread
-/// does meanwhile what the keeper does.
+/// does meanwhile what the keeper does, which may have one thread more.
 ///
 /// All memory that is taken here is taken before the first thread starts: where it is refused, the answer is
 /// [`ThreadFault::Memory`]. None serves before all threads are there: where one can't be started the others end at once, and the
@@ -53,7 +53,7 @@ where
     H: Serve<S, K> + Sync,
     S: Send + Drop,
     K: Send + Drop,
-    D: Keeper,
+    D: Keeper + Sync,
     R: Threads + Wait + Sync,
     requires begins { CanBegin W.pass W.can_begin places.lanes.items places.sessions.items
         places.workers.items }

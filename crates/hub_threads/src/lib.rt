@@ -15,20 +15,23 @@
 //!
 //! | part | what it has |
 //! |---|---|
-//! | `kind` | what the threads do that serve sessions, and what the calling thread does meanwhile |
+//! | `kind` | what the threads do that serve sessions, and what goes on beside them |
+//! | `beside` | a thread beside others |
 //! | `promises` | what the threads promise |
 //! | `threads` | how they are started and joined |
 //! | `lanes` | lanes: their threads run, and then they are closed |
 //! | `fault` | why the threads did not run |
 #![tactic(auto)]
 
+mod beside;
 mod fault;
 mod kind;
 mod lanes;
 mod promises;
 mod threads;
 
+pub use beside::{Beside, run_beside};
 pub use fault::ThreadFault;
-pub use kind::{Keeper, NoKeeper, Serve};
+pub use kind::{Keeper, Serve};
 pub use lanes::{LanesEnd, LanesRun, LanesToEnd, ThreadPlaces, end_lanes, run_lanes};
 pub use threads::{Back, Lent};

@@ -56,9 +56,9 @@ impl<W: Drop> Back<W> {
     }
 }
 
-// Runs a thread for each worker and for each that serves, does meanwhile what the keeper does, and joins them. Once a thread is
-// started nothing returns before all are joined, and memory is refused before the first one starts or not at all. The closure
-// captures all of it at one lifetime, so its two loops stand in one function.
+// Runs a thread for each worker and for each that serves, and one for the keeper where it wants one, does meanwhile what the keeper
+// does, and joins them. Once a thread is started nothing returns before all are joined, and memory is refused before the first one
+// starts or not at all. The closure captures all of it at one lifetime, so its two loops stand in one function.
 pub(crate) fn run_threads<'x, W, C, H, S, K, D, R>(
     rt: &'x R,
     alloc: Global,
@@ -72,7 +72,7 @@ where
     H: Serve<S, K> + Sync,
     S: Send + Drop,
     K: Send + Drop,
-    D: Keeper,
+    D: Keeper + Sync,
     R: Threads + Wait + Sync,
     requires begins { CanBegin W.pass W.can_begin context.lanes.now sessions.items workers.items }
     requires queues { length context.answers.now ≡ length sessions.items }
@@ -109,7 +109,9 @@ where
         {
             let (mut serving, mut working) = (serving, working);
             let room = Back::with_room(alloc, sessions.len(), workers.len())?;
-            let mut all_started = true;
+            let first = lanes[0].jobs();
+            let mut all_started = !keeper.has_thread()
+                || scope.spawn(move || keeper.run(first)).is_ok();
             let mut lane = 0;
             for start in workers {
                 let jobs = lanes[lane].jobs();
@@ -159,6 +161,7 @@ where
             opening.decide(all_started);
             keep_where(keeper, all_started);
             let back = join_all(rt, serving, working, lanes, room);
+            keeper.end();
             if all_started {
                 Ok(back)
             } else {

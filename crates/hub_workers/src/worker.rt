@@ -6,7 +6,7 @@ ghost use Rattle.hub_workers.specs.Work.{IsWorked};
 use crate::gate::Gate;
 use hub_shared::{Seat, SharedHub};
 use inbox::{Job, Pass};
-use session_lanes::{AnswerQueue, JobQueue, Work, push_to_session};
+use session_lanes::{AnswerQueue, Arrival, JobQueue, Work, push_to_session};
 use session_lines::Done;
 use std::sync::Wait;
 use std::sync::ledger::Ledger;
@@ -65,8 +65,9 @@ pub fn work<L: Ledger, G: Gate, R: Wait>(
     let (mut pass, mut seat) = (pass, seat);
     for _ in rt.forever() {
         match jobs.next(rt, &mut pass) {
-            Some(job) => answer(rt, context, answers, &mut seat, job),
-            None => break,
+            Arrival::Job(job) => answer(rt, context, answers, &mut seat, job),
+            Arrival::Signal => {}
+            Arrival::End => break,
         }
     }
     Worker { pass, seat }

@@ -15,8 +15,13 @@
 //! Only [`JournalWorker::answer_sessions`] gives answers to sessions, and it may be called only where they are answers to jobs whose
 //! calls are in the history, all of which is on the disk. Where a call of the file fails, the answers of that batch are dropped, all
 //! queues of answers are ended, and the worker takes no job any more.
+//!
+//! Who looks at the hub meanwhile leaves a question ([`PendingLook`], by [`JournalLooks`]), which the worker answers between two
+//! batches: what is seen is of a hub all of whose calls are on the disk.
 #![tactic(auto)]
 
+mod looks;
 mod worker;
 
+pub use looks::{Exchange, JournalLooks, PendingLook, Question, Seen, see};
 pub use worker::JournalWorker;

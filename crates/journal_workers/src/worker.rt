@@ -7,10 +7,11 @@ ghost use Rattle.session_lines.specs.declared.session.Done.{Done};
 ghost use Rattle.journaled_hub.specs.JournaledHubs.{history_of, journal_of, IsJournaled, IsOnDisk};
 ghost use Rattle.journal_workers.specs.Work.{HasMadeCalls, HasRoom, HasWorked, IsAnswerTo, IsReady, MayAnswer};
 
+use crate::looks::PendingLook;
 use inbox::{Job, Pass};
 use journal::{Failed, RawFile};
 use journaled_hub::JournaledHub;
-use session_lanes::{AnswerQueue, JobQueue, Work, push_to_session};
+use session_lanes::{AnswerQueue, Arrival, JobQueue, Work, push_to_session};
 use session_lines::Done;
 use std::alloc::Global;
 use std::collections::VecDeque;
@@ -37,7 +38,7 @@ pub struct JournalWorker<F> {
 // What came of a batch.
 #[derive(Clone, Copy, Debug, PartialEq, Eq)]
 enum BatchEnd {
-    // Its sessions have their answers.
+    // Its sessions have their answers; or it was a signal, and there was no job.
     Answered,
     // There was none: the queue was ended, and is empty.
     NoJob,
@@ -119,7 +120,7 @@ impl<F: RawFile + Drop> JournalWorker<F> {
     }
 
     // Waits for a job, makes its call and those of the jobs that are there behind it, puts them on the disk, and only then answers
-    // their sessions.
+    // their sessions. Where a signal comes and no job, it does nothing.
     fn answer_batch<R: Wait>(
         &mut self,
         rt: &R,
@@ -131,8 +132,10 @@ impl<F: RawFile + Drop> JournalWorker<F> {
         ensures worked { HasWorked self.old self.new }
         ensures ready { result ≡ BatchEnd.Answered → IsReady self.new }
     {
-        let Some(first) = jobs.next(rt, &mut self.pass) else {
-            return BatchEnd::NoJob;
+        let first = match jobs.next(rt, &mut self.pass) {
+            Arrival::Job(job) => job,
+            Arrival::Signal => return BatchEnd::Answered,
+            Arrival::End => return BatchEnd::NoJob,
         };
         self.make_calls(rt, jobs, first);
         match self.hub.sync() {
@@ -156,7 +159,7 @@ impl<F: RawFile + Drop> JournalWorker<F> {
     }
 }
 
-impl<F: RawFile + Drop> Work<()> for JournalWorker<F> {
+impl<F: RawFile + Drop> Work<PendingLook> for JournalWorker<F> {
     ghost pass = { λ w. w.pass };
 
     ghost can_begin = { IsReady };
@@ -166,14 +169,14 @@ impl<F: RawFile + Drop> Work<()> for JournalWorker<F> {
     fn work<R: Wait>(
         self,
         rt: &R,
-        _context: &(),
+        looks: &PendingLook,
         jobs: &JobQueue,
         answers: &[AnswerQueue],
     ) -> JournalWorker<F> {
         let mut worker = self;
         for _ in rt.forever() {
             match worker.answer_batch(rt, jobs, answers) {
-                BatchEnd::Answered => {}
+                BatchEnd::Answered => looks.answer(rt, &worker.hub),
                 BatchEnd::NoJob => break,
                 BatchEnd::Failed => {
                     end_answers(answers);
@@ -181,6 +184,7 @@ impl<F: RawFile + Drop> Work<()> for JournalWorker<F> {
                 }
             }
         }
+        looks.end();
         worker
     }
 }

@@ -52,8 +52,10 @@ impl<F: RawFile> RecoveredHub<F> {
         ensures recovered { IfOk result (λ r. IsRecovered r) }
         ensures fault { IfErr result (λ e. IsOpenFault e.0 (bytes_read e.1)) }
     {
-        let mut hub = Hub::with_hasher(alloc, hasher);
         let mut reader = JournalReader::new(alloc, raw);
+        let Ok(mut hub) = Hub::with_hasher(alloc, hasher) else {
+            return Err((OpenFault::Memory, reader));
+        };
         match take_calls(rt, &mut hub, &mut reader) {
             Ok(sum) => Ok(RecoveredHub {
                 hub,

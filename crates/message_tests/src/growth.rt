@@ -3,14 +3,16 @@
 use crate::calls::plan;
 use crate::checks::shown;
 use crate::items::items;
+use crate::legs::two_legs;
 use crate::lines::{MESSAGES, messages};
-use crate::parts::leg;
+use crate::parts::{ONE, leg, wagon};
 use crate::records::running;
 use crate::replies::replies;
 use call_reader::read_call;
 use memory_limit::MemoryLimit;
 use reply_writer::{
-    Buffer, append_fault, append_reply, write_fault, write_item, write_record, write_reply,
+    Buffer, WagonLegs, append_fault, append_reply, write_fault, write_fleet_legs, write_item,
+    write_record, write_reply, write_wagon_legs,
 };
 use std::alloc::Global;
 use std::test::Fail;
@@ -32,6 +34,8 @@ enum Attempt<'a> {
     AppendedReply(&'a Reply, &'a [u8]),
     Item(&'a Item, &'a [u8]),
     Record(&'a Record, &'a [u8]),
+    WagonLegs(&'a WagonLegs<'a>, &'a [u8]),
+    FleetLegs(&'a [WagonLegs<'a>], &'a [u8]),
     Fault(RecordFault, &'a [u8]),
     AppendedFault(RecordFault, &'a [u8]),
     Plan(&'a Plan),
@@ -50,6 +54,8 @@ impl Attempt<'_> {
             }
             Attempt::Item(item, text) => is_text(write_item(alloc, item), text),
             Attempt::Record(known, text) => is_text(write_record(alloc, known), text),
+            Attempt::WagonLegs(shown, text) => is_text(write_wagon_legs(alloc, shown), text),
+            Attempt::FleetLegs(fleet, text) => is_text(write_fleet_legs(alloc, fleet), text),
             Attempt::Fault(fault, text) => is_fault(alloc, *fault, text),
             Attempt::AppendedFault(fault, text) => is_fault_appended(alloc, out, *fault, text),
             Attempt::Plan(plan) => is_whole(planned_again(alloc, plan), plan),
@@ -203,6 +209,25 @@ fn writing_a_record(rt: HostRuntime) -> Result<(), Fail> {
     let text = write_record(alloc, &known)?;
     let attempt = Attempt::Record(&known, &text);
     assert!(rt; refusals(alloc, &mut memory_limit, &attempt)? > 1);
+    Ok(())
+}
+
+#[test]
+fn writing_legs(rt: HostRuntime) -> Result<(), Fail> {
+    let alloc = rt.alloc();
+    let mut memory_limit = MemoryLimit::new(alloc)?;
+    let legs = two_legs()?;
+    let shown = WagonLegs {
+        wagon: wagon(ONE)?,
+        legs: &legs,
+    };
+    let text = write_wagon_legs(alloc, &shown)?;
+    let attempt = Attempt::WagonLegs(&shown, &text);
+    assert!(rt; refusals(alloc, &mut memory_limit, &attempt)? > 0);
+    let fleet = [shown];
+    let text = write_fleet_legs(alloc, &fleet)?;
+    let attempt = Attempt::FleetLegs(&fleet, &text);
+    assert!(rt; refusals(alloc, &mut memory_limit, &attempt)? > 0);
     Ok(())
 }
 

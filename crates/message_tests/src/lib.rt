@@ -1,7 +1,7 @@
 //! Worked records: tests of `taf_messages`. There is nothing else here.
 //!
 //! Lines are read as the calls that they are, or have the fault under which they stand in a text of
-//! cases; replies, items, records and faults are written as the texts beside them, byte for byte. What
+//! cases; replies, items, records, legs and faults are written as the texts beside them, byte for byte. What
 //! is expected comes from the rules of the exchange. Messages, items and replies are compared and
 //! copied, and each growth of memory is refused in turn.
 //!
@@ -21,6 +21,8 @@ mod faults;
 mod growth;
 #[cfg(test)]
 mod items;
+#[cfg(test)]
+mod legs;
 #[cfg(test)]
 mod lines;
 #[cfg(test)]

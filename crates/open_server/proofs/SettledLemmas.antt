@@ -8,7 +8,7 @@ use Rattle.hub_threads.specs.declared.fault.ThreadFault.TheVariants as of_thread
 use Rattle.hub_service.specs.declared.service.Service.{Service}
 use Rattle.hub_service.specs.Services.{IsService}
 use Rattle.hub_service.proofs.OrderLemmas.{sessions_in_order, handlers_in_order}
-use Rattle.server_faults.specs.declared.fault.ServerFault.TheVariants.{NotSettled, Memory}
+use Rattle.server_faults.specs.declared.fault.ServerFault.TheVariants.{NotSettled}
 use Rattle.server_faults.specs.Faults.{fault_of_settling}
 use Rattle.server_faults.proofs.FaultLemmas.{why_is}
 use Rattle.open_server.specs.Faults.{fault_of_threads}
@@ -35,9 +35,6 @@ unsettled handlers workers s f why service told shows is = record {
   not_told = λ yes. let memory = ap fault_of_settling (told yes) in cc (memory, is);
   shows = subst (λ (f : SettleFault). IsSettleFault f s.hub s.earlier s.tallies.items) (why_is f why is) shows;
 }
-
-pub no_memory : (why : SettleFault) → Memory ≡ NotSettled why → ⊥
-no_memory why is = cc is
 
 pub no_threads : (f : ThreadFault) (why : SettleFault) → fault_of_threads f ≡ NotSettled why → ⊥
 no_threads of_threads.Thread why is = cc is

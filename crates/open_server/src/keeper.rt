@@ -1,12 +1,13 @@
-//! What the calling thread does while the connection handlers serve.
+//! What goes on beside the connection handlers: the calling thread reads the input, and the board looks at the hub.
 use crate::listening::Listening;
 use accept_queue::end_service;
-use hub_service::Keeper;
+use hub_service::HubKeeper;
+use hub_shared::HubLooks;
 use std::io::{ErrorKind, Read};
 use std::rt::Clock;
 use std::sync::{Mutex, Wait};
 
-// Reads an input to its end, and then ends the service.
+// Reads an input to its end, and then ends the service. The board looks at the hub meanwhile.
 #[derive(Drop)]
 pub(crate) struct InputKeeper<'a, I, R> {
     rt: &'a R,
@@ -24,10 +25,26 @@ impl<'a, I, R> InputKeeper<'a, I, R> {
     }
 }
 
-impl<'a, I: Read, R: Wait + Clock> Keeper for InputKeeper<'a, I, R> {
+impl<'a, I: Read, R: Wait + Clock> HubKeeper for InputKeeper<'a, I, R> {
     fn keep(&self) {
         read_to_end(&mut *self.input.lock(self.rt));
         end_service(self.rt, &self.listening.queue, &self.listening.control);
+    }
+
+    fn looks(&self) -> bool {
+        self.listening.board.is_some()
+    }
+
+    fn look_at<V: HubLooks>(&self, hub: &V) {
+        if let Some(board) = &self.listening.board {
+            board.serve(self.rt, hub, self.listening.keys.as_ref());
+        }
+    }
+
+    fn end(&self) {
+        if let Some(board) = &self.listening.board {
+            board.end();
+        }
     }
 }
 

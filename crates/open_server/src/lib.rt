@@ -21,7 +21,7 @@
 //! |---|---|
 //! | `listening` | what a service listens by |
 //! | `acceptor` | the thread that accepts connections |
-//! | `keeper` | what the calling thread does while the handlers serve |
+//! | `keeper` | what goes on beside the connection handlers: the input is read, and the board looks at the hub |
 //! | `handlers` | what brings the connections to the handlers |
 //! | `server` | the service, settled |
 //! | `journaled_server` | the same with a journal |

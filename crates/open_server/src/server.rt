@@ -1,14 +1,18 @@
 //! A service over the connections of a listener.
 ghost use Rattle.std.specs.Prelude.{◌≡◌, ◌≤◌, vec_len, IfOk, IfErr};
+ghost use Rattle.hub_service.specs.Services.{IsService};
 ghost use Rattle.hub_shared.specs.declared.settling.SettleFault.{SettleFault};
 ghost use Rattle.open_server.specs.Faults.{fault_of_threads};
 ghost use Rattle.open_server.specs.Settled.{IsSettledService, IsUnsettledService};
 
-use crate::acceptor::run_with_acceptor;
+use crate::acceptor::AcceptThread;
 use crate::handlers::handler_starts;
 use crate::keeper::InputKeeper;
 use crate::listening::Listening;
-use hub_service::{Hooks, SettledService, ThreadFault, run_service, settle_service};
+use hub_service::{
+    Hooks, HubKeeper, Service, SettledService, ThreadFault, run_service, settle_service,
+};
+use hub_threads::run_beside;
 use hub_workers::OpenGate;
 use server_faults::ServerFault;
 use std::alloc::Global;
@@ -27,25 +31,47 @@ use std::thread::Threads;
 pub fn serve_open<I, R>(
     rt: &R,
     alloc: Global,
-    listening: Listening,
+    listening: &Listening,
     input: I,
     workers: usize,
 ) -> Result<SettledService, ServerFault>
 where
-    I: Read + Drop,
+    I: Read + Send + Drop,
     R: Threads + Wait + Clock + Sync + RandomSource,
     requires workers { (1 ≤ workers) × (workers ≤ 8) }
     ensures settled { IfOk result (λ s.
-        IsSettledService listening.queue.limits.handlers workers s.service s.calls) }
+        IsSettledService listening.now.queue.limits.handlers workers s.service s.calls) }
     ensures not_settled { IfErr result (λ f. (why : SettleFault) → f ≡ ServerFault.NotSettled why
-        → IsUnsettledService listening.queue.limits.handlers workers why) }
+        → IsUnsettledService listening.now.queue.limits.handlers workers why) }
 {
-    let handlers = handler_starts(rt, alloc, &listening)?;
-    let keeper = InputKeeper::new(rt, &listening, input);
-    let keeper = &keeper;
-    let run = run_with_acceptor(
+    let keeper = InputKeeper::new(rt, listening, input);
+    let service = match run_accepting(rt, alloc, listening, &keeper, workers) {
+        Ok(service) => service,
+        Err(fault) => return Err(fault_of_threads(fault)),
+    };
+    let settled = settle_service(alloc, service)?;
+    Ok(settled)
+}
+
+// Runs a service whose connections are accepted by a thread of its own.
+fn run_accepting<D, R>(
+    rt: &R,
+    alloc: Global,
+    listening: &Listening,
+    keeper: &D,
+    workers: usize,
+) -> Result<Service, ThreadFault>
+where
+    D: HubKeeper + Sync,
+    R: Threads + Wait + Clock + Sync + RandomSource,
+    requires { (1 ≤ workers) × (workers ≤ 8) }
+    ensures { IfOk result (λ s. IsService listening.now.queue.limits.handlers workers s) }
+{
+    let handlers = handler_starts(rt, alloc, listening)?;
+    let acceptor = AcceptThread { rt, listening };
+    run_beside(
         rt,
-        &listening,
+        &acceptor,
         move ||
             requires handlers { (1 ≤ vec_len handlers) × (vec_len handlers ≤ 64) }
             requires workers { (1 ≤ workers) × (workers ≤ 8) }
@@ -53,13 +79,7 @@ where
             let gate = &OpenGate;
             run_service(rt, alloc, Hooks { gate, keeper }, handlers, workers)
         },
-    );
-    let service = match run {
-        Ok(service) => service,
-        Err(fault) => return Err(fault_of_threads(fault)),
-    };
-    let settled = settle_service(alloc, service)?;
-    Ok(settled)
+    )
 }
 
 // Why a service was not run.

@@ -76,6 +76,8 @@ pub use Rattle.call_reader.specs.Values.{◌>>=◌, member}
 unfoldable pub use Rattle.call_reader.specs.Values.{leg, unit_load, each}
 pub use Rattle.call_reader.proofs.SentLemmas.{read_kept}
 pub use Rattle.reply_writer.specs.Laws.{IsReadAs}
+pub use Rattle.reply_writer.specs.LegShapes.{WagonLegs, wagon_legs_data, fleet_legs_data}
+unfoldable pub use Rattle.reply_writer.specs.LegShapes.{wagon_legs_fields}
 pub use Rattle.reply_writer.specs.RecordShapes.{event_data, estimate_data, record_data}
 unfoldable pub use Rattle.reply_writer.specs.RecordShapes.{event_fields, estimate_fields, first_record_fields, middle_record_fields, last_record_fields}
 pub use Rattle.reply_writer.specs.ReplyShapes.{reply_data, item_data, fault_data}

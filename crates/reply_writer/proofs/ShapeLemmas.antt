@@ -1,5 +1,5 @@
 -- The trees that are written have rising keys, and nest seven deep at most.
-use Rattle.reply_writer.proofs.Common.{◌≡◌, ℕ, suc, List, [], ◌∷◌, true, Option, Some, None, refl, Data, Leg, UnitLoad, fields, or_null, text, at_text, wagon_text, leg_fields, leg_data, unit_fields, unit_data, body_fields, message_data, first_plan_fields, last_plan_fields, movement_fields, offer_fields, answer_fields, leg_time_fields, event_fields, event_data, estimate_fields, estimate_data, first_record_fields, middle_record_fields, last_record_fields, record_data, sub_fields, eti_fields, item_fields, item_data, reply_fields, reply_data, fault_fields, fault_data, Trip, MovementKind, Release, Departure, YardArrival, YardDeparture, Exception, Estimate, Arrival, Delivery, Message, TrainAnswer, Body, RecordEventKind, RecordEvent, Record, EstimateAt, Item, ItemBody, Notice, Sub, Eti, Eta, AlertBegins, AlertEnds, Reply, Why, refused, Accepted, Refused, One, Many, Items, Acknowledged, RecordFault, BadJson, BadKind, MissingField, BadField, BadPlan, Memory, is_ordered, items_are_ordered-map}
+use Rattle.reply_writer.proofs.Common.{◌≡◌, ℕ, suc, List, [], ◌∷◌, true, Option, Some, None, refl, Data, Leg, UnitLoad, fields, or_null, text, at_text, wagon_text, leg_fields, leg_data, WagonLegs, wagon_legs_fields, wagon_legs_data, fleet_legs_data, unit_fields, unit_data, body_fields, message_data, first_plan_fields, last_plan_fields, movement_fields, offer_fields, answer_fields, leg_time_fields, event_fields, event_data, estimate_fields, estimate_data, first_record_fields, middle_record_fields, last_record_fields, record_data, sub_fields, eti_fields, item_fields, item_data, reply_fields, reply_data, fault_fields, fault_data, Trip, MovementKind, Release, Departure, YardArrival, YardDeparture, Exception, Estimate, Arrival, Delivery, Message, TrainAnswer, Body, RecordEventKind, RecordEvent, Record, EstimateAt, Item, ItemBody, Notice, Sub, Eti, Eta, AlertBegins, AlertEnds, Reply, Why, refused, Accepted, Refused, One, Many, Items, Acknowledged, RecordFault, BadJson, BadKind, MissingField, BadField, BadPlan, Memory, is_ordered, items_are_ordered-map}
 use Rattle.taf_messages.specs.declared.message.Body.TheVariants as body
 use Rattle.taf_messages.specs.declared.event.RecordEventKind.TheVariants as event_kind
 
@@ -20,6 +20,15 @@ text_ordered n s = refl
 or_null_ordered : {X : Type 0} (shape : X → Data) (n : ℕ) → ((x : X) → is_ordered (shape x) n ≡ true) → (o : Option X) → is_ordered (or_null shape o) n ≡ true
 or_null_ordered shape n h None = refl
 or_null_ordered shape n h (Some x) = h x
+
+-- ---- legs of wagons
+
+pub wagon_legs_ordered : (n : ℕ) (w : WagonLegs) → is_ordered (wagon_legs_data w) (suc (suc (suc n))) ≡ true
+unfolding wagon_legs_fields
+wagon_legs_ordered n w = rw (items_are_ordered-map leg_data (suc n) (leg_ordered n) w.legs) refl
+
+pub fleet_legs_ordered : (n : ℕ) (ws : List WagonLegs) → is_ordered (fleet_legs_data ws) (suc (suc (suc (suc (suc n))))) ≡ true
+fleet_legs_ordered n ws = rw (items_are_ordered-map wagon_legs_data (suc (suc (suc n))) (wagon_legs_ordered n) ws) refl
 
 -- ---- messages
 

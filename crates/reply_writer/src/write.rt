@@ -85,7 +85,8 @@ pub fn append_fault(alloc: Global, out: &mut Buffer, fault: &RecordFault) -> Res
     append(alloc, out, fault)
 }
 
-fn text_of<T: Json>(alloc: Global, value: &T) -> Result<Vec<u8>, Memory>
+/// The text of a value.
+pub(crate) fn text_of<T: Json>(alloc: Global, value: &T) -> Result<Vec<u8>, Memory>
     ensures text { IfOk result (λ text. text.items ≡ compact_text (T.shape value.now)) }
     ensures small { OnOk result (AreSmall (json_tokens (outline (T.shape value.now)))) }
 {

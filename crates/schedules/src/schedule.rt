@@ -66,7 +66,7 @@ impl<'b> Schedule<'b> {
         Ok(Schedule {
             alloc,
             scarcity,
-            hub: Box::new(alloc, Hub::new(alloc))?,
+            hub: Box::new(alloc, Hub::new(alloc)?)?,
             handlers,
             lanes,
             returning: VecDeque::new(alloc),

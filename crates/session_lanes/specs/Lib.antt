@@ -1,3 +1,4 @@
+pub mod Arrivals
 pub mod Ends
 pub mod Lanes
 pub mod Passes

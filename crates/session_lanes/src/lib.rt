@@ -21,7 +21,8 @@
 //!
 //! No contract says that a thread that waits is woken, nor what an [`AnswerQueue`] or an [`Opening`] holds. A worker whose lane
 //! is empty and a session that waits for answers let others run a few times, and then sleep until they are woken: a worker by the
-//! first job, and a session once all the answers that it waits for are there.
+//! first job, and a session once all the answers that it waits for are there. Whoever has something else for a worker to do than a
+//! job gives it a signal ([`JobQueue::signal`]).
 //!
 //! | part | what it has |
 //! |---|---|
@@ -51,7 +52,7 @@ pub use ends::{Served, SessionEnd, SessionStart};
 pub use lane::{Lane, make_lanes, start_sessions};
 pub use next::{SessionQueues, serve_next};
 pub use places::{LanePlaces, make_lane_places};
-pub use queues::{AnswerQueue, JobQueue, Opening, push_to_session};
+pub use queues::{AnswerQueue, Arrival, JobQueue, Opening, push_to_session};
 pub use room::with_room;
 pub use session::{SessionContext, serve};
 pub use work::Work;

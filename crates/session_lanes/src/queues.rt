@@ -1,8 +1,9 @@
 //! The queues between sessions and workers, where their threads sleep while there is nothing to take.
-ghost use Rattle.std.specs.Prelude.{◌≡◌, ◌-◌, ◌≤◌, sum_by, IfOk, IfErr, IfSome, IfNone, OnOk, OnErr};
+ghost use Rattle.std.specs.Prelude.{◌≡◌, ◌-◌, ◌≤◌, sum_by, false, IfOk, IfErr, IfSome, IfNone, OnOk, OnErr};
 ghost use Rattle.std.specs.List.{All};
 ghost use Rattle.inbox.specs.Rules.{ALL_PARTS};
 ghost use Rattle.inbox.specs.States.{new_pass, after_put, after_take, HeldSoMany, IsKeptBy};
+ghost use Rattle.session_lanes.specs.Arrivals.{HasArrived, is_job};
 
 use crossbeam_queue::ArrayQueue;
 use crossbeam_utils::sync::EventCount;
@@ -18,6 +19,17 @@ use taf_codes::Memory;
 // How often a thread lets others run before it sleeps.
 const YIELDS: u64 = 4;
 
+/// What comes to the worker of a lane.
+#[derive(Debug, PartialEq, Eq, Drop)]
+pub enum Arrival {
+    /// The job that was put first.
+    Job(Job),
+    /// A signal, while no job was there.
+    Signal,
+    /// Nothing any more: the queue was ended, and is empty.
+    End,
+}
+
 /// The jobs of a lane on their way to its worker, which sleeps while there is none.
 ///
 /// Contracts see it as its inbox.
@@ -25,6 +37,7 @@ const YIELDS: u64 = 4;
 pub struct JobQueue {
     inbox: Inbox,
     arrived: EventCount,
+    signalled: AtomicBool,
     ended: AtomicBool,
 }
 
@@ -47,6 +60,7 @@ impl JobQueue {
         let jobs = JobQueue {
             inbox,
             arrived: EventCount::new(),
+            signalled: AtomicBool::new(false),
             ended: AtomicBool::new(false),
         };
         Ok((jobs, pass))
@@ -94,27 +108,37 @@ impl JobQueue {
         None
     }
 
-    /// The job that was put first. It sleeps while there is none, once it has let others run a few times; none comes once the
-    /// queue was ended and is found empty, as [`Inbox::take`] says.
-    pub fn next<R: Wait>(&self, rt: &R, pass: &mut Pass) -> Option<Job>
+    /// The job that was put first, or else a signal that was given. It sleeps while there is neither, once it has let others run a few
+    /// times. The end comes once the queue was ended and is found empty; there is no job only where it was empty, as [`Inbox::take`]
+    /// says.
+    pub fn next<R: Wait>(&self, rt: &R, pass: &mut Pass) -> Arrival
         requires own { pass.old.inbox ≡ self.now.id }
-        ensures taken { IfSome result (λ job. pass.new ≡ after_take pass.old job) }
-        ensures none { IfNone result (pass.new ≡ pass.old) }
-        ensures empty { IfNone result (HeldSoMany 0 pass.old) }
+        ensures arrived { HasArrived result pass.old pass.new }
+        ensures empty { is_job result ≡ false → HeldSoMany 0 pass.old }
     {
         if let Some(job) = self.take_soon(rt, pass) {
-            return Some(job);
+            return Arrival::Job(job);
         }
         for _ in rt.forever() {
             let waiting = self.arrived.prepare_wait();
             let last = self.ended.load(Ordering::SeqCst);
-            let job = self.inbox.take(rt, pass);
-            if job.is_some() || last {
-                return job;
+            match self.inbox.take(rt, pass) {
+                Some(job) => return Arrival::Job(job),
+                None if last => return Arrival::End,
+                None => {}
+            }
+            if self.signalled.swap(false, Ordering::SeqCst) {
+                return Arrival::Signal;
             }
             waiting.wait(rt);
         }
         unreachable!()
+    }
+
+    /// Gives the worker a signal, which wakes it where it sleeps. Signals that were not taken yet are one.
+    pub fn signal(&self) {
+        self.signalled.store(true, Ordering::SeqCst);
+        self.arrived.notify_one();
     }
 
     /// The job that was put first, if one is there. It does not wait for one; none is there only where the queue was empty, as

@@ -80,7 +80,7 @@ fn line_of(alloc: Global, done: &Done) -> Result<Vec<u8>, Fail> {
 impl Scarce {
     fn new(alloc: Global) -> Result<Scarce, Fail> {
         let session = Box::new(alloc, Session::new(alloc, ID))?;
-        let hub = Box::new(alloc, Hub::new(alloc))?;
+        let hub = Box::new(alloc, Hub::new(alloc)?)?;
         let memory_limit = MemoryLimit::new(alloc)?;
         Ok(Scarce {
             alloc,
@@ -172,7 +172,7 @@ impl Scarce {
         self.lines = 0;
         self.answers = 0;
         self.read_lines()?;
-        let session = begin_anew(self.alloc, &mut *self.session, &mut *self.hub);
+        let session = begin_anew(self.alloc, &mut *self.session, &mut *self.hub)?;
         let tally = replies_of(self.alloc, &session.on_end())?;
         let said = replace(&mut self.said, Vec::new(self.alloc));
         Ok(Told { said, tally })

@@ -68,9 +68,13 @@ fn line_at(script: &str, place: usize) -> Option<&str> {
 }
 
 /// Puts a new session and a new hub in place of these, and gives back the session that was there.
-pub(crate) fn begin_anew(alloc: Global, session: &mut Session, hub: &mut Hub) -> Session {
-    *hub = Hub::new(alloc);
-    replace(session, Session::new(alloc, ID))
+pub(crate) fn begin_anew(
+    alloc: Global,
+    session: &mut Session,
+    hub: &mut Hub,
+) -> Result<Session, Fail> {
+    *hub = Hub::new(alloc)?;
+    Ok(replace(session, Session::new(alloc, ID)))
 }
 
 // What the hub answered to a call.
@@ -129,7 +133,7 @@ impl ScriptRunner {
         Ok(ScriptRunner {
             alloc,
             session: Box::new(alloc, Session::new(alloc, ID))?,
-            hub: Box::new(alloc, Hub::new(alloc))?,
+            hub: Box::new(alloc, Hub::new(alloc)?)?,
             taken: 0,
             read: 0,
             log: Vec::new(alloc),
@@ -265,7 +269,7 @@ impl ScriptRunner {
 
     /// Takes what came of it, and begins anew with a new session and a new hub.
     pub(crate) fn end(&mut self) -> Result<ScriptResult, Fail> {
-        let session = begin_anew(self.alloc, &mut *self.session, &mut *self.hub);
+        let session = begin_anew(self.alloc, &mut *self.session, &mut *self.hub)?;
         self.taken = 0;
         self.read = 0;
         let tally = replies_of(self.alloc, &session.on_end())?;

@@ -1,4 +1,4 @@
-use Rattle.hub_threads.proofs.Common.{rules, arith, ap, sym, refl, subst, true, ◌∙◌, ◌≡◌, ℕ, ◌+◌, ◌%◌, ◌≤◌, [], ◌∷◌, ◌++◌, length, length-append, vec_len, vec_capacity, map-id, YieldsList-turn, YieldsList-end, YieldsList-from_vec, PromisedHandle, PassState, SessionStart, Served, IsPassOf, EachPair, IsServiceOf, ServedBy, WorkedBy, IsWorkOf}
+use Rattle.hub_threads.proofs.Common.{rules, arith, ap, sym, refl, subst, true, ◌∙◌, ◌≡◌, ℕ, ◌+◌, ◌%◌, ◌≤◌, [], ◌∷◌, ◌++◌, length, length-append, vec_len, vec_capacity, map-id, YieldsList-turn, YieldsList-end, YieldsList-from_vec, PromisedHandle, PassState, LaneState, get_or, SessionStart, Served, IsPassOf, EachPair, IsServiceOf, ServedBy, WorkedBy, IsWorkOf}
 use Rattle.hub_threads.proofs.ThreadLemmas.{through, another_handle, never_both}
 use Rattle.hub_threads.proofs.threads.fn.run_threads.scope.Goals as goal
 use Rattle.hub_threads.proofs.threads.fn.run_threads.scope.Goals.{in-Ok, in-Err, in-Ok-spawn_with, in-Err-spawn_with}
@@ -113,7 +113,9 @@ spawn_with-requires-in-loop-start-2-clause-runs g c =
     let b = c.loop-start-2.invariant.0 in
     let i = c.index-lanes-place.is in
     let e = c.jobs-jobs-in-loop-start-2.ensures in
-    λ κs h. (cc (a, b, i, e), ap (λ (t : PassState). t.put) (known.1 r))
+    let at : get_or lanes (c.loop-start-2.place % length lanes) r ≡ r = sym i in
+    let here = ap (λ k. (get_or lanes (k % length lanes) r).id) (sym b) in
+    λ κs h. (a ∙ (here ∙ (ap (λ (l : LaneState). l.id) at ∙ sym e)), ap (λ (t : PassState). t.put) (known.1 r))
 
 pub push_reserved-requires-in-Ok-spawn_with : goal.push_reserved-requires-in-Ok-spawn_with
 push_reserved-requires-in-Ok-spawn_with g c =

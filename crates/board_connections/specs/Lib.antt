@@ -1,0 +1,5 @@
+pub mod AcceptErrors
+pub mod Answers
+pub mod Client
+pub mod LimitedService
+pub mod Waiting

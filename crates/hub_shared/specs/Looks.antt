@@ -1,0 +1,37 @@
+-- What is seen of a hub without a call: after some history that one thread could have made.
+use Rattle.std.specs.Prelude.{◌≡◌, ℕ, List, length, take, drop}
+use Rattle.taf_codes.specs.declared.code.Railway.{Railway}
+use Rattle.taf_messages.specs.declared.call.Call.TheVariants.{Ask}
+use Rattle.hub_model.specs.declared.entry.Entry.{Entry}
+use Rattle.hub_model.specs.Histories.{answer, state_of}
+use Rattle.hub_answers.specs.Shown.{shown_of, shown_to}
+use Rattle.hub_answers.specs.declared.shown.ShownWagon.{ShownWagon}
+use Rattle.hub_shared.specs.Seats.{IsRun}
+use Rattle.hub_shared.specs.declared.looks.HubCounts.{HubCounts}
+use Rattle.hub_shared.specs.declared.looks.WagonLook.{WagonLook}
+
+-- how many calls the history has, and how many wagons were planned
+abbrev pub AreCountsAt : List Entry → HubCounts → Type 0
+AreCountsAt history c = (c.calls ≡ length history) × (c.wagons ≡ length (state_of history).fleet)
+
+-- such numbers after some history
+abbrev pub AreCounts : HubCounts → Type 0
+AreCounts c = (history : List Entry) × IsRun history × AreCountsAt history c
+
+-- what the railway is shown of a part of the planned wagons
+abbrev pub IsFleetLookAt : List Entry → Railway → ℕ → ℕ → List ShownWagon → Type 0
+IsFleetLookAt history by from most seen =
+    seen ≡ shown_to (state_of history) by (take most (drop from (state_of history).fleet))
+
+-- such a look after some history
+abbrev pub IsFleetLook : Railway → ℕ → ℕ → List ShownWagon → Type 0
+IsFleetLook by from most seen = (history : List Entry) × IsRun history × IsFleetLookAt history by from most seen
+
+-- the reply that the railway's question for the wagon would get, and the wagon as it is shown it
+pub record IsWagonLookAt (history : List Entry) (by : Railway) (wagon : ℕ) (l : WagonLook) : Type 0 where
+  pub reply : l.reply ≡ answer history (Ask by wagon)
+  pub shown : l.shown ≡ shown_of (state_of history) by wagon
+
+-- such a look after some history
+abbrev pub IsWagonLook : Railway → ℕ → WagonLook → Type 0
+IsWagonLook by wagon l = (history : List Entry) × IsRun history × IsWagonLookAt history by wagon l

@@ -1,0 +1,6 @@
+use Rattle.std.proofs.Common.{◌≡◌}
+use Rattle.session_tests.proofs.sharing.scarcity.Scarcity.fill.Given as goal
+
+-- the seat has the parts that it had
+abbrev pub invariant-loop-line : goal.invariant-loop-line
+invariant-loop-line g l = l.caller.seat.parts ≡ l.fn.caller.seat.parts

@@ -1,6 +1,0 @@
-use Rattle.std.proofs.Common.{◌≡◌}
-use Rattle.shared_tests.proofs.caller.Caller.run.Given as goal
-
--- the seat has the parts that it had
-abbrev pub invariant-loop-line : goal.invariant-loop-line
-invariant-loop-line g l = l.caller.seat.parts ≡ l.fn.self.seat.parts

@@ -1,4 +1,0 @@
-use Rattle.shared_tests.proofs.threads.two_threads_settle.Given as goal
-
-abbrev pub ghosts-run_two : goal.ghosts-run_two
-ghosts-run_two g a = record { name = a.blank.name; parts = a.blank.parts }
