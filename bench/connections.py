@@ -1,53 +1,15 @@
 """Connections that do what no railway should, beside two railways whose answers are compared and timed."""
-import json
 import random
 import socket
 import struct
 import threading
 import time
 
+from honest import WAGONS, begin_honest, end_honest
 from hub_server import Server, Wrong, hello, line_of, need, plan, vehicle_number
 
-WAGONS = ["218124712173", "338478961232"]
 # The wagons that a connection plans which is reset with unread answers.
 UNREAD = [vehicle_number(f"33806{number:06}") for number in range(5000)]
-
-
-class Honest(threading.Thread):
-    """A railway that asks one thing after the other, and has each answer compared and timed."""
-
-    def __init__(self, connection, railway, wagon):
-        super().__init__(daemon=True)
-        self.connection, self.railway, self.wagon = connection, railway, wagon
-        self.ends = threading.Event()
-        self.calls, self.slowest, self.wrong = 0, 0.0, None
-
-    def said(self, answers, record):
-        start = time.monotonic()
-        self.connection.sendall(line_of(record))
-        answer = answers.readline()
-        self.slowest = max(self.slowest, time.monotonic() - start)
-        return json.loads(answer)
-
-    def play(self, answers):
-        need(self.said(answers, hello(self.railway)) == {"hello": self.railway}, "another hello")
-        accepted = {"no": 1, "reply": "accepted"}
-        need(self.said(answers, plan(self.railway, 1, self.wagon)) == accepted, "a plan is not accepted")
-        self.calls = 1
-        while not self.ends.is_set():
-            record = self.said(answers, {"kind": "ask", "from": self.railway, "wagon": self.wagon})["record"]
-            need((record["stage"], record["lead"]) == ("planned", self.railway), "another record")
-            self.calls += 1
-            time.sleep(0.001)
-        self.connection.shutdown(socket.SHUT_WR)
-        need(answers.readline() == b"", "a line after the end")
-
-    def run(self):
-        try:
-            with self.connection.makefile("rb") as answers:
-                self.play(answers)
-        except (Wrong, OSError, ValueError, KeyError) as it:
-            self.wrong = f"{self.railway}: {it!r}"
 
 
 # Each of these plays one connection, and gives how many calls the hub has made of it, or None where only the hub knows.
@@ -191,7 +153,8 @@ def post_slowly(connection):
 
 
 def never_read(connection):
-    """Sends until nothing more is taken, and never reads. What is made of its calls is known from what settles."""
+    """Sends until nothing more is taken, never reads, and stays. What is made of its calls is known from what settles."""
+    connection.setsockopt(socket.SOL_SOCKET, socket.SO_RCVBUF, 4096)
     first, ask = hello_and_ask("R305")
     connection.sendall(first)
     connection.settimeout(2)
@@ -200,7 +163,6 @@ def never_read(connection):
             connection.sendall(ask * 100)
     except TimeoutError:
         pass
-    connection.close()
     return None
 
 
@@ -234,26 +196,24 @@ def check_report(report):
 
 def connections():
     server = Server(len(HOSTILE) + 3, 2)
-    honest = [Honest(server.connect(), f"R10{i}", wagon) for i, wagon in enumerate(WAGONS)]
+    honest = begin_honest(server)
     silent = server.connect()
     hostile = [Hostile(server.connect(), play) for play in HOSTILE]
-    for it in [*honest, *hostile]:
+    for it in hostile:
         it.start()
     for it in hostile:
         it.join(60)
-    for it in honest:
-        it.ends.set()
-        it.join(10)
+    calls, slowest = end_honest(honest)
     time.sleep(0.2)
     need(server.process.poll() is None, "the shift ended before the silent session")
-    silent.close()
+    for it in [silent, *(it.connection for it in hostile)]:
+        it.close()
     settled, report, peak = server.end(30)
-    wrong = [it.wrong for it in honest if it.wrong] + [f"{it.name}: {it.wrong}" for it in hostile if it.wrong]
+    wrong = [f"{it.name}: {it.wrong}" for it in hostile if it.wrong]
     need(not wrong, "; ".join(wrong))
-    calls, slowest, unread = sum(it.calls for it in honest), max(it.slowest for it in honest), check_report(report)
+    unread = check_report(report)
     least = calls + unread + sum(it.calls for it in hostile if it.calls is not None)
     need(settled >= least, f"{settled} calls settled, and {least} were answered")
-    need(slowest < 2, f"an answer took {slowest:.3f} seconds")
     need(peak < 64, f"the server took {peak} MiB")
     print(f"connections: {len(HOSTILE) + 1} hostile, beside 2 railways with {calls} calls, the slowest answer within", end=" ")
     print(f"{slowest * 1000:.1f} ms; {unread} of {len(UNREAD)} plans taken before a reset; settled {settled}, {peak} MiB")

@@ -25,6 +25,12 @@ def free_port():
         return server.getsockname()[1]
 
 
+def connection_to(port):
+    connection = socket.create_connection(("127.0.0.1", port))
+    connection.setsockopt(socket.IPPROTO_TCP, socket.TCP_NODELAY, 1)
+    return connection
+
+
 class Server:
     """`taf_hub serve` for so many sessions, at a free port, by so many workers or with a journal."""
 
@@ -47,9 +53,7 @@ class Server:
         raise Wrong(f"the server says {said}")
 
     def connect(self):
-        connection = socket.create_connection(("127.0.0.1", self.port))
-        connection.setsockopt(socket.IPPROTO_TCP, socket.TCP_NODELAY, 1)
-        return connection
+        return connection_to(self.port)
 
     def end(self, limit):
         """How many calls settled, the report, and the peak memory in MiB. A server that takes longer is killed."""

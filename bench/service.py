@@ -1,23 +1,25 @@
-"""`taf_hub open` with clients that no service should have, beside two railways whose answers are compared and timed."""
+"""Two of `taf_hub open` with clients that no service should have, each beside two railways whose answers are compared and timed."""
 import os
 import pathlib
 import socket
 import threading
 import time
 
-from connections import WAGONS, Honest
+from honest import begin_honest, end_honest
 from hub_server import Service, Wrong, hello, line_of, need, plan, vehicle_number
 
 # The two railways, and three places for others.
 SESSIONS = 5
 TIMES = ["--hello-seconds", "1", "--silence-seconds", "2", "--write-seconds", "2", "--grace-seconds", "1"]
+# Of a service that cuts no client off before it ends: an answer that a client held would take until then.
+PATIENT = ["--hello-seconds", "600", "--silence-seconds", "600", "--write-seconds", "600", "--grace-seconds", "1"]
 FULL = b'{"fault":"full"}\n'
 
 # How many connections come at once, and how many of them find neither a place nor room to wait.
 FLOOD, BEYOND = 200, 200 - 3 - 64
 
 # Whatever is to end does so within so many seconds.
-LIMIT = 20
+LIMIT = 120
 
 
 class Client(threading.Thread):
@@ -38,9 +40,14 @@ class Client(threading.Thread):
             self.connection.close()
 
 
-def play_all(clients):
+def start(plays, service):
+    clients = [Client(play, service.connect()) for play in plays]
     for it in clients:
         it.start()
+    return clients
+
+
+def join(clients):
     for it in clients:
         it.join(2 * LIMIT)
     wrong = [it.wrong for it in clients if it.wrong]
@@ -86,6 +93,9 @@ def say_nothing(connection):
     need(said_to_the_end(connection) == b"", "a client that says nothing is told something")
 
 
+PLAYS = [never_read, vanish, say_nothing]
+
+
 def come_in_a_flood(connection):
     """It is told that the hub is full, or cut off since it says nothing."""
     connection.said = said_to_the_end(connection)
@@ -115,7 +125,9 @@ def flood(service):
         connection = Stream()
         connection.connect(("127.0.0.1", service.port))
         clients.append(Client(come_in_a_flood, connection))
-    play_all(clients)
+    for it in clients:
+        it.start()
+    join(clients)
     return sum(it.connection.said == FULL for it in clients)
 
 
@@ -133,44 +145,43 @@ def keeps_again(service, wanted):
     return kept_of(service) == wanted
 
 
-def end_beside_one_that_never_reads(service):
-    """Ends the service, and gives what it printed, and how many seconds it took."""
-    last = Client(never_read, service.connect())
-    last.start()
-    time.sleep(0.5)
-    start = time.monotonic()
+def come_all(service, count):
+    """Has all clients come to a service that cuts them off, and gives how many of a flood are told that it is full."""
+    before = kept_of(service)
+    join(start(PLAYS, service))
+    full = flood(service)
+    need(full >= BEYOND, f"{full} of {FLOOD} connections were told that the hub is full")
+    come_and_go(service, count)
+    need(keeps_again(service, before), f"files and threads before all clients and after them: {before}, {kept_of(service)}")
+    return full
+
+
+def end_beside(clients, service):
+    """Ends a service beside clients that are still there. How many calls settled, the peak memory, and how many seconds it took."""
+    need(all(it.is_alive() for it in clients), "a client is cut off before its time")
+    begun = time.monotonic()
     settled, _, peak = service.end(LIMIT)
-    seconds = time.monotonic() - start
-    last.join(LIMIT)
-    need(not last.wrong, last.wrong)
+    seconds = time.monotonic() - begun
+    join(clients)
+    need(seconds < 20, f"the service took {seconds:.1f} seconds to end")
     return settled, peak, seconds
 
 
 def service():
     count = int(os.environ.get("CONNECTIONS", 10_000))
-    hub = Service(SESSIONS, 2, options=TIMES)
+    hub, patient = Service(SESSIONS, 2, options=TIMES), Service(SESSIONS, 2, options=PATIENT)
     try:
-        honest = [Honest(hub.connect(), f"R10{i}", wagon) for i, wagon in enumerate(WAGONS)]
-        for it in honest:
-            it.start()
-        time.sleep(0.5)
-        before = kept_of(hub)
-        play_all([Client(play, hub.connect()) for play in (never_read, vanish, say_nothing)])
-        full = flood(hub)
-        come_and_go(hub, count)
-        need(keeps_again(hub, before), f"files and threads before all clients and after them: {before}, {kept_of(hub)}")
-        for it in honest:
-            it.ends.set()
-            it.join(10)
-        settled, peak, seconds = end_beside_one_that_never_reads(hub)
+        honest, others = begin_honest(hub), begin_honest(patient)
+        staying = start(PLAYS, patient)
+        full = come_all(hub, count)
+        found = [end_honest(honest), end_honest(others)]
+        ended = [hub.end(LIMIT), end_beside(staying, patient)]
     finally:
         hub.process.kill()
-    wrong = [it.wrong for it in honest if it.wrong]
-    need(not wrong, "; ".join(wrong))
-    calls, slowest = sum(it.calls for it in honest), max(it.slowest for it in honest)
-    need(settled >= calls, f"{settled} calls settled, and {calls} were answered")
-    need(full >= BEYOND, f"{full} of {FLOOD} connections were told that the hub is full")
-    need(slowest < 2, f"an answer took {slowest:.3f} seconds")
-    need(seconds < 10, f"the service took {seconds:.1f} seconds to end")
-    print(f"service: 3 clients cut off, {full} of {FLOOD} told full, {count} one after another, beside 2 railways with {calls} calls,", end=" ")
+        patient.process.kill()
+    for (calls, _), (settled, *_) in zip(found, ended):
+        need(settled >= calls, f"{settled} calls settled, and {calls} were answered")
+    calls, slowest = sum(it for it, _ in found), max(it for _, it in found)
+    settled, peak, seconds = sum(it for it, *_ in ended), max(ended[0][2], ended[1][1]), ended[1][2]
+    print(f"service: 3 clients cut off, 3 that stay, {full} of {FLOOD} told full, {count} one after another, beside 2 railways each with {calls} calls,", end=" ")
     print(f"the slowest answer within {slowest * 1000:.1f} ms; ended in {seconds:.1f} s; settled {settled}, {peak} MiB")
