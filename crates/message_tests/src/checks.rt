@@ -76,13 +76,19 @@ fn have_fault(alloc: Global, lines: &str, text: &str) -> Result<(), Fail> {
 fn in_full(alloc: Global, line: &str) -> Result<String, Fail> {
     let mut whole = String::new(alloc);
     for part in line.split('>') {
-        let (before, list) = part.split_once('<').unwrap_or((part, ""));
-        whole.push_str(before)?;
-        if let Some((count, element)) = list.split_once(' ') {
-            add_list(&mut whole, count.parse::<u32>()?, element)?;
-        }
+        add_part(&mut whole, part)?;
     }
     Ok(whole)
+}
+
+// Adds a text, and in full the list that `<` begins in it.
+fn add_part(whole: &mut String, part: &str) -> Result<(), Fail> {
+    let (before, list) = part.split_once('<').unwrap_or((part, ""));
+    whole.push_str(before)?;
+    match list.split_once(' ') {
+        Some((count, element)) => add_list(whole, count.parse::<u32>()?, element),
+        None => Ok(()),
+    }
 }
 
 // Different wagons, as texts of JSON.

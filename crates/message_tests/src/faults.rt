@@ -147,6 +147,13 @@ fn add_field<'a>(cases: &mut String, start: &'a str, word: &'a str) -> Result<()
     add(cases, &[start, ",\"", field, "\":", bad, "}\n"])
 }
 
+// Adds a field with a good value to what a line begins with.
+fn add_value(start: &mut String, word: &str) -> Result<(), Fail> {
+    let field = word.strip_suffix('?').unwrap_or(word);
+    let (good, _) = values(field)?;
+    add(start, &[",\"", field, "\":", good])
+}
+
 fn add_good(cases: &mut String, start: &str) -> Result<(), Fail> {
     add(cases, &["=good\n", start, "}\n"])
 }
@@ -162,9 +169,7 @@ fn cases_of(alloc: Global, kind: &str) -> Result<String, Fail> {
     add(&mut start, &["{\"kind\":\"", name, "\""])?;
     for word in fields.split(' ') {
         add_field(&mut cases, &start, word)?;
-        let field = word.strip_suffix('?').unwrap_or(word);
-        let (good, _) = values(field)?;
-        add(&mut start, &[",\"", field, "\":", good])?;
+        add_value(&mut start, word)?;
     }
     add_good(&mut cases, &start)?;
     Ok(cases)

@@ -18,8 +18,8 @@ use std::alloc::Global;
 use std::test::Fail;
 use taf_codes::{Memory, UnitCode};
 use taf_messages::{
-    Call, Field, Item, ItemBody, Message, Record, RecordFault, Reply, copy, copy_call, copy_item,
-    copy_reply,
+    Call, Field, Item, ItemBody, Message, Record, RecordFault, Reply, Shared, copy, copy_call,
+    copy_item, copy_reply,
 };
 use trip_plan::{Plan, PlanFault, Route};
 
@@ -133,7 +133,7 @@ fn is_whole<T: PartialEq + Drop>(answer: Result<T, PlanFault>, whole: &T) -> Opt
 }
 
 // How often it was refused before it was made. Each time that it was refused, it is made with ample memory then.
-fn refusals(
+fn count_refusals(
     alloc: Global,
     memory_limit: &mut MemoryLimit,
     attempt: &Attempt,
@@ -155,92 +155,118 @@ fn refusals(
     Err(Fail::new("always refused"))
 }
 
+// The same with a limit of its own.
+fn refusals(alloc: Global, attempt: &Attempt) -> Result<usize, Fail> {
+    let mut memory_limit = MemoryLimit::new(alloc)?;
+    count_refusals(alloc, &mut memory_limit, attempt)
+}
+
 static QUESTIONS: &str = r#"{"kind":"ask","from":"R100","wagon":"318066552148"}
 {"kind":"deviation","from":"R100","consignment":"C-1"}
 {"kind":"fetch","from":"R100","limit":0}
 {"kind":"ack","item":[1,2,{"a":"b"}]}"#;
 
+fn refusals_of_reading(
+    alloc: Global,
+    memory_limit: &mut MemoryLimit,
+    line: &str,
+) -> Result<usize, Fail> {
+    let whole = read_call(alloc, line.as_bytes());
+    count_refusals(alloc, memory_limit, &Attempt::Read(line, &whole))
+}
+
 #[test]
 fn reading(rt: HostRuntime) -> Result<(), Fail> {
-    let alloc = rt.alloc();
-    let mut memory_limit = MemoryLimit::new(alloc)?;
+    let mut memory_limit = MemoryLimit::new(rt.alloc())?;
     let mut refused: usize = 0;
     for line in MESSAGES.lines().chain(QUESTIONS.lines()) {
-        let whole = read_call(alloc, line.as_bytes());
-        let attempt = Attempt::Read(line, &whole);
-        refused = refused.saturating_add(refusals(alloc, &mut memory_limit, &attempt)?);
+        let more = refusals_of_reading(rt.alloc(), &mut memory_limit, line)?;
+        refused = refused.saturating_add(more);
     }
     // A record without lists takes so little that what was just given back may serve it. The others are refused often.
     assert!(rt; refused > 20, "{refused}");
     Ok(())
 }
 
+// Whether the text of the reply is refused, alone and behind other text.
+fn is_reply_refused(
+    alloc: Global,
+    memory_limit: &mut MemoryLimit,
+    reply: &Reply,
+) -> Result<bool, Fail> {
+    let text = write_reply(alloc, reply)?;
+    let alone = count_refusals(alloc, memory_limit, &Attempt::Reply(reply, &text))?;
+    let behind = count_refusals(alloc, memory_limit, &Attempt::AppendedReply(reply, &text))?;
+    Ok(alone > 0 && behind > 0)
+}
+
 #[test]
 fn writing_replies(rt: HostRuntime) -> Result<(), Fail> {
-    let alloc = rt.alloc();
-    let mut memory_limit = MemoryLimit::new(alloc)?;
-    for reply in replies(alloc)?.iter() {
-        let text = write_reply(alloc, reply)?;
-        let attempt = Attempt::Reply(reply, &text);
-        assert!(rt; refusals(alloc, &mut memory_limit, &attempt)? > 0);
-        let attempt = Attempt::AppendedReply(reply, &text);
-        assert!(rt; refusals(alloc, &mut memory_limit, &attempt)? > 0);
+    let mut memory_limit = MemoryLimit::new(rt.alloc())?;
+    for reply in replies(rt.alloc())?.iter() {
+        assert!(rt; is_reply_refused(rt.alloc(), &mut memory_limit, reply)?);
     }
     Ok(())
+}
+
+fn is_item_refused(
+    alloc: Global,
+    memory_limit: &mut MemoryLimit,
+    item: &Item,
+) -> Result<bool, Fail> {
+    let text = write_item(alloc, item)?;
+    Ok(count_refusals(alloc, memory_limit, &Attempt::Item(item, &text))? > 0)
 }
 
 #[test]
 fn writing_items(rt: HostRuntime) -> Result<(), Fail> {
-    let alloc = rt.alloc();
-    let mut memory_limit = MemoryLimit::new(alloc)?;
-    for item in items(alloc)?.iter() {
-        let text = write_item(alloc, item)?;
-        let attempt = Attempt::Item(item, &text);
-        assert!(rt; refusals(alloc, &mut memory_limit, &attempt)? > 0);
+    let mut memory_limit = MemoryLimit::new(rt.alloc())?;
+    for item in items(rt.alloc())?.iter() {
+        assert!(rt; is_item_refused(rt.alloc(), &mut memory_limit, item)?);
     }
     Ok(())
 }
 
+fn refusals_of_record(alloc: Global, known: &Record) -> Result<usize, Fail> {
+    let text = write_record(alloc, known)?;
+    refusals(alloc, &Attempt::Record(known, &text))
+}
+
 #[test]
 fn writing_a_record(rt: HostRuntime) -> Result<(), Fail> {
-    let alloc = rt.alloc();
-    let mut memory_limit = MemoryLimit::new(alloc)?;
-    let known = running(alloc, true)?;
-    let text = write_record(alloc, &known)?;
-    let attempt = Attempt::Record(&known, &text);
-    assert!(rt; refusals(alloc, &mut memory_limit, &attempt)? > 1);
+    let known = running(rt.alloc(), true)?;
+    assert!(rt; refusals_of_record(rt.alloc(), &known)? > 1);
     Ok(())
+}
+
+fn are_legs_refused(alloc: Global, shown: &WagonLegs) -> Result<bool, Fail> {
+    let text = write_wagon_legs(alloc, shown)?;
+    Ok(refusals(alloc, &Attempt::WagonLegs(shown, &text))? > 0)
+}
+
+fn is_fleet_refused(alloc: Global, fleet: &[WagonLegs]) -> Result<bool, Fail> {
+    let text = write_fleet_legs(alloc, fleet)?;
+    Ok(refusals(alloc, &Attempt::FleetLegs(fleet, &text))? > 0)
 }
 
 #[test]
 fn writing_legs(rt: HostRuntime) -> Result<(), Fail> {
-    let alloc = rt.alloc();
-    let mut memory_limit = MemoryLimit::new(alloc)?;
     let legs = two_legs()?;
     let shown = WagonLegs {
         wagon: wagon(ONE)?,
         legs: &legs,
     };
-    let text = write_wagon_legs(alloc, &shown)?;
-    let attempt = Attempt::WagonLegs(&shown, &text);
-    assert!(rt; refusals(alloc, &mut memory_limit, &attempt)? > 0);
-    let fleet = [shown];
-    let text = write_fleet_legs(alloc, &fleet)?;
-    let attempt = Attempt::FleetLegs(&fleet, &text);
-    assert!(rt; refusals(alloc, &mut memory_limit, &attempt)? > 0);
+    assert!(rt; are_legs_refused(rt.alloc(), &shown)?);
+    assert!(rt; is_fleet_refused(rt.alloc(), &[shown])?);
     Ok(())
 }
 
 #[test]
 fn writing_a_fault(rt: HostRuntime) -> Result<(), Fail> {
-    let alloc = rt.alloc();
-    let mut memory_limit = MemoryLimit::new(alloc)?;
     let fault = RecordFault::BadField(Field::Consignment);
     let text = br#"{"fault":"bad_field","field":"consignment"}"#;
-    let attempt = Attempt::Fault(fault, text);
-    assert!(rt; refusals(alloc, &mut memory_limit, &attempt)? > 0);
-    let attempt = Attempt::AppendedFault(fault, text);
-    assert!(rt; refusals(alloc, &mut memory_limit, &attempt)? > 0);
+    assert!(rt; refusals(rt.alloc(), &Attempt::Fault(fault, text))? > 0);
+    assert!(rt; refusals(rt.alloc(), &Attempt::AppendedFault(fault, text))? > 0);
     Ok(())
 }
 
@@ -252,31 +278,37 @@ fn is_copy<T: PartialEq + Drop>(copied: Result<T, Memory>, source: &T) -> bool {
     }
 }
 
+fn is_plan_copied(alloc: Global, plan: &Plan) -> Result<bool, Fail> {
+    let mut memory_limit = MemoryLimit::new(alloc)?;
+    memory_limit.limit_to(0)?;
+    let copied = is_copy(plan.copy(), plan);
+    memory_limit.release();
+    Ok(copied)
+}
+
 // A plan is made of three lists and what they are kept in.
 #[test]
 fn making_a_plan(rt: HostRuntime) -> Result<(), Fail> {
     let plan = plan(rt.alloc(), Some(UnitCode::read("CSQU3054383")?))?;
-    let mut memory_limit = MemoryLimit::new(rt.alloc())?;
-    let attempt = Attempt::Plan(&plan);
-    assert!(rt; refusals(rt.alloc(), &mut memory_limit, &attempt)? > 3);
-    memory_limit.limit_to(0)?;
-    let copied = is_copy(plan.copy(), &plan);
-    memory_limit.release();
-    assert!(rt; copied);
+    assert!(rt; refusals(rt.alloc(), &Attempt::Plan(&plan))? > 3);
+    assert!(rt; is_plan_copied(rt.alloc(), &plan)?);
     Ok(())
+}
+
+fn is_route_copied(alloc: Global, route: &Route) -> Result<bool, Fail> {
+    let mut memory_limit = MemoryLimit::new(alloc)?;
+    memory_limit.limit_to(0)?;
+    let copied = is_copy(route.copy(), route);
+    memory_limit.release();
+    Ok(copied)
 }
 
 #[test]
 fn making_a_route(rt: HostRuntime) -> Result<(), Fail> {
     let leg = leg("R103", "AT00002", "CH00004", 180)?;
     let route = Route::new(rt.alloc(), &[leg])?;
-    let mut memory_limit = MemoryLimit::new(rt.alloc())?;
-    let attempt = Attempt::Route(&route);
-    assert!(rt; refusals(rt.alloc(), &mut memory_limit, &attempt)? > 1);
-    memory_limit.limit_to(0)?;
-    let copied = is_copy(route.copy(), &route);
-    memory_limit.release();
-    assert!(rt; copied);
+    assert!(rt; refusals(rt.alloc(), &Attempt::Route(&route))? > 1);
+    assert!(rt; is_route_copied(rt.alloc(), &route)?);
     Ok(())
 }
 
@@ -295,14 +327,22 @@ fn are_copied(
     Ok(copied)
 }
 
+// The same of a message, of its call and of the item that carries it.
+fn is_message_copied(
+    memory_limit: &mut MemoryLimit,
+    message: &Shared<Message>,
+) -> Result<bool, Fail> {
+    let call = Call::Send(message.clone()?);
+    let body = ItemBody::Notice(message.clone()?);
+    let item = Item { number: 1, body };
+    are_copied(memory_limit, message.get(), &call, &item)
+}
+
 #[test]
 fn copying_messages(rt: HostRuntime) -> Result<(), Fail> {
     let mut memory_limit = MemoryLimit::new(rt.alloc())?;
-    for message in messages(rt.alloc())? {
-        let call = Call::Send(message.clone()?);
-        let body = ItemBody::Notice(message.clone()?);
-        let item = Item { number: 1, body };
-        assert!(rt; are_copied(&mut memory_limit, message.get(), &call, &item)?);
+    for message in messages(rt.alloc())?.iter() {
+        assert!(rt; is_message_copied(&mut memory_limit, message)?);
     }
     Ok(())
 }

@@ -48,13 +48,23 @@ fn some_offered(alloc: Global) -> Result<OfferedWagons, Fail> {
     }
 }
 
+// Whether a list of two wagons gives back these.
+fn some_give_back(alloc: Global, two: &[WagonNumber]) -> Result<bool, Fail> {
+    let some = some_wagons(alloc)?;
+    Ok(some.as_slice() == two && some.into_vec().as_slice() == two)
+}
+
+// Whether a list of two offered wagons gives back these.
+fn some_offered_give_back(alloc: Global, two: &[WagonNumber]) -> Result<bool, Fail> {
+    let some = some_offered(alloc)?;
+    Ok(some.as_slice() == two && some.into_vec().as_slice() == two)
+}
+
 #[test]
 fn wagons_are_given_back(rt: HostRuntime) -> Result<(), Fail> {
     let two = wagons(rt.alloc(), &[ONE, TWO])?;
-    assert!(rt; some_wagons(rt.alloc())?.as_slice() == two.as_slice());
-    assert!(rt; some_wagons(rt.alloc())?.into_vec() == two);
-    assert!(rt; some_offered(rt.alloc())?.as_slice() == two.as_slice());
-    assert!(rt; some_offered(rt.alloc())?.into_vec() == two);
+    assert!(rt; some_give_back(rt.alloc(), &two)?);
+    assert!(rt; some_offered_give_back(rt.alloc(), &two)?);
     Ok(())
 }
 

@@ -67,10 +67,11 @@ fn bare(alloc: Global) -> Result<Record, Fail> {
 
 // The record as it is planned, with a unit and these events.
 fn planned_with(alloc: Global, events: &[RecordEvent]) -> Result<Record, Fail> {
-    let unit = UnitCode::read("CSQU3054383")?;
+    let units = Vec::from_slice(alloc, &[UnitCode::read("CSQU3054383")?])?;
+    let events = Vec::from_slice(alloc, events)?;
     let mut planned = bare(alloc)?;
-    planned.events = Listed::from_vec(Vec::from_slice(alloc, events)?);
-    planned.units = Listed::from_vec(Vec::from_slice(alloc, &[unit])?);
+    planned.events = Listed::from_vec(events);
+    planned.units = Listed::from_vec(units);
     Ok(planned)
 }
 
@@ -103,9 +104,11 @@ pub(crate) fn running(alloc: Global, late: bool) -> Result<Record, Fail> {
     let events = if late { &journey[..] } else { &journey[..3] };
     let eta = Some(moment(times[1])?);
     let responsible = Some(railway("R101")?);
+    let estimates = estimates(alloc, &times)?;
+    let events = Vec::from_slice(alloc, events)?;
     let mut running = bare(alloc)?;
-    running.estimates = estimates(alloc, &times)?;
-    running.events = Listed::from_vec(Vec::from_slice(alloc, events)?);
+    running.estimates = estimates;
+    running.events = Listed::from_vec(events);
     running.stage = Stage::Running;
     running.status = Status::LoadedOnJourney;
     running.place = None;
@@ -115,21 +118,25 @@ pub(crate) fn running(alloc: Global, late: bool) -> Result<Record, Fail> {
     Ok(running)
 }
 
-pub(crate) static RUNNING: &str =
+pub(crate) const RUNNING: &str =
     r#"{"commit":"2025-03-01T15:30Z","consignment":"C-1","estimates":[{"at":"2025-03-01T11:00Z","leg":0},{"at":"2025-03-01T15:00Z","leg":1}],"eta":"2025-03-01T15:00Z","events":[{"by":"R100","kind":"plan","no":1},{"at":"2025-03-01T05:30Z","by":"R100","kind":"release","no":2},{"at":"2025-03-01T06:00Z","by":"R101","kind":"depart","no":1}],"late":false,"lead":"R100","leg":0,"load":"loaded","place":null,"responsible":"R101","stage":"running","status":"loaded_on_journey","wagon":"218124712173"}"#;
 
-pub(crate) static LATE: &str =
+pub(crate) const LATE: &str =
     r#"{"commit":"2025-03-01T15:30Z","consignment":"C-1","estimates":[{"at":"2025-03-01T11:45Z","leg":0},{"at":"2025-03-01T15:45Z","leg":1}],"eta":"2025-03-01T15:45Z","events":[{"by":"R100","kind":"plan","no":1},{"at":"2025-03-01T05:30Z","by":"R100","kind":"release","no":2},{"at":"2025-03-01T06:00Z","by":"R101","kind":"depart","no":1},{"at":"2025-03-01T07:00Z","by":"R101","delay":45,"kind":"exception","no":2}],"late":true,"lead":"R100","leg":0,"load":"loaded","place":null,"responsible":"R101","stage":"running","status":"loaded_on_journey","wagon":"218124712173"}"#;
 
 static PLANNED: &str =
     r#"{"commit":"2025-03-01T15:30Z","consignment":"C-1","estimates":[],"eta":null,"events":[{"by":"R100","kind":"plan","no":1}],"late":false,"lead":"R100","leg":0,"load":"loaded","place":"DE00001","responsible":null,"stage":"planned","status":"loading","units":["CSQU3054383"],"wagon":"218124712173"}"#;
 
+// Fails unless the record of the wagon, late or not, has this text.
+fn is_running_text(alloc: Global, late: bool, text: &str) -> Result<(), Fail> {
+    is_text(write_record(alloc, &running(alloc, late)?), text)
+}
+
 #[test]
 fn texts_of_records(rt: HostRuntime) -> Result<(), Fail> {
-    let alloc = rt.alloc();
-    is_text(write_record(alloc, &running(alloc, false)?), RUNNING)?;
-    is_text(write_record(alloc, &running(alloc, true)?), LATE)?;
-    is_text(write_record(alloc, &planned(alloc)?), PLANNED)
+    is_running_text(rt.alloc(), false, RUNNING)?;
+    is_running_text(rt.alloc(), true, LATE)?;
+    is_text(write_record(rt.alloc(), &planned(rt.alloc())?), PLANNED)
 }
 
 // Fails unless the text of the record has this part.
@@ -154,6 +161,18 @@ fn add_events(
     Ok(())
 }
 
+// The kinds of events that have no moment.
+fn kinds_without_a_moment() -> Result<[RecordEventKind; 4], Fail> {
+    let leg = within32(1)?;
+    let minutes = within32(200)?;
+    Ok([
+        RecordEventKind::Planned,
+        RecordEventKind::EstimateAsked,
+        RecordEventKind::LegTimed { leg, minutes },
+        RecordEventKind::Rerouted { leg },
+    ])
+}
+
 const WITHOUT_A_FIELD: [RecordEventKind; 8] = [
     RecordEventKind::Moved(MovementKind::Release),
     RecordEventKind::Moved(MovementKind::Departure),
@@ -165,39 +184,26 @@ const WITHOUT_A_FIELD: [RecordEventKind; 8] = [
     RecordEventKind::Answered { received: false },
 ];
 
-fn events_of_each_kind(alloc: Global) -> Result<Vec<RecordEvent>, Fail> {
-    let (leg, minutes, delay) = (within32(1)?, within32(200)?, within32(45)?);
+// The kinds that have a moment and a field beside it.
+fn kinds_with_a_field() -> Result<[RecordEventKind; 4], Fail> {
     let place = place("AT00002")?;
+    let delay = within32(45)?;
+    Ok([
+        RecordEventKind::Moved(MovementKind::YardArrival { place }),
+        RecordEventKind::Moved(MovementKind::YardDeparture { place }),
+        RecordEventKind::Moved(MovementKind::Exception { delay }),
+        RecordEventKind::Offered { place },
+    ])
+}
+
+fn events_of_each_kind(alloc: Global) -> Result<Vec<RecordEvent>, Fail> {
+    let without_a_moment = kinds_without_a_moment()?;
+    let with_a_field = kinds_with_a_field()?;
     let at = Some(moment("2025-03-01T11:10Z")?);
     let mut events = Vec::new(alloc);
-    add_events(
-        &mut events,
-        None,
-        &[RecordEventKind::Planned, RecordEventKind::EstimateAsked],
-    )?;
-    add_events(
-        &mut events,
-        None,
-        &[RecordEventKind::LegTimed { leg, minutes }],
-    )?;
-    add_events(&mut events, None, &[RecordEventKind::Rerouted { leg }])?;
+    add_events(&mut events, None, &without_a_moment)?;
     add_events(&mut events, at, &WITHOUT_A_FIELD)?;
-    add_events(
-        &mut events,
-        at,
-        &[RecordEventKind::Moved(MovementKind::YardArrival { place })],
-    )?;
-    add_events(
-        &mut events,
-        at,
-        &[RecordEventKind::Moved(MovementKind::YardDeparture { place })],
-    )?;
-    add_events(
-        &mut events,
-        at,
-        &[RecordEventKind::Moved(MovementKind::Exception { delay })],
-    )?;
-    add_events(&mut events, at, &[RecordEventKind::Offered { place }])?;
+    add_events(&mut events, at, &with_a_field)?;
     Ok(events)
 }
 

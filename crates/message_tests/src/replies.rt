@@ -78,16 +78,21 @@ fn add_items(alloc: Global, replies: &mut Vec<Reply>, items: Vec<Item>) -> Resul
     Ok(replies.push(Reply::Items(items))?)
 }
 
+// Adds a list of no records, one of no items and one of two.
+fn add_lists(alloc: Global, replies: &mut Vec<Reply>) -> Result<(), Fail> {
+    let none = Shared::new(alloc, Listed::from_vec(Vec::new(alloc)))?;
+    replies.push(Reply::Many(none))?;
+    add_items(alloc, replies, Vec::new(alloc))?;
+    add_items(alloc, replies, two_items(alloc)?)
+}
+
 // The replies with the texts of the lines below.
 fn short_replies(alloc: Global) -> Result<Vec<Reply>, Fail> {
     let mut replies = Vec::new(alloc);
     add_acceptances(&mut replies)?;
     add_refusals(alloc, &mut replies)?;
     add_reasons(alloc, &mut replies)?;
-    let none = Shared::new(alloc, Listed::from_vec(Vec::new(alloc)))?;
-    replies.push(Reply::Many(none))?;
-    add_items(alloc, &mut replies, Vec::new(alloc))?;
-    add_items(alloc, &mut replies, two_items(alloc)?)?;
+    add_lists(alloc, &mut replies)?;
     Ok(replies)
 }
 
@@ -148,29 +153,40 @@ fn two_records(alloc: Global) -> Result<Reply, Fail> {
     Ok(Reply::Many(Shared::new(alloc, Listed::from_vec(records))?))
 }
 
+// Fails unless the reply has the text of these parts.
+fn has_parts(alloc: Global, reply: &Reply, parts: &[&str]) -> Result<(), Fail> {
+    let text = parts.concat(alloc)?;
+    is_written(alloc, reply, &text)
+}
+
+static ONE_RECORD: [&str; 3] = ["{\"record\":", RUNNING, ",\"reply\":\"record\"}"];
+
+static TWO_RECORDS: [&str; 5] = [
+    "{\"records\":[",
+    LATE,
+    ",",
+    RUNNING,
+    "],\"reply\":\"records\"}",
+];
+
 #[test]
 fn replies_with_records(rt: HostRuntime) -> Result<(), Fail> {
-    let alloc = rt.alloc();
-    let text = ["{\"record\":", RUNNING, ",\"reply\":\"record\"}"].concat(alloc)?;
-    is_written(alloc, &one_record(alloc, false)?, &text)?;
-    let text = [
-        "{\"records\":[",
-        LATE,
-        ",",
-        RUNNING,
-        "],\"reply\":\"records\"}",
-    ]
-    .concat(alloc)?;
-    is_written(alloc, &two_records(alloc)?, &text)
+    has_parts(rt.alloc(), &one_record(rt.alloc(), false)?, &ONE_RECORD)?;
+    has_parts(rt.alloc(), &two_records(rt.alloc())?, &TWO_RECORDS)
+}
+
+// Adds the reply with a planned wagon's record, those with a running one's, and the one with two records.
+fn add_records(alloc: Global, replies: &mut Vec<Reply>) -> Result<(), Fail> {
+    replies.push(one_record(alloc, false)?)?;
+    replies.push(one_record(alloc, true)?)?;
+    replies.push(Reply::One(Shared::new(alloc, planned(alloc)?)?))?;
+    Ok(replies.push(two_records(alloc)?)?)
 }
 
 /// Replies of which no two say the same.
 pub(crate) fn replies(alloc: Global) -> Result<Vec<Reply>, Fail> {
     let mut replies = short_replies(alloc)?;
     add_items(alloc, &mut replies, items(alloc)?)?;
-    replies.push(one_record(alloc, false)?)?;
-    replies.push(one_record(alloc, true)?)?;
-    replies.push(Reply::One(Shared::new(alloc, planned(alloc)?)?))?;
-    replies.push(two_records(alloc)?)?;
+    add_records(alloc, &mut replies)?;
     Ok(replies)
 }
