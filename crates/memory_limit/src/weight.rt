@@ -37,6 +37,9 @@ const SET_ASIDE: usize = 4096;
 // still of more than 2^18 bytes.
 const ROOM: usize = 1 << 28;
 
+// How deep the stack grows, in bytes, of the 8 MiB that it has as a rule.
+const STACK: usize = 1 << 21;
+
 impl MemoryLimit {
     /// Takes all large blocks, but for room for a budget.
     pub fn new(alloc: Global) -> Result<MemoryLimit, AllocError>
@@ -45,7 +48,11 @@ impl MemoryLimit {
         let mut large = Vec::with_capacity(alloc, MAX_BLOCKS)?;
         let small = Vec::with_capacity(alloc, MAX_BLOCKS)?;
         let room: Vec<u8> = Vec::with_capacity(alloc, ROOM)?;
-        take_halves(alloc, &mut large, GREATEST, 15);
+        take_blocks(alloc, &mut large, GREATEST);
+        if !grows_stack(large.len()) {
+            return Err(AllocError);
+        }
+        take_halves(alloc, &mut large, GREATEST / 2, 14);
         drop(room);
         Ok(MemoryLimit {
             large,
@@ -89,6 +96,15 @@ impl MemoryLimit {
     {
         self.small.len()
     }
+}
+
+// Has the stack grow while the memory below it is free: smaller blocks come to lie there, and a stack that can't grow ends the
+// program. Whether it did, so that no compiler leaves it out: the place of the one is known when it runs.
+#[inline(never)]
+fn grows_stack(place: usize) -> bool {
+    let mut frame = [0u8; STACK];
+    frame[place % STACK] = 1;
+    frame[0] == 0 || place % STACK == 0
 }
 
 // Takes blocks of this size, then of half of it, and so on.
