@@ -1,13 +1,25 @@
 -- What the thread of a connection handler gives back.
-use Rattle.std.specs.Prelude.{◌≡◌, ℕ, List, ◌++◌}
+use Rattle.std.specs.Prelude.{◌≡◌, ℕ, Bool, true, false, List, ◌++◌}
 use Rattle.std.specs.List.{All, flat_map}
 use Rattle.inbox.specs.declared.rule.Job.{Job}
 use Rattle.inbox.specs.States.{PassState}
 use Rattle.tallies.specs.declared.tally.Told.{Told}
+use Rattle.session_serving.specs.declared.fault.SessionFault.TheVariants.{Read, Write, NoEnd, Port, Memory}
 use Rattle.session_lanes.specs.declared.ends.SessionEnd.{SessionEnd}
+use Rattle.session_lanes.specs.declared.ends.SessionEnd.TheVariants.{Complete, Stranger, Fault}
 use Rattle.session_lanes.specs.declared.ends.SessionStart.{SessionStart}
 use Rattle.session_lanes.specs.declared.ends.Served.{Served}
 use Rattle.session_lanes.specs.Ends.{Streams, HasEnded}
+
+-- a handler takes another connection after a session that ended so
+abbrev pub goes_on : SessionEnd → Bool
+goes_on Complete = true
+goes_on Stranger = false
+goes_on (Fault Read) = true
+goes_on (Fault Write) = true
+goes_on (Fault NoEnd) = true
+goes_on (Fault Port) = false
+goes_on (Fault Memory) = true
 
 -- One session that a handler served: with which streams it began, how it ended, what it was told, and the jobs that it put.
 pub record ServedSession : Type 0 where

@@ -2,7 +2,7 @@
 ghost use Rattle.std.specs.Prelude.{◌≡◌, []};
 ghost use Rattle.std.specs.List.{All};
 ghost use Rattle.inbox.specs.declared.rule.Job.{Job};
-ghost use Rattle.connection_handlers.specs.Handlers.{IsServedHandler};
+ghost use Rattle.connection_handlers.specs.Handlers.{IsServedHandler, goes_on};
 
 use connections::Connections;
 use hub_threads::Serve;
@@ -92,7 +92,9 @@ fn none_served(alloc: Global, pass: Pass) -> Served
 
 // Whether a handler takes another connection after a session that ended so. Each job of that one has its answer then, unless a
 // stranger's came behind a fault of its reader or writer. No worker of the hub gives such an answer.
-fn goes_on(end: SessionEnd) -> bool {
+fn goes_on(end: SessionEnd) -> bool
+    ensures { result ≡ goes_on end }
+{
     match end {
         SessionEnd::Stranger => false,
         SessionEnd::Fault(SessionFault::Port) => false,

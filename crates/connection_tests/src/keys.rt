@@ -9,7 +9,7 @@ use std::test::Fail;
 use taf_codes::{Failed, Failures, Railway, Sink, Source, Std};
 
 // The file of two railways, whose keys are `green-signal-101` and `green-signal-202`.
-static KEYS: &str = "# winter
+pub(crate) static KEYS: &str = "# winter
 
 R101 edc77e5b0841753cfaf348c4f1c08a3d8dd80d2a5e6cab9bb7201d1aae433dfa
 #R303 nothing
@@ -201,7 +201,35 @@ impl Source for Pieces<'_> {
     }
 }
 
-// What a guard did: what came of the first line, what the client was told, and what a session was given.
+// What a client sends, how many bytes of it a read gives at most, whether the reader fails behind it, and what its session says first.
+#[derive(Clone, Copy)]
+struct Client<'a> {
+    sends: &'a [u8],
+    size: usize,
+    fails: bool,
+    said: &'a str,
+}
+
+// One connection, and none after it.
+#[derive(Drop)]
+struct OneConnection<'a> {
+    reader: Option<Pieces<'a>>,
+    writer: Option<Std<&'a mut Vec<u8>>>,
+}
+
+impl<'a> Connections for OneConnection<'a> {
+    type Reader = Pieces<'a>;
+
+    type Writer = Std<&'a mut Vec<u8>>;
+
+    fn next(&mut self) -> Option<(Pieces<'a>, Std<&'a mut Vec<u8>>)> {
+        let reader = self.reader.take()?;
+        let writer = self.writer.take()?;
+        Some((reader, writer))
+    }
+}
+
+// What came of a client: of its first line, what it was told, and what its session was given.
 #[derive(Drop)]
 struct Outcome {
     admission: Admission,
@@ -209,35 +237,78 @@ struct Outcome {
     given: Vec<u8>,
 }
 
-fn outcome_of(alloc: Global, keys: &KeyTable, source: Pieces<'_>) -> Result<Outcome, Fail> {
-    let mut writer = Std::new(Vec::new(alloc));
-    let mut guard = KeyGuard::admit(alloc, keys, source, &mut writer);
+// What is wanted of it, with the admission as in the table above.
+#[derive(Clone, Copy)]
+struct Wanted<'a> {
+    admission: &'a str,
+    told: &'a [u8],
+    given: &'a [u8],
+}
+
+fn outcome_of(alloc: Global, keys: Option<&KeyTable>, client: Client<'_>) -> Result<Outcome, Fail> {
+    let mut told = Vec::new(alloc);
+    let one = OneConnection {
+        reader: Some(Pieces {
+            rest: client.sends,
+            size: client.size,
+            fails: client.fails,
+            failed: Failures::new(),
+        }),
+        writer: Some(Std::new(&mut told)),
+    };
     let mut given = Vec::new(alloc);
-    let mut piece = [0; 100];
-    for _ in 0..1_000_000 {
-        let Ok(count) = guard.pull(&mut piece) else {
-            break;
-        };
-        if count == 0 {
-            break;
-        }
-        given.extend_from_slice(&piece[..count])?;
-    }
+    let connections = KeyedConnections::new(alloc, keys, one);
+    let admission = serve_one(connections, client.said.as_bytes(), &mut given)?;
     Ok(Outcome {
-        admission: guard.admission(),
-        told: writer.into_inner(),
+        admission,
+        told,
         given,
     })
 }
 
-// The connection of which a read gives so many bytes at most.
-fn in_pieces(rest: &[u8], size: usize) -> Pieces<'_> {
-    Pieces {
-        rest,
-        size,
-        fails: false,
-        failed: Failures::new(),
+// Gives a session that says this to its first read and then nothing, and ends where it cannot say it, what comes.
+fn serve_one<S, C>(connections: C, said: &[u8], given: &mut Vec<u8>) -> Result<Admission, Fail>
+where
+    S: Source + Drop,
+    C: Connections<Reader = KeyGuard<S>> + Drop,
+{
+    let mut connections = connections;
+    let Some((mut reader, mut writer)) = connections.next() else {
+        return Err(Fail::new("no connection"));
+    };
+    let mut text = said;
+    let mut piece = [0; 100];
+    for _ in 0..1_000_000 {
+        let Ok(count) = reader.pull(&mut piece) else {
+            break;
+        };
+        given.extend_from_slice(&piece[..count])?;
+        if count == 0 || !says(&mut writer, text) {
+            break;
+        }
+        text = b"";
     }
+    Ok(reader.admission())
+}
+
+// Writes a text and sends it on, as a session does before it reads again.
+fn says<K: Sink>(writer: &mut K, text: &[u8]) -> bool {
+    writer.push(text).is_ok() && writer.flush().is_ok()
+}
+
+// Whether what comes of a client is what is wanted.
+fn is_served(
+    alloc: Global,
+    keys: Option<&KeyTable>,
+    client: Client<'_>,
+    wanted: Wanted<'_>,
+) -> Result<bool, Fail> {
+    let outcome = outcome_of(alloc, keys, client)?;
+    Ok(
+        is_admission(wanted.admission, outcome.admission)
+            && outcome.told.as_slice() == wanted.told
+            && outcome.given.as_slice() == wanted.given,
+    )
 }
 
 // What the client is told of an admission in the table above.
@@ -249,14 +320,37 @@ fn told(wanted: &str) -> &'static [u8] {
     }
 }
 
+// What its session is given of this then, if it says nothing.
+fn given<'a>(wanted: &str, sent: &'a [u8]) -> &'a [u8] {
+    if wanted.starts_with('R') { sent } else { b"" }
+}
+
 // How an admission is written in the table above.
 fn is_admission(wanted: &str, admission: Admission) -> bool {
     match admission {
         Admission::Admitted(railway) => railway.as_str() == wanted,
         Admission::WrongKey => wanted == "wrong",
         Admission::NoLine => wanted == "none",
-        Admission::NoMemory | Admission::NotAsked => false,
+        Admission::NotAsked => wanted == "not asked",
+        Admission::NoMemory => false,
     }
+}
+
+// Whether what comes of a client that sends this is what the table above says of it, where its session says nothing.
+fn is_as_said(alloc: Global, sends: &[u8], size: usize, wanted: &str) -> Result<bool, Fail> {
+    let keys = KeyTable::read(alloc, KEYS)?;
+    let client = Client {
+        sends,
+        size,
+        fails: false,
+        said: "",
+    };
+    let wanted = Wanted {
+        admission: wanted,
+        told: told(wanted),
+        given: given(wanted, sends),
+    };
+    is_served(alloc, Some(&keys), client, wanted)
 }
 
 #[test]
@@ -340,15 +434,10 @@ fn printed(rt: HostRuntime) -> Result<(), Fail> {
 
 #[test]
 fn connections(rt: HostRuntime) -> Result<(), Fail> {
-    let keys = KeyTable::read(rt.alloc(), KEYS)?;
     for (sent, wanted) in &CONNECTIONS {
         for size in [1, 7, 100_000] {
-            let outcome = outcome_of(rt.alloc(), &keys, in_pieces(sent.as_bytes(), size))?;
-            let is_given = wanted.starts_with('R');
-            let given = if is_given { sent.as_bytes() } else { b"" };
-            assert!(rt; is_admission(wanted, outcome.admission), "{sent} in {size}");
-            assert!(rt; outcome.told.as_slice() == told(wanted), "{sent} in {size}");
-            assert!(rt; outcome.given.as_slice() == given, "{sent} in {size}");
+            let as_said = is_as_said(rt.alloc(), sent.as_bytes(), size, wanted)?;
+            assert!(rt; as_said, "{sent} in {size}");
         }
     }
     Ok(())
@@ -367,13 +456,10 @@ fn long_hello(alloc: Global, len: usize) -> Result<Vec<u8>, Fail> {
 
 #[test]
 fn long_lines(rt: HostRuntime) -> Result<(), Fail> {
-    let keys = KeyTable::read(rt.alloc(), KEYS)?;
     for (len, wanted) in [(65_536, "R101"), (65_537, "wrong"), (100_000, "wrong")] {
         let sent = long_hello(rt.alloc(), len)?;
         assert_eq!(rt; sent.len(), len + 1);
-        let outcome = outcome_of(rt.alloc(), &keys, in_pieces(&sent, 1000))?;
-        assert!(rt; is_admission(wanted, outcome.admission), "{len}");
-        assert!(rt; outcome.told.as_slice() == told(wanted), "{len}");
+        assert!(rt; is_as_said(rt.alloc(), &sent, 1000, wanted)?, "{len}");
     }
     Ok(())
 }
@@ -382,116 +468,70 @@ fn long_lines(rt: HostRuntime) -> Result<(), Fail> {
 #[test]
 fn failing_readers(rt: HostRuntime) -> Result<(), Fail> {
     let keys = KeyTable::read(rt.alloc(), KEYS)?;
-    let source = Pieces {
-        rest: b"{\"kind\":\"hello\",\"from\":\"R101\"",
+    let client = Client {
+        sends: b"{\"kind\":\"hello\",\"from\":\"R101\"",
         size: 3,
         fails: true,
-        failed: Failures::new(),
+        said: "",
     };
-    let outcome = outcome_of(rt.alloc(), &keys, source)?;
-    assert!(rt; is_admission("none", outcome.admission));
-    assert!(rt; outcome.told.is_empty() && outcome.given.is_empty());
+    let wanted = Wanted {
+        admission: "none",
+        told: b"",
+        given: b"",
+    };
+    assert!(rt; is_served(rt.alloc(), Some(&keys), client, wanted)?);
     Ok(())
 }
 
-// What a client sends: a hello with its key, and two lines more.
+// What a client sends: a hello with its key, and two lines more; the hello alone, and these lines alone.
+const SENT: &str =
+    "{\"kind\":\"hello\",\"from\":\"R101\",\"key\":\"green-signal-101\"}\n{\"kind\":\"hello\",\"from\":\"R202\"}\n{\"kind\":\"fetch\"}\n";
+
 const HELLO: &str = "{\"kind\":\"hello\",\"from\":\"R101\",\"key\":\"green-signal-101\"}\n";
 
 const LATER: &str = "{\"kind\":\"hello\",\"from\":\"R202\"}\n{\"kind\":\"fetch\"}\n";
 
-// What a session says to its first read, and whether it goes on where there are keys.
-static FIRST_ANSWERS: [(&str, bool); 4] = [
-    ("{\"hello\":\"R101\"}\n", true),
-    ("", true),
-    ("{\"fault\":\"no_memory\"}\n", false),
-    ("{\"hello", false),
+// What a session says to its first read, and what it is given where there are keys.
+static FIRST_ANSWERS: [(&str, &str); 4] = [
+    ("{\"hello\":\"R101\"}\n", SENT),
+    ("", SENT),
+    ("{\"fault\":\"no_memory\"}\n", HELLO),
+    ("{\"hello", HELLO),
 ];
 
-// One connection, and none after it.
-#[derive(Drop)]
-struct OneConnection<'a> {
-    reader: Option<Pieces<'a>>,
-    writer: Option<Std<&'a mut Vec<u8>>>,
-}
-
-impl<'a> Connections for OneConnection<'a> {
-    type Reader = Pieces<'a>;
-
-    type Writer = Std<&'a mut Vec<u8>>;
-
-    fn next(&mut self) -> Option<(Pieces<'a>, Std<&'a mut Vec<u8>>)> {
-        let reader = self.reader.take()?;
-        let writer = self.writer.take()?;
-        Some((reader, writer))
-    }
-}
-
-// Writes a text and sends it on, as a session does before it reads again.
-fn says<K: Sink>(writer: &mut K, text: &[u8]) -> bool {
-    writer.push(text).is_ok() && writer.flush().is_ok()
-}
-
-// What is given to a session that says this to its first read and then nothing, and ends where it cannot say it.
-fn given_to<C: Connections + Drop>(
-    alloc: Global,
-    connections: C,
-    said: &[u8],
-) -> Result<Vec<u8>, Fail> {
-    let mut connections = connections;
-    let mut given = Vec::new(alloc);
-    let Some((mut reader, mut writer)) = connections.next() else {
-        return Ok(given);
-    };
-    let mut text = said;
-    let mut piece = [0; 100];
-    for _ in 0..1_000 {
-        let Ok(count) = reader.pull(&mut piece) else {
-            break;
-        };
-        given.extend_from_slice(&piece[..count])?;
-        if count == 0 || !says(&mut writer, text) {
-            break;
-        }
-        text = b"";
-    }
-    Ok(given)
-}
-
-// What was given to a session, and what its client was told.
-#[derive(Drop)]
-struct Exchange {
-    given: Vec<u8>,
-    told: Vec<u8>,
-}
-
-// That of a session that says this to its first read, where the client sent these lines.
-fn exchange_of(
+// Whether a client that sends this is told what its session says to its first read, and the session is given this.
+fn is_told_what_is_said(
     alloc: Global,
     keys: Option<&KeyTable>,
-    sent: &str,
-    said: &str,
-) -> Result<Exchange, Fail> {
-    let mut told = Vec::new(alloc);
-    let one = OneConnection {
-        reader: Some(in_pieces(sent.as_bytes(), 1000)),
-        writer: Some(Std::new(&mut told)),
+    client: (&str, &str),
+    wanted: (&str, &str),
+) -> Result<bool, Fail> {
+    let (sends, said) = client;
+    let (admission, given) = wanted;
+    let client = Client {
+        sends: sends.as_bytes(),
+        size: 1000,
+        fails: false,
+        said,
     };
-    let connections = KeyedConnections::new(alloc, keys, one);
-    let given = given_to(alloc, connections, said.as_bytes())?;
-    Ok(Exchange { given, told })
+    let wanted = Wanted {
+        admission,
+        told: said.as_bytes(),
+        given: given.as_bytes(),
+    };
+    is_served(alloc, keys, client, wanted)
 }
 
 // A session whose first answer is none to a hello is given nothing behind its first line, where there are keys.
 #[test]
 fn first_answers(rt: HostRuntime) -> Result<(), Fail> {
-    let alloc = rt.alloc();
-    let keys = KeyTable::read(alloc, KEYS)?;
-    let sent = format!(in alloc; "{HELLO}{LATER}")?;
-    for (said, goes_on) in &FIRST_ANSWERS {
-        let exchange = exchange_of(alloc, Some(&keys), sent.as_str(), said)?;
-        let wanted = if *goes_on { sent.as_str() } else { HELLO };
-        assert!(rt; exchange.given.as_slice() == wanted.as_bytes(), "{said}");
-        assert!(rt; exchange.told.as_slice() == said.as_bytes(), "{said}");
+    let keys = KeyTable::read(rt.alloc(), KEYS)?;
+    for (said, given) in &FIRST_ANSWERS {
+        let (client, wanted) = ((SENT, *said), ("R101", *given));
+        assert!(rt;
+            is_told_what_is_said(rt.alloc(), Some(&keys), client, wanted)?,
+            "{said}"
+        );
     }
     Ok(())
 }
@@ -500,23 +540,39 @@ fn first_answers(rt: HostRuntime) -> Result<(), Fail> {
 #[test]
 fn without_keys(rt: HostRuntime) -> Result<(), Fail> {
     for (said, _) in &FIRST_ANSWERS {
-        let exchange = exchange_of(rt.alloc(), None, LATER, said)?;
-        assert!(rt; exchange.given.as_slice() == LATER.as_bytes(), "{said}");
-        assert!(rt; exchange.told.as_slice() == said.as_bytes(), "{said}");
+        let (client, wanted) = ((LATER, *said), ("not asked", LATER));
+        assert!(rt;
+            is_told_what_is_said(rt.alloc(), None, client, wanted)?,
+            "{said}"
+        );
     }
     Ok(())
 }
 
-// Once a flush has failed for the first answer, each call fails.
+// What a session writes, or none where it sends on, and whether that succeeds: once a flush has failed for the first answer, each call
+// fails.
+static CALLS: [(Option<&str>, bool); 8] = [
+    (None, true),
+    (Some(""), true),
+    (None, true),
+    (Some("{\"fault\":"), true),
+    (Some("\"stranger\"}\n"), true),
+    (None, false),
+    (Some("{\"hello\":\"R101\"}\n"), false),
+    (None, false),
+];
+
 #[test]
 fn refused_answers(rt: HostRuntime) {
     let mut told = Vec::new(rt.alloc());
     let mut writer = HelloWriter::new(Std::new(&mut told));
-    assert!(rt; writer.flush().is_ok());
-    assert!(rt; says(&mut writer, b""));
-    assert!(rt; writer.push(b"{\"fault\":").is_ok() && writer.push(b"\"stranger\"}\n").is_ok());
-    assert!(rt; writer.flush().is_err());
-    assert!(rt; writer.push(b"{\"hello\":\"R101\"}\n").is_err() && writer.flush().is_err());
+    for (text, succeeds) in &CALLS {
+        let succeeded = match text {
+            Some(text) => writer.push(text.as_bytes()).is_ok(),
+            None => writer.flush().is_ok(),
+        };
+        assert_eq!(rt; succeeded, *succeeds);
+    }
     drop(writer);
     assert!(rt; told.as_slice() == "{\"fault\":\"stranger\"}\n".as_bytes());
 }

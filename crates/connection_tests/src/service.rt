@@ -1,38 +1,41 @@
-//! A service whose handlers write back what they read, and its clients.
+//! A service whose handlers write back what they read.
 
+use crate::script::{Step, steps_done};
 use accept_queue::{
     AcceptQueue, Limits, QueuedConnections, accept_connections, control_of, end_service,
     handlers_of,
 };
 use connections::Connections;
-use std::alloc::Global;
-use std::io::{Read, Write};
-use std::net::{Ipv4Addr, Net, OpenStream, Shutdown, SocketAddr, TcpListener, TcpStream};
-use std::rt::Clock;
+use railway_keys::{KeyTable, KeyedConnections};
+use std::alloc::{AllocGlobal, Global};
+use std::net::{Ipv4Addr, Net, SocketAddr, TcpListener, TcpStream};
+use std::rt::{Clock, Files};
 use std::sync::Wait;
 use std::test::*;
+use std::thread;
 use std::thread::Threads;
 use std::time::Duration;
-use std::{io, thread};
 use taf_codes::{Sink, Source};
 
 // What a client is told for which there is no handler.
 pub(crate) const FULL: &str = "{\"fault\":\"full\"}\n";
 
-// A listener on a port of this machine, and the queue of its connections.
+// A listener on a port of this machine, the queue of its connections, and the keys that they are asked for.
 #[derive(Drop)]
 pub(crate) struct Service {
     listener: TcpListener,
     control: TcpStream,
     queue: AcceptQueue<TcpStream>,
+    keys: Option<KeyTable>,
     pub(crate) address: SocketAddr,
 }
 
 impl Service {
-    pub(crate) fn new<R: Net<Listener = TcpListener, Stream = TcpStream>>(
+    fn new<R: Net<Listener = TcpListener, Stream = TcpStream>>(
         rt: &R,
         alloc: Global,
         limits: Limits,
+        keys: Option<KeyTable>,
     ) -> Result<Service, Fail> {
         let listener = TcpListener::bind(rt, (Ipv4Addr::LOCALHOST, 0))?;
         let control = control_of(&listener)?;
@@ -44,12 +47,13 @@ impl Service {
             listener,
             control,
             queue,
+            keys,
             address,
         })
     }
 
     // Serves connections by one or two handlers until the service ends. How many sessions there were.
-    pub(crate) fn run<R: Threads + Wait + Clock + Sync>(&self, rt: &R, alloc: Global) -> u64 {
+    fn run<R: Threads + Wait + Clock + Sync>(&self, rt: &R, alloc: Global) -> u64 {
         let Ok(mut handlers) = handlers_of(rt, alloc, &self.queue) else {
             return 0;
         };
@@ -57,7 +61,13 @@ impl Service {
         let (_, (many, more)) = thread::join(
             rt,
             || accept_connections(rt, &self.listener, &self.control, &self.queue),
-            || thread::join(rt, || serve_all(rt, first), || serve_all(rt, second)),
+            || {
+                thread::join(
+                    rt,
+                    || serve_all(rt, alloc, self.keys.as_ref(), first),
+                    || serve_all(rt, alloc, self.keys.as_ref(), second),
+                )
+            },
         );
         many.saturating_add(more)
     }
@@ -65,6 +75,44 @@ impl Service {
     pub(crate) fn end<R: Wait + Clock>(&self, rt: &R) {
         end_service(rt, &self.queue, &self.control);
     }
+}
+
+/// What came of a script: how many of its steps went as they say, and how many sessions there were.
+#[derive(Clone, Copy, Debug, PartialEq, Eq)]
+pub(crate) struct Played {
+    pub(crate) steps: usize,
+    pub(crate) sessions: u64,
+}
+
+/// All steps of the script, and so many sessions.
+pub(crate) fn all_of(script: &[Step], sessions: u64) -> Played {
+    let steps = script.len();
+    Played { steps, sessions }
+}
+
+/// Has clients do what the script says, at a service with these limits and keys, which ends then.
+pub(crate) fn play<R>(
+    rt: &R,
+    limits: Limits,
+    keys: Option<KeyTable>,
+    script: &[Step],
+) -> Result<Played, Fail>
+where
+    R: Net<Listener = TcpListener, Stream = TcpStream> + Files + Threads + Wait + Clock,
+    R: Sync + AllocGlobal + Clone + Drop,
+{
+    let alloc = rt.alloc();
+    let service = Service::new(rt, alloc, limits, keys)?;
+    let (sessions, steps) = thread::join(
+        rt,
+        || service.run(rt, alloc),
+        || {
+            let steps = steps_done(rt, alloc, &service, script);
+            service.end(rt);
+            steps
+        },
+    );
+    Ok(Played { steps, sessions })
 }
 
 // The limits of so many handlers, with ten seconds for whatever is to be in time.
@@ -79,11 +127,17 @@ pub(crate) fn limits_of(handlers: usize) -> Result<Limits, Fail> {
 }
 
 // Serves one session after another. How many there were.
-fn serve_all<R: Wait>(rt: &R, connections: Option<QueuedConnections<'_, TcpStream, R>>) -> u64 {
+fn serve_all<R: Wait>(
+    rt: &R,
+    alloc: Global,
+    keys: Option<&KeyTable>,
+    connections: Option<QueuedConnections<'_, TcpStream, R>>,
+) -> u64 {
     let mut sessions = 0u64;
-    let Some(mut connections) = connections else {
+    let Some(connections) = connections else {
         return 0;
     };
+    let mut connections = KeyedConnections::new(alloc, keys, connections);
     for _ in rt.forever() {
         let Some((mut reader, mut writer)) = connections.next() else {
             break;
@@ -94,7 +148,7 @@ fn serve_all<R: Wait>(rt: &R, connections: Option<QueuedConnections<'_, TcpStrea
     sessions
 }
 
-// Writes back what is read, to the end or to the first failure.
+// Writes back what is read, to the end or to the first failure. Once it has read `!` it writes on, whatever comes.
 fn write_back<S: Source, K: Sink>(reader: &mut S, writer: &mut K) {
     let mut bytes = [0; 4096];
     for _ in 0..u64::MAX {
@@ -102,7 +156,20 @@ fn write_back<S: Source, K: Sink>(reader: &mut S, writer: &mut K) {
             Ok(count) if count > 0 => count,
             _ => return,
         };
+        if bytes[0] == b'!' {
+            return write_on(writer);
+        }
         if !write_whole(writer, &bytes[..count]) {
+            return;
+        }
+    }
+}
+
+// Writes until the first failure.
+fn write_on<K: Sink>(writer: &mut K) {
+    let bytes = [b'!'; 4096];
+    for _ in 0..u64::MAX {
+        if !write_whole(writer, &bytes) {
             return;
         }
     }
@@ -121,31 +188,4 @@ fn write_whole<K: Sink>(writer: &mut K, bytes: &[u8]) -> bool {
         rest = &rest[count..];
     }
     rest.is_empty()
-}
-
-// What is said to a client that sends these bytes and ends.
-pub(crate) fn said_to<R: Net>(
-    rt: &R,
-    alloc: Global,
-    address: SocketAddr,
-    bytes: &[u8],
-) -> io::Result<Vec<u8>> {
-    let mut client = TcpStream::connect(rt, address)?;
-    client.write_all(bytes)?;
-    client.shutdown(Shutdown::Write)?;
-    let mut said = Vec::new(alloc);
-    client.read_to_end(&mut said)?;
-    Ok(said)
-}
-
-// Whether a client that sends this line is written it back, and is still connected.
-pub(crate) fn is_written_back<T: Read + Write>(client: &mut T, line: &[u8; 2]) -> bool {
-    let mut back = [0; 2];
-    client.write_all(line).is_ok() && client.read_exact(&mut back).is_ok() && back == *line
-}
-
-// Whether a client is told this and nothing else, and its connection is closed.
-pub(crate) fn is_told<T: Read>(alloc: Global, client: &mut T, told: &str) -> bool {
-    let mut said = Vec::new(alloc);
-    client.read_to_end(&mut said).is_ok() && said.as_slice() == told.as_bytes()
 }

@@ -1,5 +1,6 @@
 //! What brings the connections of a service to its handlers.
-ghost use Rattle.std.specs.Prelude.{◌≡◌, vec_len, IfOk};
+ghost use Rattle.std.specs.Prelude.{◌≡◌, vec_len, option_map, IfOk};
+ghost use Rattle.std.specs.List.{All};
 
 use crate::listening::Listening;
 use accept_queue::{QueuedConnections, handlers_of};
@@ -15,13 +16,15 @@ pub(crate) type HandlerStart<'a, R> = (
     (),
 );
 
-// What each handler begins with, as many as the limits say.
+// What each handler begins with, as many as the limits say. What brings their connections asks for the keys that the service has.
 pub(crate) fn handler_starts<'a, R: Wait>(
     rt: &'a R,
     alloc: Global,
     listening: &'a Listening,
 ) -> Result<Vec<HandlerStart<'a, R>>, Memory>
-    ensures { IfOk result (λ v. vec_len v ≡ listening.now.queue.limits.handlers) }
+    ensures count { IfOk result (λ v. vec_len v ≡ listening.now.queue.limits.handlers) }
+    ensures keyed { IfOk result (λ v. All (λ start.
+        option_map (λ k. k.now) start.0.keys ≡ listening.now.keys) v.items) }
 {
     let each = handlers_of(rt, alloc, &listening.queue)?;
     let mut starts = Vec::new(alloc);

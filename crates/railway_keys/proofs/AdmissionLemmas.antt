@@ -5,15 +5,16 @@ use Rattle.taf_codes.specs.declared.code.Railway.{Railway}
 use Rattle.session_lines.specs.declared.meaning.Meaning.{Meaning}
 use Rattle.session_lines.specs.declared.meaning.Meaning.TheVariants.{Blank, Hello, Wrong, Calls}
 use Rattle.session_lines.specs.Meanings.{meaning}
-use Rattle.railway_keys.specs.Admissions.{admission_at, admission_by, admission_of}
+use Rattle.railway_keys.specs.Admissions.{admission_at, admission_by, admission_of, is_admitted}
 use Rattle.railway_keys.specs.FirstLines.{LineRead, line_read, whole_line, first_line}
 use Rattle.railway_keys.specs.Fronts.{IsEnough}
-use Rattle.railway_keys.specs.Guards.{BeginWithKey, IsGuarded, IsDecided, given_by}
+use Rattle.railway_keys.specs.Guards.{BeginWithKey, IsBehindKey, IsGuarded, IsDecided, given_by}
 use Rattle.railway_keys.specs.Hellos.{admitted, key_on, railway_by_key, railway_if}
 use Rattle.railway_keys.specs.Keys.{is_key_of}
 use Rattle.railway_keys.specs.declared.admission.Admission.{Admission}
 use Rattle.railway_keys.specs.declared.admission.Admission.TheVariants.{Admitted, WrongKey, NoMemory, NoLine, NotAsked}
 use Rattle.railway_keys.specs.declared.table.RailwayKey.{RailwayKey}
+use Rattle.std.proofs.lemmas.Bool.{false≢true}
 use Rattle.std.proofs.lemmas.List.{take_all}
 use Rattle.railway_keys.proofs.FirstLineLemmas.{line_read-whole, take-held}
 
@@ -94,6 +95,36 @@ module _ (keys : List RailwayKey) where
   guarded held (Some bytes) None admission consumes is = absurd consumes
   guarded held (Some bytes) (Some left) admission consumes is = given-bytes held left bytes admission consumes is
 
+  -- what was read of a connection that is admitted begins with its key
+  begun-by : (held : List ℕ) (admission : Admission) → admission ≡ admission_by keys (whole_line (line_read held)) (length held) → is_admitted admission ≡ true → BeginWithKey keys held
+  begun-by held (Admitted own) is admitted = let by = by-line (whole_line (line_read held)) (length held) own (sym is) in begin-with-key by.0 held own by.1.0 by.1.1
+  begun-by held WrongKey is admitted = cc
+  begun-by held NoMemory is admitted = cc
+  begun-by held NoLine is admitted = cc
+  begun-by held NotAsked is admitted = absurd (asked (whole_line (line_read held)) (length held) (sym is))
+
+  begun-more : (held left : List ℕ) → BeginWithKey keys held → BeginWithKey keys (held ++ left)
+  begun-more held left b = record { line = b.line; railway = b.railway; key = b.key; first = first-stays held left b.line b.first; hello = b.hello; with_key = b.with_key; known = b.known }
+
+  -- and so does what is given of it
+  behind-bytes : (held left : List ℕ) (admission : Admission) → (is_admitted admission ≡ true → BeginWithKey keys held) → IsBehindKey keys (given_by admission (Some (held ++ left)))
+  behind-bytes held left (Admitted own) begun = inr (begun-more held left (begun refl))
+  behind-bytes held left WrongKey begun = inl refl
+  behind-bytes held left NoMemory begun = inl refl
+  behind-bytes held left NoLine begun = inl refl
+  behind-bytes held left NotAsked begun = inr (begun-more held left (begun refl))
+
+  behind-unknown : (admission : Admission) → IsBehindKey keys (given_by admission None)
+  behind-unknown (Admitted own) = tt
+  behind-unknown WrongKey = inl refl
+  behind-unknown NoMemory = inl refl
+  behind-unknown NoLine = inl refl
+  behind-unknown NotAsked = tt
+
+  pub behind : (held : List ℕ) (left : Option (List ℕ)) (admission : Admission) → (is_admitted admission ≡ true → BeginWithKey keys held) → IsBehindKey keys (given_by admission (prepend_known held left))
+  behind held None admission begun = behind-unknown admission
+  behind held (Some left) admission begun = behind-bytes held left admission begun
+
   -- nothing is given
   pub guarded-none : (old : Option (List ℕ)) → IsGuarded keys old (Some [])
   guarded-none None = tt
@@ -135,6 +166,10 @@ module _ (keys : List RailwayKey) where
       → (admission ≡ admission_by keys (whole_line line) (length held)) ⊎ (admission ≡ NoMemory) → IsGuarded keys old (given_by admission (prepend_known held new))
   guarded-of held line old new admission consumes by (inl is) = guarded held old new admission consumes (is ∙ ap (λ l. admission_by keys (whole_line l) (length held)) by)
   guarded-of held line old new admission consumes by (inr is) = subst (λ a. IsGuarded keys old (given_by a (prepend_known held new))) (sym is) (guarded-none old)
+
+  pub begun-of : (held : List ℕ) (line : LineRead) (admission : Admission) → line ≡ line_read held → (admission ≡ admission_by keys (whole_line line) (length held)) ⊎ (admission ≡ NoMemory) → is_admitted admission ≡ true → BeginWithKey keys held
+  begun-of held line admission by (inl is) admitted = begun-by held admission (is ∙ ap (λ l. admission_by keys (whole_line l) (length held)) by) admitted
+  begun-of held line admission by (inr is) admitted = absurd (false≢true (subst (λ a. is_admitted a ≡ true) is admitted))
 
   pub decided-of : (held : List ℕ) (line : LineRead) (old new : Option (List ℕ)) (admission : Admission) (failed_before failed : ℕ) → length held ≤ 65537 → Consumes old new held → line ≡ line_read held → IsEnough line.is_whole held new
       → (admission ≡ admission_by keys (whole_line line) (length held)) ⊎ (admission ≡ NoMemory) → IsDecided keys old admission failed_before failed

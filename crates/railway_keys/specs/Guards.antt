@@ -34,6 +34,16 @@ IsGuarded keys None given = ⊤
 IsGuarded keys (Some bytes) None = ⊥
 IsGuarded keys (Some bytes) (Some given) = MayBeGiven keys bytes given
 
+-- what a session is given is not known, or is nothing, or begins with a hello and its key
+abbrev pub IsBehindKey : List RailwayKey → Option (List ℕ) → Type 0
+IsBehindKey keys None = ⊤
+IsBehindKey keys (Some given) = (given ≡ []) ⊎ BeginWithKey keys given
+
+-- where there is a table it is behind a key of it, and where there is none it may be anything
+abbrev pub IsBehindKeyIf : Option (List RailwayKey) → Option (List ℕ) → Type 0
+IsBehindKeyIf None given = ⊤
+IsBehindKeyIf (Some keys) given = IsBehindKey keys given
+
 -- what an admission lets through of these bytes
 abbrev pub given_by : Admission → Option (List ℕ) → Option (List ℕ)
 given_by admission known = if is_admitted admission then known else Some []

@@ -1,9 +1,9 @@
 //! What comes of the first line of a connection.
-ghost use Rattle.std.specs.Prelude.{◌≡◌, ◌⊎◌, [], length, if◌then◌else◌};
+ghost use Rattle.std.specs.Prelude.{◌≡◌, ◌⊎◌, [], length, true, if◌then◌else◌};
 ghost use Rattle.std.specs.Io.KnownBytes.{prepend_known};
 ghost use Rattle.railway_keys.specs.Admissions.{admission_by, is_admitted, text_for};
 ghost use Rattle.railway_keys.specs.FirstLines.{no_line, whole_line};
-ghost use Rattle.railway_keys.specs.Guards.{IsDecided, IsGuarded, given_by};
+ghost use Rattle.railway_keys.specs.Guards.{BeginWithKey, IsBehindKey, IsDecided, IsGuarded, given_by};
 
 use crate::front::{Front, Unread};
 use crate::hello::railway_by_key;
@@ -37,6 +37,9 @@ impl Admission {
         requires held { front.old.held.items ≡ [] }
         requires line { front.old.line ≡ no_line }
         ensures guarded { IsGuarded keys.now (S.remaining source.old)
+            (given_by result (prepend_known front.new.held.items (S.remaining source.new))) }
+        ensures begun { is_admitted result ≡ true → BeginWithKey keys.now front.new.held.items }
+        ensures behind { IsBehindKey keys.now
             (given_by result (prepend_known front.new.held.items (S.remaining source.new))) }
         ensures decided { IsDecided keys.now (S.remaining source.old) result
             (S.failures source.old) (S.failures source.new) }

@@ -23,10 +23,10 @@ pub struct KeyGuard<S> {
 }
 
 impl<S: Source> KeyGuard<S> {
-    ghost use Rattle.std.specs.Prelude.{[]};
-    ghost use Rattle.railway_keys.specs.Admissions.{text_for};
+    ghost use Rattle.std.specs.Prelude.{[], true};
+    ghost use Rattle.railway_keys.specs.Admissions.{is_admitted, text_for};
     ghost use Rattle.railway_keys.specs.FirstLines.{no_line};
-    ghost use Rattle.railway_keys.specs.Guards.{let_through, IsDecided, IsGuarded, Tells};
+    ghost use Rattle.railway_keys.specs.Guards.{let_through, BeginWithKey, IsBehindKey, IsDecided, IsGuarded, Tells};
 
     /// Reads a connection up to the end of its first line that is not blank, 65,537 bytes at most, and tells the client where this
     /// line is not the hello of a railway with its key.
@@ -37,6 +37,9 @@ impl<S: Source> KeyGuard<S> {
     pub fn admit<K: Sink>(alloc: Global, keys: &KeyTable, source: S, writer: &mut K) -> KeyGuard<S>
         ensures guarded { IsGuarded keys.now (S.remaining source)
             (let_through S.remaining result) }
+        ensures begun { is_admitted result.admission ≡ true
+            → BeginWithKey keys.now result.front.held.items }
+        ensures behind { IsBehindKey keys.now (let_through S.remaining result) }
         ensures decided { IsDecided keys.now (S.remaining source) result.admission
             (S.failures source) (S.failures result.source) }
         ensures told { Tells (text_for result.admission) (K.contents writer.old)
@@ -74,6 +77,9 @@ impl<S: Source> KeyGuard<S> {
         requires none { self.old.given ≡ 0 }
         ensures guarded { IsGuarded keys.now (S.remaining self.old.source)
             (let_through S.remaining self.new) }
+        ensures begun { is_admitted self.new.admission ≡ true
+            → BeginWithKey keys.now self.new.front.held.items }
+        ensures behind { IsBehindKey keys.now (let_through S.remaining self.new) }
         ensures decided { IsDecided keys.now (S.remaining self.old.source) self.new.admission
             (S.failures self.old.source) (S.failures self.new.source) }
     {

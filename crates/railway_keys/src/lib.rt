@@ -34,8 +34,11 @@
 //! with which no key is compared. So it is given a [`HelloWriter`], which fails at the flush behind the first answer where this is not
 //! the one to a hello. The client is told `{"fault":"no_memory"}`, and the session, which reads only once a flush has succeeded, ends.
 //!
-//! [`KeyedConnections`] without a table asks for no key: a session is given what comes, and what it says is written, as if there were
-//! neither guard nor writer.
+//! [`KeyedConnections`] has the table that it was made with. With one, what a session may be given of a connection that it brings, where
+//! this is known, is nothing or begins with a key of the table, and its writer awaits a hello. Whatever the reader, the guard admits a
+//! connection only where the bytes that it has read of it begin so. Without a table it asks for no key: a session is given what comes, and
+//! what it says is written, as if there were neither guard nor writer. The trait says nothing of this, since whoever serves connections
+//! asks for no keys: so a contract that is to speak of them names [`KeyedConnections`] itself.
 //!
 //! | part | what it has |
 //! |---|---|
