@@ -195,9 +195,8 @@ def write_file(chosen):
         if line.strip():
             fleet.apply(json.loads(line))
     seen = fleet.seen_by(chosen.railway)
-    wagons = {"records": [it.record(events=False) for it in seen], "reply": "records"}
     legs = {"legs": [{"legs": it.legs, "wagon": it.wagon} for it in seen]}
-    print(file_of(wagons, legs, {"records": [it.record() for it in seen], "reply": "records"}, chosen.railway), end="")
+    print(file_of(legs, {"records": [it.record() for it in seen], "reply": "records"}, chosen.railway), end="")
 
 
 def main():

@@ -41,4 +41,4 @@ def odd_file():
     """The numbers of the wagons, and the page that has them inside. One alone has legs."""
     records = [RECORD, RECORD | WITHOUT_ESTIMATE | {"wagon": "338478961232"}, RECORD | {"stage": "new_stage", "wagon": "318066552148"}]
     texts = {"records": records, "reply": "records"}
-    return [it["wagon"] for it in records], file_of(texts, {"legs": [{"legs": LEGS, "wagon": RECORD["wagon"]}]}, texts)
+    return [it["wagon"] for it in records], file_of({"legs": [{"legs": LEGS, "wagon": RECORD["wagon"]}]}, texts)

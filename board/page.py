@@ -37,16 +37,16 @@ def parts():
 
 
 def element(name, value, railway=None):
-    """A text inside the page, which no browser runs. The hub's own texts have no `<`; the stand-in, which is not proved, escapes it."""
+    """A line inside the page, which no browser runs and no `<` can end."""
     owner = f' data-railway="{railway}"' if railway else ""
     text = compact(value).replace("<", "\\u003c")
-    return f'<script type="application/json" id="{name}"{owner}>{text}</script>\n'
+    return f'<script type="application/json" id="{name}"{owner}>{text}\n</script>\n'
 
 
-def file_of(wagons, legs, records, railway=None):
+def file_of(legs, records, railway=None):
     """The page of a finished run."""
     _, head, tail = parts()
-    texts = {"wagons": wagons, "legs": legs, "records": records}
+    texts = {"legs": legs, "records": records}
     return head + "".join(element(name, value, railway) for name, value in texts.items()) + tail
 
 

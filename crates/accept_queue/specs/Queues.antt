@@ -9,10 +9,16 @@ use Rattle.std.specs.declared.time.Instant.{Instant}
 use Rattle.accept_queue.specs.declared.state.Phase.TheVariants.{Open}
 use Rattle.accept_queue.specs.declared.state.Waiting.{Waiting}
 use Rattle.accept_queue.specs.declared.state.QueueState.{QueueState}
+use Rattle.accept_queue.specs.declared.counts.QueueCounts.{QueueCounts}
+use Rattle.accept_queue.specs.Counts.{served_of}
 
 -- the connections that wait, oldest first
 abbrev pub waiting_of : {T : Type 0} → QueueState T → List (Waiting T)
 waiting_of q = q.waiting.items
+
+-- how many connections are served, and how many wait
+abbrev pub counts_of : {T : Type 0} → QueueState T → QueueCounts
+counts_of q = record { sessions = served_of q.sessions.items; waiting = length (waiting_of q) }
 
 -- a connection waits, or is served by some handler
 abbrev pub is_busy : {T : Type 0} → QueueState T → Bool

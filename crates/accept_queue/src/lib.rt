@@ -26,6 +26,7 @@
 //! |---|---|
 //! | `limits` | how many connections are served and wait, and how long anything may take |
 //! | `connection` | a connection by its handles, and how one is refused |
+//! | `counts` | how many connections are served, and how many wait |
 //! | `state` | the connections that wait, and a handle of each that is served |
 //! | `queue` | the same, shared by threads |
 //! | `reader` | the reader of a session, whose client may be silent only so long |
@@ -35,6 +36,7 @@
 
 mod acceptor;
 mod connection;
+mod counts;
 mod handler;
 mod limits;
 mod queue;
@@ -42,6 +44,7 @@ mod reader;
 mod state;
 
 pub use acceptor::{accept_connections, control_of, end_service};
+pub use counts::QueueCounts;
 pub use handler::{QueuedConnections, SessionReader, SessionWriter, handlers_of};
 pub use limits::Limits;
 pub use queue::AcceptQueue;

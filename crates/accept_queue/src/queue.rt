@@ -2,6 +2,7 @@
 ghost use Rattle.std.specs.Prelude.{◌≡◌, ◌<◌, IfOk, IfErr};
 
 use crate::connection::Connection;
+use crate::counts::QueueCounts;
 use crate::limits::Limits;
 use crate::state::{QueueState, Waiting};
 use std::alloc::Global;
@@ -46,6 +47,11 @@ impl<T: OpenStream + Drop> AcceptQueue<T> {
     /// Whether connections are accepted.
     pub fn is_open<R: Wait>(&self, rt: &R) -> bool {
         self.state.lock(rt).is_open()
+    }
+
+    /// How many connections are served now, and how many wait for a handler.
+    pub fn counts<R: Wait>(&self, rt: &R) -> QueueCounts {
+        self.state.lock(rt).counts()
     }
 
     /// Accepts no connection any more. A handler that waits for one is given none; those that wait in the queue are still given out.

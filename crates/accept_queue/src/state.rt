@@ -5,6 +5,7 @@ ghost use Rattle.std.specs.VecDeque.{deque_len, deque_capacity};
 ghost use Rattle.accept_queue.specs.declared.state.Phase.TheVariants as phase_is;
 
 use crate::connection::Connection;
+use crate::counts::{QueueCounts, served_of};
 use std::alloc::Global;
 use std::collections::VecDeque;
 use std::net::{OpenStream, Shutdown};
@@ -47,7 +48,7 @@ pub(crate) struct QueueState<T> {
 }
 
 impl<T: OpenStream + Drop> QueueState<T> {
-    ghost use Rattle.accept_queue.specs.Queues.{waiting_of, is_busy, IsNew, HasRoom, HasWaited, Begins, HasEnded, KeepsWaiting, KeepsSessions, KeepsPhase};
+    ghost use Rattle.accept_queue.specs.Queues.{waiting_of, counts_of, is_busy, IsNew, HasRoom, HasWaited, Begins, HasEnded, KeepsWaiting, KeepsSessions, KeepsPhase};
 
     /// An open queue in which no connection waits, with room for so many. No session is under way.
     pub(crate) fn new(alloc: Global, capacity: usize) -> Result<QueueState<T>, Memory>
@@ -189,6 +190,16 @@ impl<T: OpenStream + Drop> QueueState<T> {
         ensures { IsTrue result ↔ ((self.now.phase ≡ phase_is.Open) × (waiting_of self.now ≡ [])) }
     {
         self.is_open() && self.waiting.is_empty()
+    }
+
+    /// How many connections are served, and how many wait.
+    pub(crate) fn counts(&self) -> QueueCounts
+        ensures { result ≡ counts_of self.now }
+    {
+        QueueCounts {
+            sessions: served_of(self.sessions.as_slice()),
+            waiting: self.waiting.len(),
+        }
     }
 
     /// Whether a connection waits or is served.

@@ -7,20 +7,23 @@ use Rattle.http_server.specs.declared.response.Response.{Response}
 use Rattle.http_server.specs.Response.{IsResponse}
 use Rattle.taf_codes.specs.declared.code.Railway.{Railway}
 use Rattle.taf_messages.specs.declared.reply.Reply.TheVariants.{Many}
+use Rattle.taf_messages.specs.declared.reply.Why.{Why}
 use Rattle.call_lines.specs.Lines.{reply_text}
 use Rattle.reply_writer.specs.LegShapes.{fleet_legs_data}
 use Rattle.hub_answers.specs.declared.shown.ShownWagon.{ShownWagon}
 use Rattle.hub_shared.specs.declared.looks.HubCounts.{HubCounts}
 use Rattle.hub_shared.specs.declared.looks.WagonLook.{WagonLook}
 use Rattle.hub_shared.specs.Looks.{AreCounts, IsWagonLook}
-use Rattle.board_texts.specs.Lines.{IsFleetSeen, as_line, wimo_of, legs_of, legs_told}
+use Rattle.board_texts.specs.Lines.{AreRefusalsSeen, IsFleetSeen, as_line, wimo_of, legs_of, legs_told}
 use Rattle.board_page.specs.declared.page.TheConstants.{HEAD, TAIL, POLICY}
 use Rattle.board_paths.specs.declared.resource.Resource.{Resource}
 use Rattle.board_paths.specs.declared.resource.Resource.TheVariants.{Entry, Page, Wagons, Legs, Wagon, WagonLegs, Health, Metrics}
 use Rattle.board_answers.specs.declared.board.ListOf.{ListOf}
+use Rattle.board_answers.specs.declared.gauges.ServerNumbers.{ServerNumbers}
 use Rattle.board_answers.specs.declared.board.ListOf.TheVariants as lists
 use Rattle.board_answers.specs.declared.refusal.Refusal.{Refusal}
 use Rattle.board_answers.specs.declared.refusal.Refusal.TheVariants.{OtherMethod, NoKey}
+use Rattle.board_answers.specs.Metrics.{metrics_of}
 use Rattle.board_answers.specs.Requests.{AccessState, IsAdmitted, IsRefused, value_of, status_of_refusal}
 
 -- ---- fields
@@ -72,15 +75,11 @@ abbrev pub IsOfWagon : Railway → ℕ → (WagonLook → List ℕ) → Response
 IsOfWagon by wagon text r =
     (l : WagonLook) × IsWagonLook by wagon l × IsResponse (status_for (is_some l.shown)) data_fields (as_line (text l)) r
 
--- numbers of the hub, as Prometheus reads them
-abbrev pub metrics_of : HubCounts → List ℕ
-metrics_of c =
-    codes "# TYPE taf_hub_calls_total counter\ntaf_hub_calls_total " ++ decimal c.calls ++ codes "\n# TYPE taf_hub_wagons gauge\ntaf_hub_wagons "
-    ++ decimal c.wagons ++ codes "\n"
-
+-- The numbers of the hub: of its calls, of the refusals among them, and of wagons. What its server says of itself is beside them.
 abbrev pub AreMetrics : Response → Type 0
 AreMetrics r =
-    (c : HubCounts) × AreCounts c × IsResponse 200 (typed_fields (codes "no-store") (codes "text/plain; version=0.0.4")) (metrics_of c) r
+    (c : HubCounts) × AreCounts c × (whys : List Why) × AreRefusalsSeen c.calls whys × (look : ℕ) × (server : ServerNumbers)
+    × IsResponse 200 (typed_fields (codes "no-store") (codes "text/plain; version=0.0.4")) (metrics_of c whys look server) r
 
 -- what is shown of a resource
 abbrev pub Shows : ℕ → Request (List ℕ) → Resource → Response → Type 0

@@ -6,13 +6,14 @@ ghost use Rattle.board_answers.specs.Requests.{value_of};
 
 use crate::access::Access;
 use crate::admission::admit;
-use crate::metrics::metrics_of;
+use crate::gauges::Gauges;
+use crate::metrics::{Metrics, metrics_of};
 use crate::refusal::Refusal;
 use crate::sending::{add, add_tag, begin, begin_typed, begin_unchanged, give};
 use crate::tag::tag_of;
 use board_page::{HEAD, POLICY, TAIL};
 use board_paths::Resource;
-use board_texts::{WagonLine, legs_line, wagon_legs_line, wagon_line, wagons_line};
+use board_texts::{WagonLine, legs_line, refusals_seen, wagon_legs_line, wagon_line, wagons_line};
 use bytes::Bytes;
 use http::{Request, StatusCode, header};
 use http_server::{Response, Service};
@@ -37,21 +38,30 @@ pub enum ListOf {
 
 /// What shows the wagons of a hub to requests of HTTP.
 #[derive(Drop)]
-pub struct Board<'h, V> {
+pub struct Board<'h, 'g, V, G> {
     alloc: Global,
     hub: &'h V,
+    gauges: &'g G,
     access: Access<'h>,
     run: u64,
 }
 
-impl<'h, V: HubLooks> Board<'h, V> {
-    /// The board of a hub. The number tells this run of the hub from others.
-    pub fn new(alloc: Global, hub: &'h V, access: Access<'h>, run: u64) -> Board<'h, V>
+impl<'h, 'g, V: HubLooks, G: Gauges> Board<'h, 'g, V, G> {
+    /// The board of a hub, beside the numbers of its server. The number tells this run of the hub from others.
+    pub fn new(
+        alloc: Global,
+        hub: &'h V,
+        gauges: &'g G,
+        access: Access<'h>,
+        run: u64,
+    ) -> Board<'h, 'g, V, G>
+        ensures access { result.access ≡ access.entry }
         ensures run { result.run ≡ run }
     {
         Board {
             alloc,
             hub,
+            gauges,
             access,
             run,
         }
@@ -111,20 +121,29 @@ impl<'h, V: HubLooks> Board<'h, V> {
     }
 }
 
-impl<'h, V: HubLooks> Board<'h, V> {
-    // Shows how many calls the hub has taken, and how many wagons were planned, as Prometheus reads it.
+impl<'h, 'g, V: HubLooks, G: Gauges> Board<'h, 'g, V, G> {
+    // Shows the numbers of the hub and of its server, as Prometheus reads them.
     fn show_metrics(&self, response: &mut Response) -> Result<(), LookFault>
         requires { IsBlank response.old }
         ensures { OnOk result (AreMetrics response.new) }
     {
-        let now = self.hub.counts()?;
-        let text = metrics_of(self.alloc, now)?;
+        let before = self.gauges.microseconds();
+        let counts = self.hub.counts()?;
+        let look = self.gauges.microseconds().saturating_sub(before);
+        let whys = refusals_seen(self.alloc, self.hub, counts.calls)?;
+        let metrics = Metrics {
+            counts,
+            whys: whys.as_slice(),
+            look,
+            server: self.gauges.numbers(),
+        };
+        let text = metrics_of(self.alloc, &metrics)?;
         begin_typed(response, StatusCode::OK, METRICS)?;
         Ok(give(response, text)?)
     }
 }
 
-impl<'h, V: HubLooks> Service for Board<'h, V> {
+impl<'h, 'g, V: HubLooks, G: Gauges> Service for Board<'h, 'g, V, G> {
     ghost answers = { λ old request response new.
         IsAnswered old.access old.run request response × (new ≡ old) };
 

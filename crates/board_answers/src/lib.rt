@@ -7,7 +7,7 @@
 //! | `/`, `/R101/` | the page |
 //! | `/R101/wagons.json`, `/R101/legs.json` | the records and the legs of the wagons that R101 may see; 304 where no call came since |
 //! | `/R101/wagons/218124712173.json`, `../legs.json` | what R101 is told of the wagon, and its legs; 404 with the reply where it may not see it |
-//! | `/health`, `/metrics` | that the board answers; numbers of the hub |
+//! | `/health`, `/metrics` | that the board answers; numbers of the hub and of its server |
 //!
 //! | refused with | where |
 //! |---|---|
@@ -32,13 +32,15 @@
 //! | `admission` | whether a request is answered |
 //! | `sending` | answers with their fields |
 //! | `tag` | the tag of a list |
-//! | `metrics` | numbers of the hub |
+//! | `gauges` | numbers of the server |
+//! | `metrics` | the text of all numbers |
 //! | `board` | each request to its answer |
 #![tactic(auto)]
 
 mod access;
 mod admission;
 mod board;
+mod gauges;
 mod metrics;
 mod refusal;
 mod sending;
@@ -46,4 +48,5 @@ mod tag;
 
 pub use access::Access;
 pub use board::{Board, ListOf};
+pub use gauges::{Gauges, ServerNumbers};
 pub use refusal::Refusal;

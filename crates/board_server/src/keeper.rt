@@ -21,7 +21,7 @@ impl<'a, R: Wait + Clock> HubKeeper for BoardKeeper<'a, R> {
 
     fn look_at<V: HubLooks>(&self, hub: &V) {
         if let Some(board) = self.board {
-            board.serve(self.rt, hub, None);
+            board.serve(self.rt, hub, None, None);
         }
     }
 

@@ -9,10 +9,14 @@
 //! | part | what it has |
 //! |---|---|
 //! | `server` | the board of a hub |
+//! | `numbers` | the numbers of the server: its sessions, its memory and the time |
+//! | `process` | the memory of the process |
 //! | `keeper` | the board beside a shift |
 #![tactic(auto)]
 
 mod keeper;
+mod numbers;
+mod process;
 mod server;
 
 pub use keeper::BoardKeeper;

@@ -1,14 +1,22 @@
 //! The board of a hub.
+ghost use Rattle.std.specs.Prelude.{◌≡◌, map, string_bytes, IfOk};
+ghost use Rattle.board_server.specs.Hosts.{hosts_at};
+
+use crate::numbers::Numbers;
+use crate::process::ProcessMemory;
+use accept_queue::AcceptQueue;
 use board_answers::{Access, Board};
 use board_connections::{BoardListener, LimitedService, Limits, ServingEnd};
 use hub_shared::HubLooks;
 use railway_keys::KeyTable;
 use std::alloc::{AllocGlobal, Global};
+use std::fs::File;
 use std::io;
-use std::net::Net;
+use std::net::{Net, TcpStream};
 use std::random::RandomSource;
+use std::rt::Files;
 use std::sync::{Mutex, Wait};
-use std::time::{Clock, SystemTime};
+use std::time::{Clock, Instant, SystemTime};
 
 // The port of http where none is named.
 const HTTP_PORT: u16 = 80;
@@ -20,15 +28,16 @@ pub struct BoardServer {
     listener: Mutex<Option<BoardListener>>,
     end: ServingEnd,
     hosts: Vec<String>,
+    memory: ProcessMemory,
     run: u64,
 }
 
 impl BoardServer {
     /// Listens on the port. Nobody is answered yet.
-    pub fn bind<R: Net + Clock + RandomSource + AllocGlobal>(
-        rt: &R,
-        port: u16,
-    ) -> io::Result<BoardServer> {
+    pub fn bind<R>(rt: &R, port: u16) -> io::Result<BoardServer>
+    where
+        R: Files<File = File> + Net + Clock + RandomSource + AllocGlobal,
+    {
         let alloc = rt.alloc();
         let (listener, end) = BoardListener::bind(rt, port, Limits::new())?;
         Ok(BoardServer {
@@ -36,21 +45,34 @@ impl BoardServer {
             listener: Mutex::new(Some(listener)),
             end,
             hosts: hosts_of(alloc, port)?,
+            memory: ProcessMemory::open(rt),
             run: run_number(rt)?,
         })
     }
 
     /// Answers requests by looks at the hub until it is told to end, or until the listener fails. With keys, a railway's wagons are
-    /// shown only for its key.
-    pub fn serve<V: HubLooks, R: Wait + Clock>(&self, rt: &R, hub: &V, keys: Option<&KeyTable>) {
+    /// shown only for its key. The sessions of a service are counted by its accept queue.
+    pub fn serve<V: HubLooks, R: Wait + Clock>(
+        &self,
+        rt: &R,
+        hub: &V,
+        keys: Option<&KeyTable>,
+        queue: Option<&AcceptQueue<TcpStream>>,
+    ) {
         let Some(listener) = self.take_listener(rt) else {
             return;
+        };
+        let numbers = Numbers {
+            rt,
+            memory: &self.memory,
+            queue,
+            start: Instant::now(rt).ok(),
         };
         let access = Access {
             hosts: self.hosts.as_slice(),
             keys,
         };
-        let board = Board::new(self.alloc, hub, access, self.run);
+        let board = Board::new(self.alloc, hub, &numbers, access, self.run);
         // Where the listener fails, the board is gone, and the hub is served all the same.
         let _ = listener.serve(rt, &mut LimitedService::new(board), &self.end);
     }
@@ -66,7 +88,9 @@ impl BoardServer {
 }
 
 // How the board is named at this port. Browsers leave out the port of http.
-fn hosts_of(alloc: Global, port: u16) -> io::Result<Vec<String>> {
+fn hosts_of(alloc: Global, port: u16) -> io::Result<Vec<String>>
+    ensures { IfOk result (λ hosts. map string_bytes hosts.items ≡ hosts_at port) }
+{
     let mut hosts = Vec::with_capacity(alloc, 4)?;
     hosts.push(format!(in alloc; "127.0.0.1:{port}")?)?;
     hosts.push(format!(in alloc; "localhost:{port}")?)?;

@@ -1,5 +1,5 @@
 //! A board, and requests to it.
-use board_answers::{Access, Board};
+use board_answers::{Access, Board, Gauges, ServerNumbers};
 use http_server::{Config, Connection, Service, serve};
 use hub_core::Hub;
 use hub_replay::run;
@@ -17,9 +17,35 @@ use test_scripts::{FIRST, SECOND, Script};
 /// The number of this run.
 const RUN: u64 = 7;
 
+/// A server with three sessions, beside which no connection waits, and whose memory is not known. Each look at its hub takes no time.
+struct Server;
+
+impl Gauges for Server {
+    fn numbers(&self) -> ServerNumbers {
+        ServerNumbers {
+            sessions: Some(3),
+            waiting: Some(0),
+            memory: None,
+        }
+    }
+
+    fn microseconds(&self) -> u64 {
+        0
+    }
+}
+
 /// A hub that has taken the calls of two railways, ten in all. It lies on the heap, since what owns a hub itself takes the prover long.
 pub(crate) fn two_railways(rt: &impl Threads, alloc: Global) -> Result<Box<Hub>, Fail> {
-    let script = Script::of(alloc, &[FIRST, SECOND])?;
+    hub_after(rt, alloc, &[FIRST, SECOND])
+}
+
+/// A hub that has taken the calls of these scripts.
+pub(crate) fn hub_after(
+    rt: &impl Threads,
+    alloc: Global,
+    scripts: &[&str],
+) -> Result<Box<Hub>, Fail> {
+    let script = Script::of(alloc, scripts)?;
     let mut hub = Box::new(alloc, Hub::new(alloc)?)?;
     let mut reader = Std::new(script.input.as_slice());
     let mut writer = Std::new(Vec::new(alloc));
@@ -50,7 +76,7 @@ pub(crate) fn answer_to<R: RandomSource>(
         keys,
     };
     let looks = OwnLooks::new(hub);
-    let mut board = Board::new(alloc, &looks, access, RUN);
+    let mut board = Board::new(alloc, &looks, &Server, access, RUN);
     let request = format!(in alloc; "{lines}connection: close\r\n\r\n")?;
     Ok(said_to(rt, alloc, &mut board, request.as_str())?)
 }

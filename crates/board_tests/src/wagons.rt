@@ -4,7 +4,7 @@ use board_page::{HEAD, TAIL};
 use std::test::*;
 
 // A path, and the status and the body of its answer.
-static SHOWN: [(&str, &str, &str); 8] = [
+static SHOWN: [(&str, &str, &str); 7] = [
     // What the railway's own question for the wagon gets.
     (
         "/R100/wagons/218124712173.json",
@@ -39,11 +39,6 @@ static SHOWN: [(&str, &str, &str); 8] = [
 "#,
     ),
     ("/health", "200", "ok\n"),
-    (
-        "/metrics",
-        "200",
-        "# TYPE taf_hub_calls_total counter\ntaf_hub_calls_total 10\n# TYPE taf_hub_wagons gauge\ntaf_hub_wagons 2\n",
-    ),
     // Digits that are no vehicle number.
     ("/R100/wagons/218124712174.json", "404", ""),
 ];

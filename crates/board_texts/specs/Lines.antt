@@ -3,11 +3,12 @@ use Rattle.std.specs.Prelude.{◌≡◌, ℕ, zero, suc, ◌*◌, ◌≤◌, Lis
 use Rattle.serde_json.specs.Written.{compact_text}
 use Rattle.taf_codes.specs.declared.code.Railway.{Railway}
 use Rattle.taf_messages.specs.declared.record.Record.{Record}
+use Rattle.taf_messages.specs.declared.reply.Why.{Why}
 use Rattle.call_lines.specs.Lines.{reply_text}
 use Rattle.reply_writer.specs.LegShapes.{WagonLegs, wagon_legs_data}
 use Rattle.hub_answers.specs.declared.shown.ShownWagon.{ShownWagon}
 use Rattle.hub_shared.specs.declared.looks.WagonLook.{WagonLook}
-use Rattle.hub_shared.specs.Looks.{IsFleetLook}
+use Rattle.hub_shared.specs.Looks.{AreRefusals, IsFleetLook}
 
 -- a text, and a newline behind it
 abbrev pub as_line : List ℕ → List ℕ
@@ -25,18 +26,31 @@ legs_of w = record { wagon = w.wimo.wagon; legs = w.legs }
 abbrev pub summary : ShownWagon → ShownWagon
 summary w = record w { wimo = record w.wimo { events = [] } }
 
--- what was seen in so many looks, each at the next 256 wagons of the fleet
-abbrev pub AreSeen : Railway → ℕ → List ShownWagon → Type 0
-AreSeen by zero seen = seen ≡ []
-AreSeen by (suc k) seen =
-    (before : List ShownWagon) × AreSeen by k before
-    × (shown : List ShownWagon) × IsFleetLook by (k * 256) 256 shown × (seen ≡ before ++ map summary shown)
+-- what was seen in so many looks, one part after another
+abbrev pub AreSeen : {X : Type 0} → (ℕ → List X → Type 0) → ℕ → List X → Type 0
+AreSeen look zero seen = seen ≡ []
+AreSeen {X} look (suc k) seen =
+    (before : List X) × AreSeen look k before × (part : List X) × look k part × (seen ≡ before ++ part)
+
+-- what was seen in the look at part k of the fleet, of 256 wagons
+abbrev pub IsFleetPart : Railway → ℕ → List ShownWagon → Type 0
+IsFleetPart by k part = (shown : List ShownWagon) × IsFleetLook by (k * 256) 256 shown × (part ≡ map summary shown)
 
 -- what was seen of so many wagons at least
 pub record IsFleetSeen (by : Railway) (wagons : ℕ) (seen : List ShownWagon) : Type 0 where
   pub looks : ℕ
   pub all : wagons ≤ looks * 256
-  pub are : AreSeen by looks seen
+  pub are : AreSeen (IsFleetPart by) looks seen
+
+-- what was seen in the look at part k of the history, of 8,192 calls
+abbrev pub IsRefusalsPart : ℕ → List Why → Type 0
+IsRefusalsPart k part = AreRefusals (k * 8192) 8192 part
+
+-- why calls were refused, of so many calls at least
+pub record AreRefusalsSeen (calls : ℕ) (whys : List Why) : Type 0 where
+  pub looks : ℕ
+  pub all : calls ≤ looks * 8192
+  pub are : AreSeen IsRefusalsPart looks whys
 
 -- the legs of a wagon that is shown, or what the railway is told instead
 abbrev pub legs_told : WagonLook → List ℕ

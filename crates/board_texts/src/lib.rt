@@ -6,8 +6,12 @@
 //! | [`legs_line`] | the legs of the same wagons, in the same order |
 //! | [`wagon_line`] | what the railway is told of one wagon: the reply to its question for it |
 //! | [`wagon_legs_line`] | the legs of this wagon, or the same refusal |
+//! | [`line_of_records`], [`line_of_legs`] | the records and the legs of wagons that were seen already |
 //!
-//! The hub is looked at through [`HubLooks`](hub_shared::HubLooks), for at most [`PART`] wagons at a time, and no call is made.
+//! Beside them [`refusals_seen`] gives why calls were refused, for the numbers of the hub.
+//!
+//! The hub is looked at through [`HubLooks`](hub_shared::HubLooks), for at most [`PART`] wagons or 8,192 calls at a time, and no call is
+//! made.
 //!
 //! # What is promised
 //!
@@ -22,6 +26,7 @@
 //! | part | what it has |
 //! |---|---|
 //! | `fleet` | what is seen of the fleet, part by part |
+//! | `refusals` | why calls were refused, part by part |
 //! | `lists` | the lines of lists |
 //! | `wagon` | the lines of one wagon |
 //! | `line` | a text as a line |
@@ -30,8 +35,10 @@
 mod fleet;
 mod line;
 mod lists;
+mod refusals;
 mod wagon;
 
 pub use fleet::PART;
-pub use lists::{legs_line, wagons_line};
+pub use lists::{legs_line, line_of_legs, line_of_records, wagons_line};
+pub use refusals::refusals_seen;
 pub use wagon::{WagonLine, wagon_legs_line, wagon_line};

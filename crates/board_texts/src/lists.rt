@@ -26,7 +26,7 @@ pub fn wagons_line<V: HubLooks>(
         × (line.items ≡ as_line (reply_text (Reply.Many (map wimo_of seen))))) }
 {
     let seen = fleet_seen(alloc, hub, by, wagons)?;
-    Ok(records_text(alloc, seen)?)
+    Ok(line_of_records(alloc, seen)?)
 }
 
 /// The legs of the wagons that the railway may see of the first so many of the fleet.
@@ -40,11 +40,11 @@ pub fn legs_line<V: HubLooks>(
         × (line.items ≡ as_line (compact_text (fleet_legs_data (map legs_of seen))))) }
 {
     let seen = fleet_seen(alloc, hub, by, wagons)?;
-    Ok(legs_text(alloc, seen.as_slice())?)
+    Ok(line_of_legs(alloc, seen.as_slice())?)
 }
 
-// The line of the records of these wagons.
-fn records_text(alloc: Global, seen: Vec<ShownWagon>) -> Result<Vec<u8>, Memory>
+/// The line of the records of these wagons, as the reply `records`.
+pub fn line_of_records(alloc: Global, seen: Vec<ShownWagon>) -> Result<Vec<u8>, Memory>
     ensures { IfOk result (λ line.
         line.items ≡ as_line (reply_text (Reply.Many (map wimo_of seen.items)))) }
 {
@@ -65,8 +65,8 @@ fn records_of(alloc: Global, seen: Vec<ShownWagon>) -> Result<Vec<Record>, Memor
     Ok(records)
 }
 
-// The line of the legs of these wagons.
-fn legs_text(alloc: Global, seen: &[ShownWagon]) -> Result<Vec<u8>, Memory>
+/// The line of the legs of these wagons.
+pub fn line_of_legs(alloc: Global, seen: &[ShownWagon]) -> Result<Vec<u8>, Memory>
     ensures { IfOk result (λ line.
         line.items ≡ as_line (compact_text (fleet_legs_data (map legs_of seen.now)))) }
 {

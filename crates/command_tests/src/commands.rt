@@ -108,7 +108,7 @@ fn commands_end_with_their_status(rt: HostRuntime) -> Result<(), Fail> {
 }
 
 // Arguments that are explained, on the output for the status 0 and else among the errors.
-static EXPLAINED: [(&str, u8); 42] = [
+static EXPLAINED: [(&str, u8); 47] = [
     ("taf_hub|--help", 0),
     ("taf_hub|number|--help", 0),
     ("taf_hub", 2),
@@ -117,6 +117,11 @@ static EXPLAINED: [(&str, u8); 42] = [
     ("taf_hub|replay|again", 2),
     ("taf_hub|replay|--journal", 2),
     ("taf_hub|replay|hub.journal", 2),
+    ("taf_hub|board|--help", 0),
+    ("taf_hub|board|records.jsonl", 2),
+    ("taf_hub|board|--for", 2),
+    ("taf_hub|board|--for|R1", 2),
+    ("taf_hub|board|--for|r101", 2),
     ("taf_hub|check|--help", 0),
     ("taf_hub|check", 2),
     ("taf_hub|check|hub.journal|again", 2),
@@ -179,7 +184,7 @@ fn other_arguments_are_explained(rt: HostRuntime) -> Result<(), Fail> {
 }
 
 // The arguments that ask for help, and the last lines of what is printed.
-static ENDS: [(&str, &str); 6] = [
+static ENDS: [(&str, &str); 7] = [
     (
         "taf_hub|--help",
         "\n  8  the journal is in use, damaged or of another program\n",
@@ -187,6 +192,10 @@ static ENDS: [(&str, &str); 6] = [
     (
         "taf_hub|replay|--help",
         "\n  taf_hub replay --journal hub.journal < records.jsonl > answers.txt\n\nStatuses: 0, 2, 3, 4, 7, 8\n",
+    ),
+    (
+        "taf_hub|board|--help",
+        "\n  taf_hub board --for R101 < hub.journal > board.html\n\nStatuses: 0, 2, 3, 4\n",
     ),
     (
         "taf_hub|check|--help",

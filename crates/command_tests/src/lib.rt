@@ -3,6 +3,7 @@
 //! | part | tests |
 //! |---|---|
 //! | `commands` | the commands of `taf_hub`: their texts, their faults and their statuses |
+//! | `file` | the page of a finished run |
 //! | `journals` | `replay` with a journal, and `check`, on files of the system |
 //! | `journaled_serving` | shifts with a journal over loopback, and one that goes on with the journal of another |
 //! | `service` | services over loopback, of a railway that breaks off and comes back, with a journal and without, and of railways with keys |
@@ -17,6 +18,8 @@
 mod board;
 #[cfg(test)]
 mod commands;
+#[cfg(test)]
+mod file;
 #[cfg(test)]
 mod journaled_serving;
 #[cfg(test)]

@@ -1,33 +1,52 @@
-//! The board beside what is served.
-use board_server::{BoardKeeper, BoardServer};
+//! `board`: the board of a finished run, as a page with the wagons inside.
+use board_file::board_file;
+use hub_core::Hub;
 use hub_faults::Fault;
-use std::io::Write;
-use std::net::Net;
+use hub_replay::run;
+use seeded_state::SeededState;
+use std::alloc::Global;
+use std::io::{Read, Write, sink};
+use std::mem::forget;
 use std::random::RandomSource;
-use std::rt::Clock;
+use std::thread::Threads;
+use taf_codes::{Railway, Source, Std};
 
-/// Listens for the board on its port of this machine alone, where it has one, and reports among the errors where that is.
-pub(crate) fn bind_board<R, E>(
-    rt: &R,
-    port: Option<u16>,
-    errors: &mut E,
-) -> Result<Option<BoardServer>, Fault>
-where
-    R: Net + Clock + RandomSource + AllocGlobal,
-    E: Write,
-{
-    let Some(port) = port else {
-        return Ok(None);
-    };
-    let Ok(board) = BoardServer::bind(rt, port) else {
-        return Err(Fault::Socket);
-    };
-    // Where standard error fails, nobody is told where the board is; it is there all the same.
-    let _ = errors.write_fmt(format_args!("board on http://127.0.0.1:{port}/\n"));
-    Ok(Some(board))
+/// Answers the lines of the input on a new hub, as `replay` does, and then writes the page of the hub's wagons: those that the railway
+/// may see, or with no railway all. The answers are not written.
+pub fn perform<R: Read + Drop, W: Write + Drop>(
+    rt: &(impl Threads + Sync + RandomSource),
+    alloc: Global,
+    railway: Option<Railway>,
+    input: R,
+    output: W,
+) -> Result<u8, Fault> {
+    let mut hub = Hub::with_hasher(alloc, SeededState::drawn(rt))?;
+    let page = page_of(rt, alloc, railway, &mut Std::new(input), &mut hub);
+    // The program ends here. To give back the memory of each call would take as long as many calls.
+    forget(hub);
+    write_page(&page?, output)?;
+    Ok(0)
 }
 
-/// The keeper of a shift that has this board, or none.
-pub(crate) fn keeper_of<'x, R>(rt: &'x R, board: Option<&'x BoardServer>) -> BoardKeeper<'x, R> {
-    BoardKeeper { rt, board }
+// Answers the lines on this hub, and gives the page of its wagons.
+fn page_of(
+    rt: &(impl Threads + Sync),
+    alloc: Global,
+    railway: Option<Railway>,
+    reader: &mut impl Source,
+    hub: &mut Hub,
+) -> Result<Vec<u8>, Fault> {
+    run(rt, alloc, reader, &mut Std::new(sink()), hub)?;
+    Ok(board_file(alloc, hub, railway)?)
+}
+
+// Writes the page, and sends it on.
+fn write_page<W: Write + Drop>(page: &[u8], mut output: W) -> Result<(), Fault> {
+    let Ok(()) = output.write_all(page) else {
+        return Err(Fault::Write);
+    };
+    match output.flush() {
+        Ok(()) => Ok(()),
+        Err(_failed) => Err(Fault::Write),
+    }
 }

@@ -5,7 +5,7 @@ use crate::journaled_open::JournaledOpen;
 use crate::journaled_serve::JournaledServe;
 use crate::open::KeyedOpen;
 use crate::{
-    check, journaled_open, journaled_replay, journaled_serve, number, open, replay, serve,
+    board, check, journaled_open, journaled_replay, journaled_serve, number, open, replay, serve,
 };
 use clap::Error;
 use clap::error::ErrorKind;
@@ -36,7 +36,7 @@ where
     E: Write,
 {
     let done = match task_of(rt.alloc(), arguments) {
-        Ok(task) => perform_task(rt, task, input, output, errors),
+        Ok(task) => perform_task(rt, &task, input, output, errors),
         Err(error) => explain(&error, output, errors),
     };
     match done {
@@ -48,7 +48,7 @@ where
 // Does what a task is, and gives the status.
 fn perform_task<H, R, W, E>(
     rt: &H,
-    task: Task<'_>,
+    task: &Task<'_>,
     input: R,
     output: W,
     errors: &mut E,
@@ -66,11 +66,12 @@ where
     W: Write + Drop,
     E: Write,
 {
-    match task {
+    match *task {
         Task::Replay { journal: None } => replay::perform(rt, rt.alloc(), input, output),
         Task::Replay {
             journal: Some(path),
         } => journaled_replay::perform(rt, path, input, output, errors),
+        Task::Board { railway } => board::perform(rt, rt.alloc(), railway, input, output),
         Task::Check(path) => check::perform(rt, path, output, errors),
         Task::Number(text) => number::perform(output, text),
         Task::Serve {

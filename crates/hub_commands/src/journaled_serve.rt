@@ -1,7 +1,7 @@
 //! `serve` with a journal.
-use crate::board::{bind_board, keeper_of};
 use crate::journal_open::{explained_with_journal, open};
 use crate::serve::{Served, listen, print_shift};
+use crate::served_board::{bind_board, keeper_of};
 use hub_faults::Fault;
 use hub_server::{SettledJournaledShift, serve_journaled_connections};
 use hub_tasks::ShiftOptions;

@@ -1,10 +1,10 @@
 //! `open`: a service for as long as standard input lasts.
 ghost use Rattle.std.specs.Prelude.{◌≡◌, IfOk};
 
-use crate::board::bind_board;
 use crate::keys::read_keys;
 use crate::print::print_settled;
 use crate::serve::{Served, bind, explained};
+use crate::served_board::bind_board;
 use accept_queue::{AcceptQueue, Limits, control_of};
 use hub_faults::Fault;
 use hub_tasks::ServiceOptions;
@@ -68,7 +68,11 @@ pub(crate) fn listen<R, E>(
     errors: &mut E,
 ) -> Result<Listening, Fault>
 where
-    R: Net<Listener = TcpListener, Stream = TcpStream> + Clock + RandomSource + AllocGlobal,
+    R: Files<File = File>
+        + Net<Listener = TcpListener, Stream = TcpStream>
+        + Clock
+        + RandomSource
+        + AllocGlobal,
     E: Write,
     ensures { IfOk result (λ l. l.queue.limits ≡ service.limits) }
 {

@@ -1,15 +1,16 @@
-use crate::board::{bind_board, keeper_of};
 use crate::print::print_settled;
+use crate::served_board::{bind_board, keeper_of};
 use hub_faults::Fault;
 use hub_server::{NoKeeper, ServerFault, SessionEnd, SettledShift, serve_connections};
 use hub_tasks::ShiftOptions;
 use shift_size::ShiftSize;
 use std::fmt::{self, Display, Formatter};
+use std::fs::File;
 use std::io::{Read, Write};
 use std::mem::forget;
 use std::net::{Ipv4Addr, Net, OpenListener, OpenStream, TcpListener};
 use std::random::RandomSource;
-use std::rt::Clock;
+use std::rt::{Clock, Files};
 use std::sync::Wait;
 use std::thread::Threads;
 use wimo_report::hub_lines;
@@ -33,7 +34,7 @@ impl Display for Served {
 /// Listens on the port of this machine alone, serves one shift there, with its board, if it has one, and prints what it comes to.
 pub fn perform<R, W, E>(rt: &R, shift: ShiftOptions, output: W, errors: &mut E) -> Result<u8, Fault>
 where
-    R: Net + Threads + Wait + Clock + Sync + RandomSource + AllocGlobal,
+    R: Files<File = File> + Net + Threads + Wait + Clock + Sync + RandomSource + AllocGlobal,
     R::Stream: Send,
     R::Listener: Send,
     W: Write + Drop,

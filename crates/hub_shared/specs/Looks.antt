@@ -1,7 +1,10 @@
 -- What is seen of a hub without a call: after some history that one thread could have made.
-use Rattle.std.specs.Prelude.{◌≡◌, ℕ, List, length, take, drop}
+use Rattle.std.specs.Prelude.{◌≡◌, ℕ, List, length, take, drop, filter_map, Option, Some, None}
 use Rattle.taf_codes.specs.declared.code.Railway.{Railway}
 use Rattle.taf_messages.specs.declared.call.Call.TheVariants.{Ask}
+use Rattle.taf_messages.specs.declared.reply.Reply.{Reply}
+use Rattle.taf_messages.specs.declared.reply.Reply.TheVariants.{Refused}
+use Rattle.taf_messages.specs.declared.reply.Why.{Why}
 use Rattle.hub_model.specs.declared.entry.Entry.{Entry}
 use Rattle.hub_model.specs.Histories.{answer, state_of}
 use Rattle.hub_answers.specs.Shown.{shown_of, shown_to}
@@ -35,3 +38,16 @@ pub record IsWagonLookAt (history : List Entry) (by : Railway) (wagon : ℕ) (l 
 -- such a look after some history
 abbrev pub IsWagonLook : Railway → ℕ → WagonLook → Type 0
 IsWagonLook by wagon l = (history : List Entry) × IsRun history × IsWagonLookAt history by wagon l
+
+-- why a call is refused by this reply
+abbrev pub why_of : Reply → Option Why
+why_of (Refused refusal) = Some refusal.why
+why_of reply = None
+
+-- why the calls of a part of the history were refused, those that were
+abbrev pub AreRefusalsAt : List Entry → ℕ → ℕ → List Why → Type 0
+AreRefusalsAt history from most whys = whys ≡ filter_map (λ (e : Entry). why_of e.reply) (take most (drop from history))
+
+-- such reasons after some history
+abbrev pub AreRefusals : ℕ → ℕ → List Why → Type 0
+AreRefusals from most whys = (history : List Entry) × IsRun history × AreRefusalsAt history from most whys

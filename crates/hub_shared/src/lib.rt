@@ -8,8 +8,8 @@
 //! is the length of its history.
 //!
 //! Who only looks makes no call, and nothing is entered: [`SharedHub::look_at_fleet`] and [`SharedHub::look_at_wagon`] show what the
-//! model gives after some history that one thread could have made (`specs/Looks.antt`). [`HubLooks`] is what looks at a hub, whoever
-//! has it.
+//! model gives after some history that one thread could have made, and [`SharedHub::look_at_refusals`] why calls of it were refused
+//! (`specs/Looks.antt`). [`HubLooks`] is what looks at a hub, whoever has it.
 //!
 //! A thread that takes the lock knows nothing of the calls before its own. So no contract of `submit` can say that its
 //! answer is still in the history at the end. This is checked at the end: each session notes in a [`Tally`] what it was
@@ -21,6 +21,7 @@
 //! | `seat` | the right to call, with its counts |
 //! | `shared` | the lock |
 //! | `looks` | looks at the hub, which make no call |
+//! | `refusals` | looks at why calls were refused |
 //! | `settling` | the comparison of tallies and history |
 //! | `law` | the order of a session's entries in a history that is told |
 #![tactic(auto)]
@@ -28,6 +29,7 @@
 mod booked;
 mod law;
 mod looks;
+mod refusals;
 mod seat;
 mod settling;
 mod shared;
@@ -38,6 +40,7 @@ pub use looks::{
     HubCounts, HubLooks, LookFault, OwnLooks, SharedLooks, WagonLook, counts_of, look_at_fleet,
     look_at_wagon,
 };
+pub use refusals::look_at_refusals;
 pub use seat::{Seat, split_seat};
 pub use settling::{SettleFault, Settled, settle};
 pub use shared::SharedHub;

@@ -1,15 +1,17 @@
 //! Looks at a hub: they make no call, so nothing is entered.
 ghost use Rattle.std.specs.Prelude.{◌≡◌, IfOk};
 ghost use Rattle.hub_shared.specs.declared.looks.LookFault.TheVariants as faults;
-ghost use Rattle.hub_shared.specs.Looks.{AreCounts, AreCountsAt, IsFleetLook, IsFleetLookAt, IsWagonLook, IsWagonLookAt};
+ghost use Rattle.hub_shared.specs.Looks.{AreCounts, AreCountsAt, AreRefusals, IsFleetLook, IsFleetLookAt, IsWagonLook, IsWagonLookAt};
 
+use crate::refusals::look_at_refusals;
 use crate::shared::SharedHub;
 use hub_answers::ShownWagon;
 use hub_core::Hub;
+use std::alloc::Global;
 use std::sync::Wait;
 use std::sync::ledger::Ledger;
 use taf_codes::{Memory, Railway};
-use taf_messages::Reply;
+use taf_messages::{Reply, Why};
 use thiserror::Error;
 use wagon_number::WagonNumber;
 
@@ -59,6 +61,11 @@ pub trait HubLooks {
     /// What the railway is told and shown of a wagon.
     fn wagon(&self, by: Railway, wagon: WagonNumber) -> Result<WagonLook, LookFault>
         ensures { IfOk result (IsWagonLook by wagon) };
+
+    /// Why calls were refused, those that were, of at most so many calls of the history, from this position on, which is counted from
+    /// 0.
+    fn refusals(&self, alloc: Global, from: usize, most: usize) -> Result<Vec<Why>, LookFault>
+        ensures { IfOk result (λ whys. AreRefusals from most whys.items) };
 }
 
 /// Looks at a shared hub, each under its lock.
@@ -86,6 +93,10 @@ impl<'h, L: Ledger, R: Wait> HubLooks for SharedLooks<'h, L, R> {
     fn wagon(&self, by: Railway, wagon: WagonNumber) -> Result<WagonLook, LookFault> {
         Ok(self.hub.look_at_wagon(self.rt, by, wagon)?)
     }
+
+    fn refusals(&self, alloc: Global, from: usize, most: usize) -> Result<Vec<Why>, LookFault> {
+        Ok(self.hub.look_at_refusals(self.rt, alloc, from, most)?)
+    }
 }
 
 /// Looks at a hub that nobody calls meanwhile.
@@ -111,6 +122,10 @@ impl<'h> HubLooks for OwnLooks<'h> {
 
     fn wagon(&self, by: Railway, wagon: WagonNumber) -> Result<WagonLook, LookFault> {
         Ok(look_at_wagon(self.hub, by, wagon)?)
+    }
+
+    fn refusals(&self, alloc: Global, from: usize, most: usize) -> Result<Vec<Why>, LookFault> {
+        Ok(look_at_refusals(alloc, self.hub, from, most)?)
     }
 }
 

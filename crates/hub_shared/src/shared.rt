@@ -1,10 +1,11 @@
 //! The hub that threads share.
 ghost use Rattle.std.specs.Prelude.{◌≡◌, ◌<◌, length, sum_by, IfOk, IfErr, OnOk, OnErr};
 ghost use Rattle.hub_shared.specs.Seats.{IsRun, IsAnswerInRun, IsFaultInRun, new_seat, after_answer, after_fault};
-ghost use Rattle.hub_shared.specs.Looks.{AreCounts, IsFleetLook, IsWagonLook};
+ghost use Rattle.hub_shared.specs.Looks.{AreCounts, AreRefusals, IsFleetLook, IsWagonLook};
 
 use crate::booked::{Booked, serve_one};
 use crate::looks::{HubCounts, WagonLook, counts_of, look_at_fleet, look_at_wagon};
+use crate::refusals::look_at_refusals;
 use crate::seat::Seat;
 use hub_answers::ShownWagon;
 use hub_core::{Hub, HubFault};
@@ -13,7 +14,7 @@ use std::alloc::Global;
 use std::sync::ledger::{Blank, Ledger};
 use std::sync::{Mutex, Wait};
 use taf_codes::{Memory, Railway};
-use taf_messages::{Call, Reply};
+use taf_messages::{Call, Reply, Why};
 use wagon_number::WagonNumber;
 
 /// A hub that threads share, one call at a time.
@@ -104,6 +105,20 @@ impl<L: Ledger> SharedHub<L> {
         ensures { IfOk result (IsWagonLook by wagon) }
     {
         look_at_wagon(self.booked.lock(rt).hub(), by, wagon)
+    }
+
+    /// Takes the lock, which may wait, and gives why calls were refused, those that were, of at most so many calls of the history, from
+    /// this position on. No call is made. Want of memory is the only error.
+    pub fn look_at_refusals(
+        &self,
+        rt: &impl Wait,
+        alloc: Global,
+        from: usize,
+        most: usize,
+    ) -> Result<Vec<Why>, Memory>
+        ensures { IfOk result (λ whys. AreRefusals from most whys.items) }
+    {
+        look_at_refusals(alloc, self.booked.lock(rt).hub(), from, most)
     }
 
     /// The hub, and the sum of the counts of all seats, which is the length of its history. The seats have to have all

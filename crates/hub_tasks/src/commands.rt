@@ -6,6 +6,7 @@ use std::alloc::{AllocError, Global};
 /// The program with its commands.
 pub(crate) fn command<'a>(alloc: Global) -> Result<Command<'a>, AllocError> {
     let program = with(without_commands(alloc), replay(alloc))?;
+    let program = with(program, board(alloc))?;
     let program = with(program, check(alloc))?;
     let program = with(program, number(alloc))?;
     let program = with(program, serve(alloc))?;
@@ -39,6 +40,19 @@ fn replay<'a>(alloc: Global) -> Result<Command<'a>, AllocError> {
         .about("Answers the records of standard input, one line for each, on a new hub")
         .after_help(help::REPLAY)
         .arg(journal)
+}
+
+fn board<'a>(alloc: Global) -> Result<Command<'a>, AllocError> {
+    let railway = option(
+        alloc,
+        "for",
+        "RAILWAY",
+        "The railway whose board it is; all wagons if not given",
+    );
+    Command::new(alloc, "board")
+        .about("Writes the board of the records of standard input, as a page for a browser")
+        .after_help(help::BOARD)
+        .arg(railway)
 }
 
 fn check<'a>(alloc: Global) -> Result<Command<'a>, AllocError> {
@@ -79,7 +93,7 @@ fn serve<'a>(alloc: Global) -> Result<Command<'a>, AllocError> {
         .arg(sessions)?
         .arg(workers(alloc))?
         .arg(journal_of_one_worker(alloc)?)?
-        .arg(board(alloc))
+        .arg(board_port(alloc))
 }
 
 fn open<'a>(alloc: Global) -> Result<Command<'a>, AllocError> {
@@ -99,7 +113,7 @@ fn open<'a>(alloc: Global) -> Result<Command<'a>, AllocError> {
         .arg(workers(alloc))?
         .arg(journal_of_one_worker(alloc)?)?
         .arg(keys(alloc))?
-        .arg(board(alloc))?;
+        .arg(board_port(alloc))?;
     with_times(alloc, command)
 }
 
@@ -174,7 +188,7 @@ fn keys<'a>(alloc: Global) -> Arg<'a> {
     )
 }
 
-fn board<'a>(alloc: Global) -> Arg<'a> {
+fn board_port<'a>(alloc: Global) -> Arg<'a> {
     option(
         alloc,
         "board",

@@ -23,6 +23,12 @@ pub(crate) static REPLAY: &str = "Example:
 
 Statuses: 0, 2, 3, 4, 7, 8";
 
+pub(crate) static BOARD: &str = "Example:
+  taf_hub board < records.jsonl > board.html
+  taf_hub board --for R101 < hub.journal > board.html
+
+Statuses: 0, 2, 3, 4";
+
 pub(crate) static CHECK: &str = "Example:
   taf_hub check hub.journal
 

@@ -3,6 +3,7 @@
 //! | arguments | task |
 //! |---|---|
 //! | `replay [--journal FILE]` | [`Task::Replay`] |
+//! | `board [--for RAILWAY]` | [`Task::Board`] |
 //! | `check JOURNAL` | [`Task::Check`] |
 //! | `number TEXT` | [`Task::Number`] |
 //! | `serve --port P --sessions N [--workers K] [--board Q]` | [`Task::Serve`]: P and Q are 1 to 65,535, N 1 to 64, K 1 to 8, and 2 if left out |

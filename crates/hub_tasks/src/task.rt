@@ -10,6 +10,10 @@ use clap::{ArgMatches, Command, Error};
 use shift_size::ShiftSize;
 use std::alloc::Global;
 use std::time::Duration;
+use taf_codes::Railway;
+
+// What is told where a text is no code of a railway.
+const NO_RAILWAY: &str = "RAILWAY is four characters of A to Z and 0 to 9";
 
 /// What the program is to do.
 #[derive(Clone, Copy, Debug, PartialEq, Eq)]
@@ -17,6 +21,10 @@ pub enum Task<'a> {
     /// With the file of the journal, if one is kept.
     Replay {
         journal: Option<&'a str>,
+    },
+    /// Of the wagons that this railway may see; without one, of all.
+    Board {
+        railway: Option<Railway>,
     },
     /// Of the journal in this file.
     Check(&'a str),
@@ -54,9 +62,9 @@ fn named_by<'a>(command: &mut Command<'a>, arguments: &'a [String]) -> Result<Ta
     }
 }
 
-// For a command that is added and not read here.
+// For a text that is no code of a railway: clap has no parser for it, and all else has passed one.
 fn no_task(command: &mut Command<'_>) -> Error {
-    match command.error(ErrorKind::MissingSubcommand, "no task") {
+    match command.error(ErrorKind::ValueValidation, NO_RAILWAY) {
         Ok(error) => error,
         Err(refused) => Error::from(refused),
     }
@@ -70,11 +78,23 @@ fn task_in<'a>(matches: &ArgMatches<'a>) -> Option<Task<'a>>
         "replay" => Some(Task::Replay {
             journal: found.get_str("journal"),
         }),
+        "board" => board_in(found),
         "check" => Some(Task::Check(found.get_str("JOURNAL")?)),
         "serve" => shift_in(found),
         "open" => service_in(found),
         _ => Some(Task::Number(found.get_str("TEXT")?)),
     }
+}
+
+// The board that is named, unless its railway has no code of one.
+fn board_in<'a>(matches: &ArgMatches<'a>) -> Option<Task<'a>>
+    ensures limits { IfSome result IsWithinLimits }
+{
+    let railway = match matches.get_str("for") {
+        Some(code) => Some(Railway::read(code).ok()?),
+        None => None,
+    };
+    Some(Task::Board { railway })
 }
 
 // The shift that is named. Its numbers passed clap's parsers, so they are within their limits.

@@ -1,25 +1,29 @@
 //! Looks at the hub of a journal: others leave a question, and the one worker, who has the hub, answers it between two batches.
-ghost use Rattle.std.specs.Prelude.{◌≡◌, IsTrue, IfSome};
+ghost use Rattle.std.specs.Prelude.{◌≡◌, IsTrue, IfSome, Vec};
+ghost use Rattle.hub_shared.specs.Looks.{AreRefusals};
 ghost use Rattle.journaled_hub.specs.JournaledHubs.{IsOnDisk};
 ghost use Rattle.journal_workers.specs.Looks.{IsSeen};
 
 use crossbeam_utils::sync::EventCount;
 use hub_answers::ShownWagon;
 use hub_shared::{
-    HubCounts, HubLooks, LookFault, WagonLook, counts_of, look_at_fleet, look_at_wagon,
+    HubCounts, HubLooks, LookFault, WagonLook, counts_of, look_at_fleet, look_at_refusals,
+    look_at_wagon,
 };
 use journal::RawFile;
 use journaled_hub::JournaledHub;
 use session_lanes::JobQueue;
+use std::alloc::Global;
 use std::marker::Model;
 use std::mem;
 use std::sync::atomic::{AtomicBool, Ordering};
 use std::sync::{Mutex, Wait};
 use taf_codes::{Memory, Railway};
+use taf_messages::Why;
 use wagon_number::WagonNumber;
 
 /// What is to be seen of the hub, as [`HubLooks`] has it.
-#[derive(Clone, Copy, Debug, PartialEq, Eq)]
+#[derive(Clone, Copy, Debug)]
 pub enum Question {
     Counts,
     Fleet {
@@ -31,6 +35,11 @@ pub enum Question {
         by: Railway,
         wagon: WagonNumber,
     },
+    Refusals {
+        alloc: Global,
+        from: usize,
+        most: usize,
+    },
 }
 
 /// What was seen.
@@ -39,6 +48,7 @@ pub enum Seen {
     Counts(HubCounts),
     Fleet(Vec<ShownWagon>),
     Wagon(WagonLook),
+    Refusals(Vec<Why>),
     /// Memory was refused.
     NoMemory,
 }
@@ -122,6 +132,12 @@ pub fn see<F: RawFile + Drop>(hub: &JournaledHub<F>, question: &Question) -> See
             Ok(look) => Seen::Wagon(look),
             Err(Memory) => Seen::NoMemory,
         },
+        Question::Refusals { alloc, from, most } => {
+            match look_at_refusals(*alloc, hub.hub(), *from, *most) {
+                Ok(whys) => Seen::Refusals(whys),
+                Err(Memory) => Seen::NoMemory,
+            }
+        }
     }
 }
 
@@ -219,7 +235,7 @@ impl<'x, R: Wait> HubLooks for JournalLooks<'x, R> {
                 Err(LookFault::Ended)
             }
             Seen::NoMemory => Err(LookFault::Memory),
-            Seen::Counts(_) | Seen::Wagon(_) => Err(LookFault::Ended),
+            Seen::Counts(_) | Seen::Wagon(_) | Seen::Refusals(_) => Err(LookFault::Ended),
         }
     }
 
@@ -236,7 +252,24 @@ impl<'x, R: Wait> HubLooks for JournalLooks<'x, R> {
                 Err(LookFault::Ended)
             }
             Seen::NoMemory => Err(LookFault::Memory),
-            Seen::Counts(_) | Seen::Fleet(_) => Err(LookFault::Ended),
+            Seen::Counts(_) | Seen::Fleet(_) | Seen::Refusals(_) => Err(LookFault::Ended),
+        }
+    }
+
+    fn refusals(&self, alloc: Global, from: usize, most: usize) -> Result<Vec<Why>, LookFault> {
+        let question = Question::Refusals { alloc, from, most };
+        let Some((asked, seen)) = self.pending.ask(self.rt, self.jobs, question) else {
+            return Err(LookFault::Ended);
+        };
+        match seen {
+            Seen::Refusals(whys) => {
+                if is_of_refusals(&asked, from, most) {
+                    return Ok(whys);
+                }
+                Err(LookFault::Ended)
+            }
+            Seen::NoMemory => Err(LookFault::Memory),
+            Seen::Counts(_) | Seen::Fleet(_) | Seen::Wagon(_) => Err(LookFault::Ended),
         }
     }
 }
@@ -264,6 +297,21 @@ fn is_of_wagon(question: &Question, by: Railway, wagon: WagonNumber) -> bool
             by: whose,
             wagon: which,
         } => *whose == by && *which == wagon,
+        _ => false,
+    }
+}
+
+// Whether this is the question for the refusals of such a part of the history.
+fn is_of_refusals(question: &Question, from: usize, most: usize) -> bool
+    ensures { IsTrue result → (whys : Vec Why Global)
+        → IsSeen question.now (Seen.Refusals whys) → AreRefusals from most whys.items }
+{
+    match question {
+        Question::Refusals {
+            alloc: _,
+            from: first,
+            most: count,
+        } => *first == from && *count == most,
         _ => false,
     }
 }

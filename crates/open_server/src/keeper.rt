@@ -37,7 +37,8 @@ impl<'a, I: Read, R: Wait + Clock> HubKeeper for InputKeeper<'a, I, R> {
 
     fn look_at<V: HubLooks>(&self, hub: &V) {
         if let Some(board) = &self.listening.board {
-            board.serve(self.rt, hub, self.listening.keys.as_ref());
+            let Listening { keys, queue, .. } = self.listening;
+            board.serve(self.rt, hub, keys.as_ref(), Some(queue));
         }
     }
 
