@@ -1,3 +1,4 @@
 pub mod Answers
+pub mod Hosts
 pub mod Metrics
 pub mod Requests

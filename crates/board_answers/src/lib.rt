@@ -46,7 +46,7 @@ mod refusal;
 mod sending;
 mod tag;
 
-pub use access::Access;
+pub use access::{Access, hosts_of};
 pub use board::{Board, ListOf};
 pub use gauges::{Gauges, ServerNumbers};
 pub use refusal::Refusal;

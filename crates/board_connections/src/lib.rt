@@ -37,7 +37,7 @@
 //!
 //! No contract says what a socket gives or takes, that a client is accepted, answered or closed, how long anything takes, which client
 //! makes room, or that serving ends when it is told to: a call that waits owes no return. Nor does one bound the bytes that wait.
-//! `board_connection_tests` tries these over loopback.
+//! `connection_tests` tries these over loopback.
 //!
 //! | part | what it has |
 //! |---|---|

@@ -1,11 +1,8 @@
 //! The board of a hub.
-ghost use Rattle.std.specs.Prelude.{◌≡◌, map, string_bytes, IfOk};
-ghost use Rattle.board_server.specs.Hosts.{hosts_at};
-
 use crate::numbers::Numbers;
 use crate::process::ProcessMemory;
 use accept_queue::AcceptQueue;
-use board_answers::{Access, Board};
+use board_answers::{Access, Board, hosts_of};
 use board_connections::{BoardListener, LimitedService, Limits, ServingEnd};
 use hub_shared::HubLooks;
 use railway_keys::KeyTable;
@@ -17,9 +14,6 @@ use std::random::RandomSource;
 use std::rt::Files;
 use std::sync::{Mutex, Wait};
 use std::time::{Clock, Instant, SystemTime};
-
-// The port of http where none is named.
-const HTTP_PORT: u16 = 80;
 
 /// A listener on a port of 127.0.0.1 that shows the wagons of a hub to browsers.
 #[derive(Drop)]
@@ -85,20 +79,6 @@ impl BoardServer {
     pub fn end(&self) {
         self.end.end();
     }
-}
-
-// How the board is named at this port. Browsers leave out the port of http.
-fn hosts_of(alloc: Global, port: u16) -> io::Result<Vec<String>>
-    ensures { IfOk result (λ hosts. map string_bytes hosts.items ≡ hosts_at port) }
-{
-    let mut hosts = Vec::with_capacity(alloc, 4)?;
-    hosts.push(format!(in alloc; "127.0.0.1:{port}")?)?;
-    hosts.push(format!(in alloc; "localhost:{port}")?)?;
-    if port == HTTP_PORT {
-        hosts.push(String::from_str(alloc, "127.0.0.1")?)?;
-        hosts.push(String::from_str(alloc, "localhost")?)?;
-    }
-    Ok(hosts)
 }
 
 // A number that no other run of the hub has: the microseconds of its start.

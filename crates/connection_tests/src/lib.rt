@@ -1,4 +1,5 @@
-//! Tests of `accept_queue`, over loopback, and of `railway_keys`. There is nothing else here.
+//! Tests of `accept_queue`, over loopback, of `railway_keys`, and of the board, by its answers (`board`) and over loopback
+//! (`board_requests`). There is nothing else here.
 //!
 //! A service whose handlers write back what they read is run by threads of its own, and clients connect to it: one for which there is no
 //! handler is told so, 300 come one after another and each is served, one that is silent is cut off, a request of HTTP gets nothing, and
@@ -9,6 +10,10 @@
 //! Keys are tested over memory: their digests and files, and what the guard before a session lets through.
 #![tactic(auto)]
 
+#[cfg(test)]
+mod board;
+#[cfg(test)]
+mod board_requests;
 #[cfg(test)]
 mod ending;
 #[cfg(test)]

@@ -1,4 +1,4 @@
-//! Worked examples: tests of the hub from bytes to bytes. There is nothing else here.
+//! Worked examples: tests of the hub from bytes to bytes, and of its journal (`journals`). There is nothing else here.
 //!
 //! An example is a text: the lines of calls as railways send them, and behind each the line of its answer, with `> ` before
 //! it. Its calls go through `hub_replay::run` to a new hub, and all that is written is compared with the answers, byte by
@@ -28,6 +28,8 @@ mod changes;
 mod estimates;
 #[cfg(test)]
 mod examples;
+#[cfg(test)]
+mod journals;
 #[cfg(test)]
 mod lines;
 #[cfg(test)]

@@ -1,4 +1,4 @@
-//! Worked journeys: tests of `journey`, `eti_chain` and `wimo` together. There is nothing else here.
+//! Worked journeys: tests of `journey`, `eti_chain` and `wimo` together, and of the stores (`stores`). There is nothing else here.
 //!
 //! A journey is a table of lines, each with what is seen of the wagon after it. An event is written as
 //! its sender, its number, its time on 2025-03-01 or in full (`-` for none), its kind and the kind's
@@ -13,5 +13,7 @@
 mod refused;
 #[cfg(test)]
 mod script;
+#[cfg(test)]
+mod stores;
 #[cfg(test)]
 mod tests;

@@ -1,6 +1,0 @@
-use Rattle.journal.specs.Journals.{IsReading}
-use Rattle.journal_tests.proofs.given.read_batches.Given as goal
-
--- the batches before are read
-abbrev pub invariant-batches : goal.invariant-batches
-invariant-batches g l = IsReading l.reader
