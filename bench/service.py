@@ -6,7 +6,8 @@ import threading
 import time
 
 from honest import begin_honest, end_honest
-from hub_server import Service, Wrong, hello, line_of, need, plan, vehicle_number
+from hub_server import Service, Wrong, free_port, hello, line_of, need, plan, vehicle_number
+from numbers_of import compare_numbers
 
 # The two railways, and three places for others.
 SESSIONS = 5
@@ -168,11 +169,12 @@ def end_beside(clients, service):
 
 
 def service():
-    count = int(os.environ.get("CONNECTIONS", 10_000))
-    hub, patient = Service(SESSIONS, 2, options=TIMES), Service(SESSIONS, 2, options=PATIENT)
+    count, board = int(os.environ.get("CONNECTIONS", 10_000)), free_port()
+    hub, patient = Service(SESSIONS, 2, options=TIMES), Service(SESSIONS, 2, options=[*PATIENT, "--board", str(board)])
     try:
         honest, others = begin_honest(hub), begin_honest(patient)
         staying = start(PLAYS, patient)
+        compare_numbers(patient, board, SESSIONS)
         full = come_all(hub, count)
         found = [end_honest(honest), end_honest(others)]
         ended = [hub.end(LIMIT), end_beside(staying, patient)]
