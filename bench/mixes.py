@@ -14,6 +14,7 @@ import functools
 import itertools
 import json
 import random
+import signal
 import sys
 
 encoded = json.JSONEncoder(separators=(",", ":")).encode
@@ -122,7 +123,6 @@ class Group:
         network.wagons += count
         self.clock = BEGINNING + network.below(10_000)
         self.consignment, self.legs, self.units = "C-0", [], []
-        self.messages = itertools.chain.from_iterable(self.trip() for _ in itertools.count())
 
     def later(self):
         self.clock += self.network.below(20)
@@ -142,6 +142,11 @@ class Group:
         head = {"consignment": self.consignment, "load": "loaded" if network.happens(0.7) else "empty", "commit": moment(commit)}
         more = {"units": self.units} if self.units else {}
         return network.message("plan", self.lead, carriers, **head, wagons=[it.number for it in self.wagons], legs=self.legs, **more)
+
+    def trips(self):
+        """The messages of one trip after another, without end."""
+        while True:
+            yield from self.trip()
 
     def trip(self):
         """The messages of a trip in their order."""
@@ -199,7 +204,7 @@ class Group:
             yield network.message("leg_time", wagon.carriers[leg], [], wagon=wagon.number, leg=leg, minutes=minutes)
 
     def interchange(self, place):
-        """The wagons are offered to the next railway. Now and then the offer is withdrawn, or some are refused; then they are offered again."""
+        """The wagons are offered to the next railway, and again after a withdrawal; so are those that it refuses."""
         network, waiting, leg = self.network, self.wagons, self.wagons[0].leg
         by, to = self.legs[leg]["ru"], self.legs[leg + 1]["ru"]
         while waiting:
@@ -289,11 +294,12 @@ def groups_of(network, wagons):
 
 def journeys(network, groups):
     """Lines of journeys without end."""
+    messages = {it: it.trips() for it in groups}
     while True:
         group, draw = network.random.choice(groups), network.random.random() * 45.5
         if draw < 34 or not network.recent:
             # 2.5 lines, in the middle.
-            yield from map(encoded, itertools.islice(group.messages, 1 + network.below(4)))
+            yield from map(encoded, itertools.islice(messages[group], 1 + network.below(4)))
         elif draw < 39.2:
             yield encoded(ask(network, group))
         elif draw < 40:
@@ -339,6 +345,8 @@ def lines_of(mix, count, seed, wagons):
 
 
 def main():
+    # A reader that has enough may go.
+    signal.signal(signal.SIGPIPE, signal.SIG_DFL)
     mix, count, seed, wagons = (*sys.argv[1:], *("journeys", 200_000, 1, 0)[len(sys.argv) - 1 :])[:4]
     if mix not in ("journeys", "questions", "plans"):
         sys.exit(__doc__)
