@@ -13,9 +13,12 @@ def main():
     began = time.perf_counter()
     child = os.fork()
     if child == 0:
-        os.dup2(os.open(lines, os.O_RDONLY), 0)
-        os.dup2(os.open(answers, os.O_WRONLY | os.O_CREAT | os.O_TRUNC, 0o600), 1)
-        os.execvp(program, [program, "replay"])
+        try:
+            os.dup2(os.open(lines, os.O_RDONLY), 0)
+            os.dup2(os.open(answers, os.O_WRONLY | os.O_CREAT | os.O_TRUNC, 0o600), 1)
+            os.execvp(program, [program, "replay"])
+        except OSError as error:
+            sys.exit(f"bench: {program}: {error}")
     _, status, used = os.wait4(child, 0)
     took = time.perf_counter() - began
     print(1000 * took, 1000 * (used.ru_utime + used.ru_stime), used.ru_maxrss / 1024)
