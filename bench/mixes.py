@@ -293,12 +293,11 @@ def groups_of(network, wagons):
 
 
 def journeys(network, groups):
-    """Lines of journeys without end."""
+    """Lines of journeys without end: 34 draws of 45.5 give 2.5 lines each, in the middle, 3.5 two, and the others one."""
     messages = {it: it.trips() for it in groups}
     while True:
         group, draw = network.random.choice(groups), network.random.random() * 45.5
         if draw < 34 or not network.recent:
-            # 2.5 lines, in the middle.
             yield from map(encoded, itertools.islice(messages[group], 1 + network.below(4)))
         elif draw < 39.2:
             yield encoded(ask(network, group))
@@ -339,9 +338,7 @@ def lines_of(mix, count, seed, wagons):
         return (encoded(Group(network, 1 + network.below(9)).plan()) for _ in range(count))
     groups = groups_of(network, wagons)
     first = itertools.islice(journeys(network, groups), share)
-    # What was loaded in the first lines is known once they are made.
-    rest = (line for make in [questions] for line in itertools.islice(make(network, groups), count - share))
-    return itertools.chain(first, rest)
+    return itertools.chain(first, itertools.islice(questions(network, groups), count - share))
 
 
 def main():
