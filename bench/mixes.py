@@ -5,7 +5,8 @@
              are messages that are accepted, 6 ask for records, 7 fetch items or acknowledge them, and 2 are repeats, used numbers,
              messages of strangers and lines that are no records
   questions  a fifth of such lines, and then questions alone: asks of wagons, units and consignments, fetches and acknowledgements
-  plans      plans of 1 to 9 new wagons each
+  plans      plans of 1 to 9 new wagons each. Behind each one of its wagons is released; behind one in two a record is asked for, and
+             behind one in two items are fetched and acknowledged: so of a hundred lines 28 or 29 are plans
 
 LINES is 200,000 and SEED 1 if not given. The same words give the same lines. It needs the standard library of Python alone."""
 import collections
@@ -329,13 +330,28 @@ def questions(network, groups):
             yield encoded(ack(network, choice(network.railways), network.below(2)))
 
 
+def plans(network):
+    """Plans of new wagons without end, each with 2.5 lines behind it in the middle."""
+    while True:
+        group = Group(network, 1 + network.below(9))
+        yield encoded(group.plan())
+        wagon = network.random.choice(group.wagons)
+        yield encoded(group.starts("release", group.lead, wagon, wagon.carriers[0]))
+        if network.happens(0.5):
+            yield encoded(ask(network, group))
+        if network.happens(0.5):
+            fetched = fetch(network, network.random.choice(network.railways))
+            yield encoded(fetched)
+            yield encoded(ack(network, fetched["from"], fetched["limit"]))
+
+
 def lines_of(mix, count, seed, wagons):
     """So many lines of a mix."""
     share = count // 5 if mix == "questions" else count
     wagons = wagons or max(share // 20, 1)
     network = Network(seed, wagons)
     if mix == "plans":
-        return (encoded(Group(network, 1 + network.below(9)).plan()) for _ in range(count))
+        return itertools.islice(plans(network), count)
     groups = groups_of(network, wagons)
     first = itertools.islice(journeys(network, groups), share)
     return itertools.chain(first, itertools.islice(questions(network, groups), count - share))
