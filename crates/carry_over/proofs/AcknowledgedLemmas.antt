@@ -1,16 +1,16 @@
 -- What an acknowledgement of each railway leaves of the items that stay.
-use Rattle.hub_model.proofs.Common.{◌≡◌, ℕ, ◌≤◌, Bool, true, false, cond, List, [], ◌∷◌, ◌++◌, length, ◌+◌, suc, zero, Some, None, refl, ap, ◌∙◌, sym, inl, inr, ◌||◌, max, nat_lt, map, filter, flat_map, fold, take, drop, All, All-head, All-tail, bytes_eq, bytes_eq-Decides, cases_Bool, ltb-true, map-append, filter-append, length-append, length-map, length-filter, fold-append, Railway, Call, Send, Ask, AskUnit, Deviation, Fetch, Ack, refused, Acknowledged, AckAhead, is_ahead, HubState, new_state, items_of, items_to, items_from, after_call, with_acknowledgement, step, state_after, accepted_message}
+use Rattle.hub_model.proofs.Common.{◌≡◌, ℕ, ◌≤◌, Bool, true, false, cond, List, [], ◌∷◌, ◌++◌, length, ◌+◌, suc, zero, Some, None, refl, ap, ◌∙◌, sym, inl, inr, ◌||◌, max, nat_lt, map, filter, flat_map, fold, take, drop, All, All-head, All-tail, All-nil, All-cons, All-append, All-filter, append-nil, IsSend, bytes_eq, bytes_eq-Decides, cases_Bool, ltb-true, map-append, filter-append, length-append, length-map, length-filter, fold-append, Railway, Call, Send, Ask, AskUnit, Deviation, Fetch, Ack, refused, Acknowledged, AckAhead, is_ahead, HubState, new_state, items_of, items_to, items_from, after_call, with_acknowledgement, step, state_after, accepted_message}
 use Rattle.hub_model.specs.declared.addressed_item.AddressedItem.{AddressedItem}
 use Rattle.hub_model.specs.Replies.{records_of}
 use Rattle.hub_model.proofs.ListLemmas.{outbox_list}
 use Rattle.hub_model.proofs.StepLemmas.{step-acknowledged}
 use Rattle.std.proofs.Common.{arith}
 use Rattle.std.specs.Prelude.{count_by}
-use Rattle.carry_over.specs.Names.{Names, Divide, is_of, stays, messages_of}
+use Rattle.carry_over.specs.Names.{Names, Divide, IsOnOneSide, is_of, stays, messages_of}
 use Rattle.carry_over.specs.Carried.{AreSameFor, items_of_names}
-use Rattle.carry_over.specs.Acknowledged.{staying_from, staying_items, acknowledged_staying, OthersAreAcknowledged, AcknowledgeAlone, is_one_of, carried, unacknowledged, GoesOn, CanGoOn}
+use Rattle.carry_over.specs.Acknowledged.{staying_from, staying_items, acknowledged_staying, OthersAreAcknowledged, AcknowledgeAlone, is_one_of, carried, unacknowledged, GoesOn, CanGoOn, GoOnAlike}
 use Rattle.carry_over.proofs.ReplyLemmas.{reply_alike}
-use Rattle.carry_over.proofs.CarriedLemmas.{others_can_be_left_behind, still_along}
+use Rattle.carry_over.proofs.CarriedLemmas.{others_can_be_left_behind, others_do_not_matter, still_along}
 
 -- the elements at which it is true
 abbrev select : {A : Type 0} → List Bool → List A → List A
@@ -235,3 +235,33 @@ module _ (names : Names) (calls : List Call) (railways : List Railway) (d : Divi
 
 pub can_go_on : CanGoOn
 can_go_on names calls railways d alone = goes_on names calls railways d alone
+
+-- the messages that stay are those that stay of what stayed, and no acknowledgement is among them
+stay_again : (names : Names) (call : Call) (rest : List Call) (b : Bool) → stays names call ≡ b → messages_of names rest ≡ rest → messages_of names (cond b (call ∷ rest) rest) ≡ cond b (call ∷ rest) rest
+stay_again names call rest true e k = ap (λ b. cond b (call ∷ messages_of names rest) (messages_of names rest)) e ∙ ap (λ calls. call ∷ calls) k
+stay_again names call rest false e k = k
+
+all_stay : (names : Names) (calls : List Call) → messages_of names (messages_of names calls) ≡ messages_of names calls
+all_stay names [] = refl
+all_stay names (call ∷ calls) = stay_again names call (messages_of names calls) (stays names call) refl (all_stay names calls)
+
+no_ack_stays : (names : Names) (number : Railway → ℕ) (railways : List Railway) → messages_of names (acks number railways) ≡ []
+no_ack_stays names number [] = refl
+no_ack_stays names number (r ∷ railways) = no_ack_stays names number railways
+
+acks_divide : (names : Names) (number : Railway → ℕ) (railways : List Railway) → Divide names (acks number railways)
+acks_divide names number [] = All-nil (IsSend (IsOnOneSide names))
+acks_divide names number (r ∷ railways) = All-cons (IsSend (IsOnOneSide names)) (Ack r (number r)) (acks number railways) tt (acks_divide names number railways)
+
+pub go_on_alike : GoOnAlike
+go_on_alike names calls more railways d e =
+    let P = IsSend (IsOnOneSide names) in
+    let number = acknowledged_staying names calls in
+    let before = messages_of names calls in
+    let kept : messages_of names (carried names calls railways) ≡ before =
+    filter-append (stays names) before (acks number railways) ∙ ap (λ xs. xs ++ messages_of names (acks number railways)) (all_stay names calls) ∙
+    ap (λ xs. before ++ xs) (no_ack_stays names number railways) ∙ append-nil before in
+    others_do_not_matter names (calls ++ more) (carried names calls railways ++ more)
+    (All-append P calls more d e)
+    (All-append P (carried names calls railways) more (All-append P before (acks number railways) (All-filter (stays names) P calls d) (acks_divide names number railways)) e)
+    (filter-append (stays names) calls more ∙ sym (filter-append (stays names) (carried names calls railways) more ∙ ap (λ xs. xs ++ messages_of names more) kept))

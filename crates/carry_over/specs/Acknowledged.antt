@@ -54,3 +54,9 @@ pub record GoesOn (names : Names) (calls : List Call) (railways : List Railway) 
 -- a hub may go on with them, where each message names things on one side alone
 abbrev pub CanGoOn : Type 0
 CanGoOn = (names : Names) (calls : List Call) (railways : List Railway) → Divide names calls → AcknowledgeAlone calls railways → GoesOn names calls railways
+
+-- and whatever comes then, the hub that went on knows and replies the same of what stays
+abbrev pub GoOnAlike : Type 0
+GoOnAlike = (names : Names) (calls more : List Call) (railways : List Railway) → Divide names calls → Divide names more →
+    AreSameFor names (state_after (calls ++ more)) (state_after (carried names calls railways ++ more)) ×
+    ReplyAlike names (state_after (calls ++ more)) (state_after (carried names calls railways ++ more))

@@ -1,5 +1,5 @@
 //! The laws of what stays. Each is the contract of a function that does nothing.
-ghost use Rattle.carry_over.specs.Acknowledged.{CanGoOn};
+ghost use Rattle.carry_over.specs.Acknowledged.{CanGoOn, GoOnAlike};
 ghost use Rattle.carry_over.specs.Carried.{OthersAreApart, OthersCanBeLeftBehind, OthersDoNotMatter};
 
 /// A hub that is given the messages of some names alone, in their order, knows the same of these names as the hub that was
@@ -25,6 +25,10 @@ pub fn others_do_not_matter()
 /// With the messages that stay, and behind them one acknowledgement of each railway, by the number of its acknowledged items that
 /// are of messages that stay, all that `others_can_be_left_behind` says still holds. And a railway that has acknowledged all items
 /// of the messages that are left behind has the same unacknowledged items, in the same order.
+///
+/// Whatever calls come then, as long as each message of them names things on one side alone, the hub that went on knows the same
+/// of what stays as the hub that left nothing behind, and replies the same to what concerns it.
 pub fn hubs_can_go_on()
-    ensures { CanGoOn }
+    ensures at_once { CanGoOn }
+    ensures later { GoOnAlike }
 {}
