@@ -27,6 +27,8 @@ AHEAD, UNCONFIRMED = 256, 2048
 PATIENCE = 10
 # A reader to whom nothing comes for so many seconds asks again from its offset.
 IDLE = 10
+# A node that refuses to read a stream so often has nothing of it.
+REFUSALS = 20
 PAUSE = 0.2
 STREAM = {"x-queue-type": "stream"}
 
@@ -48,11 +50,28 @@ class Entry:
 class Appended:
     """An entry on its way into a stream."""
 
-    stream: str
     head: dict
     body: bytes
     confirmed: asyncio.Future
     since: float = 0
+
+
+class Writer:
+    """What goes into a stream, over a channel of its own: what was sent and is not confirmed, by its tag, and what waits for the next
+    channel. One channel for several streams would not do: with RabbitMQ 3.10.8 confirmed entries of such a channel were missing
+    after the leader of a stream had died."""
+
+    def __init__(self, stream):
+        self.stream, self.channel, self.is_there = stream, None, asyncio.Event()
+        self.sent, self.waiting, self.tag = {}, collections.deque(), 0
+
+    @property
+    def left(self):
+        return [*self.sent.values(), *self.waiting]
+
+    def leave(self):
+        """What is not confirmed goes over the next channel, in its order."""
+        self.waiting, self.channel, self.sent, self.tag = collections.deque(self.left), None, {}, 0
 
 
 class Reader:
@@ -60,7 +79,7 @@ class Reader:
 
     def __init__(self, stream):
         self.stream, self.next, self.since = stream, 0, 0
-        self.come, self.tag = asyncio.Queue(), None
+        self.come, self.channel, self.refused = asyncio.Queue(), None, 0
 
 
 class Streams:
@@ -70,11 +89,10 @@ class Streams:
         self.loop = asyncio.get_running_loop()
         self.addresses, self.count = itertools.cycle(addresses.split(",")), addresses.count(",") + 1
         self.credentials = pika.PlainCredentials(user, password)
-        self.declared, self.readers = [], []
-        # What was sent over this channel and is not confirmed, by its tag; and what waits for the next channel.
-        self.sent, self.waiting, self.tag = {}, collections.deque(), 0
-        self.channel, self.lost, self.room = None, None, asyncio.Event()
-        self.failed = 0
+        self.writers, self.readers = {}, []
+        self.connection, self.lost, self.is_open = None, None, False
+        self.open_count, self.room, self.failed = 0, asyncio.Event(), 0
+        self.room.set()
         self.task = self.loop.create_task(self.keep_connected())
 
     # The connection
@@ -87,9 +105,9 @@ class Streams:
                 await self.connect(address)
             except (pika.exceptions.AMQPError, OSError, LostError) as it:
                 self.tell(address, it)
-            # What is not confirmed goes over the next connection, in its order.
-            self.waiting = collections.deque([*self.sent.values(), *self.waiting])
-            self.channel, self.sent, self.tag = None, {}, 0
+            self.is_open = False
+            for it in self.writers.values():
+                it.leave()
             await asyncio.sleep(PAUSE)
 
     def tell(self, address, why):
@@ -103,35 +121,31 @@ class Streams:
         host, _, port = address.rpartition(":")
         words = {"credentials": self.credentials, "heartbeat": PATIENCE, "socket_timeout": 5, "blocked_connection_timeout": 60}
         parameters, lost = pika.ConnectionParameters(host, int(port), **words), self.loop.create_future()
-        lose = lambda *_: lost.done() or lost.set_result(None)
         self.lost = lost
-        connection = AsyncioConnection(parameters, None, lose, lose, self.loop)
+        lose = lambda *_: lost.done() or lost.set_result(None)
+        self.connection = AsyncioConnection(parameters, None, lose, lose, self.loop)
         try:
-            await self.answer(connection.add_on_open_callback)
-            channel = await self.answer(lambda done: connection.channel(on_open_callback=done))
-            await self.begin(channel, lose)
+            await self.answer(self.connection.add_on_open_callback)
+            await self.begin()
             while not lost.done() and not self.is_stuck():
                 await asyncio.wait([lost], timeout=1)
                 self.ask_again()
         finally:
             lose()
-            if connection.is_open:
-                connection.close()
+            if self.connection.is_open:
+                self.connection.close()
 
-    async def begin(self, channel, lose):
-        channel.add_on_close_callback(lose)
-        channel.add_on_cancel_callback(lose)
-        channel.add_on_return_callback(lambda _, method, *more: sys.exit(f"the stream {method.routing_key} is not there any more"))
-        await self.answer(lambda done: channel.basic_qos(prefetch_count=AHEAD, callback=done))
-        await self.answer(lambda done: channel.confirm_delivery(self.confirm, done))
-        for stream in self.declared:
-            await self.answer(lambda done: channel.queue_declare(stream, durable=True, arguments=STREAM, callback=done))
-        self.channel, self.failed = channel, 0
+    def lose(self):
+        """Leaves the connection, for the next one."""
+        self.lost.done() or self.lost.set_result(None)
+
+    async def begin(self):
+        """Goes on with all that is appended and read."""
+        while closed := [it for it in self.writers.values() if not it.channel]:
+            await self.open(closed[0])
+        self.is_open, self.failed = True, 0
         for it in self.readers:
             self.consume(it)
-        while self.waiting:
-            self.publish(self.waiting.popleft())
-        self.make_room()
 
     async def answer(self, begin):
         """What a call is answered, unless the connection is lost before."""
@@ -143,85 +157,112 @@ class Streams:
         return answered.result()
 
     def is_stuck(self):
-        """Whether the oldest entry waits for its confirmation for too long."""
-        oldest = next(iter(self.sent.values()), None)
-        return oldest is not None and time.monotonic() - oldest.since > PATIENCE
-
-    # Streams
-
-    async def declare(self, stream):
-        """Makes the stream, where it is not there. Where the connection is lost meanwhile it is made over the next."""
-        if stream in self.declared:
-            return
-        while True:
-            channel = self.channel
-            try:
-                if channel and channel.is_open:
-                    await self.answer(lambda done: channel.queue_declare(stream, durable=True, arguments=STREAM, callback=done))
-                    break
-            except (pika.exceptions.AMQPError, LostError):
-                pass
-            await asyncio.sleep(PAUSE)
-        if stream not in self.declared:
-            self.declared.append(stream)
+        """Whether an entry waits for its confirmation for too long."""
+        oldest = [next(iter(it.sent.values())).since for it in self.writers.values() if it.sent]
+        return min(oldest, default=time.monotonic()) < time.monotonic() - PATIENCE
 
     # Appending
 
+    async def declare(self, stream):
+        """Makes the stream, where it is not there."""
+        if stream not in self.writers:
+            self.writers[stream] = Writer(stream)
+            if self.is_open:
+                try:
+                    await self.open(self.writers[stream])
+                except (pika.exceptions.AMQPError, LostError):
+                    self.lose()
+        await self.writers[stream].is_there.wait()
+
+    async def open(self, writer):
+        """Opens the channel of a writer, and sends what waits for it."""
+        lost, sent = self.lost, writer.sent
+        channel = await self.answer(lambda done: self.connection.channel(on_open_callback=done))
+        channel.add_on_close_callback(lambda *_: lost.done() or lost.set_result(None))
+        channel.add_on_return_callback(lambda *_: sys.exit(f"the stream {writer.stream} is not there any more"))
+        await self.answer(lambda done: channel.confirm_delivery(lambda it: self.confirm(sent, it), done))
+        await self.answer(lambda done: channel.queue_declare(writer.stream, durable=True, arguments=STREAM, callback=done))
+        writer.channel = channel
+        writer.is_there.set()
+        while writer.waiting and writer.channel:
+            self.send(writer, writer.waiting.popleft())
+
     def append(self, stream, head, body=b""):
         """Appends an entry to a stream that was declared. The future is done once it is confirmed."""
-        it = Appended(stream, head, body, self.loop.create_future())
-        if self.channel:
-            self.publish(it)
+        writer, it = self.writers[stream], Appended(head, body, self.loop.create_future())
+        if writer.channel:
+            self.send(writer, it)
         else:
-            self.waiting.append(it)
-        self.make_room()
+            writer.waiting.append(it)
+        self.open_count += 1
+        it.confirmed.add_done_callback(self.make_room)
+        self.make_room(None, 0)
         return it.confirmed
 
-    def publish(self, it):
-        self.tag += 1
-        self.sent[self.tag], it.since = it, time.monotonic()
+    def send(self, writer, it):
+        writer.tag += 1
+        writer.sent[writer.tag], it.since = it, time.monotonic()
         try:
             properties = pika.BasicProperties(headers=it.head, delivery_mode=2)
-            self.channel.basic_publish("", it.stream, it.body, properties, mandatory=True)
+            writer.channel.basic_publish("", writer.stream, it.body, properties, mandatory=True)
         except pika.exceptions.AMQPError:
             # It is among those that were sent, and goes over the next channel.
-            self.channel = None
+            writer.channel = None
 
-    def confirm(self, frame):
-        """RabbitMQ has the entries up to a tag, or this one alone; or it could not take it."""
+    def confirm(self, sent, frame):
+        """RabbitMQ has the entries up to a tag, or this one alone; or it could not take it. What was sent over an earlier channel is
+        not looked for among what was sent over the next."""
         method = frame.method
         if isinstance(method, pika.spec.Basic.Nack):
-            self.lost.done() or self.lost.set_result(None)
+            self.lose()
             return
-        for tag in [it for it in self.sent if it <= method.delivery_tag] if method.multiple else [method.delivery_tag]:
-            it = self.sent.pop(tag, None)
+        for tag in [it for it in sent if it <= method.delivery_tag] if method.multiple else [method.delivery_tag]:
+            it = sent.pop(tag, None)
             if it and not it.confirmed.done():
                 it.confirmed.set_result(None)
-        self.make_room()
 
-    def make_room(self):
-        if len(self.sent) + len(self.waiting) < UNCONFIRMED:
-            self.room.set()
-        else:
-            self.room.clear()
+    def make_room(self, _, fewer=1):
+        self.open_count -= fewer
+        (self.room.set if self.open_count < UNCONFIRMED else self.room.clear)()
 
     async def flush(self):
         """Waits until all that was appended is confirmed."""
-        while waiting := [it.confirmed for it in (*self.sent.values(), *self.waiting)]:
-            await asyncio.wait(waiting)
+        while left := [it.confirmed for writer in self.writers.values() for it in writer.left if not it.confirmed.done()]:
+            await asyncio.wait(left)
 
     # Reading
 
     def consume(self, reader):
-        arguments, reader.since = {"x-stream-offset": reader.next}, time.monotonic()
-        take = lambda *words: self.take(reader, *words)
-        reader.tag = self.channel.basic_consume(reader.stream, take, arguments=arguments)
+        """Asks for the entries of a stream, over a channel of its own; and again where that is closed."""
+        connection, reader.since = self.connection, time.monotonic()
+
+        def opened(channel):
+            reader.channel = channel
+            channel.add_on_close_callback(closed)
+            channel.add_on_cancel_callback(lambda _: channel.close())
+            channel.basic_qos(prefetch_count=AHEAD)
+            take = lambda *words: self.take(reader, *words)
+            channel.basic_consume(reader.stream, take, arguments={"x-stream-offset": reader.next})
+
+        def closed(channel, why):
+            reader.refused += isinstance(why, pika.exceptions.ChannelClosedByBroker)
+            if connection is self.connection and connection.is_open and reader in self.readers:
+                # Where the node has nothing of the stream, another one has.
+                self.lose() if reader.refused > REFUSALS else self.loop.call_later(PAUSE, again)
+
+        def again():
+            if connection is self.connection and connection.is_open and reader in self.readers:
+                self.consume(reader)
+
+        connection.channel(on_open_callback=opened)
 
     def take(self, reader, channel, method, properties, body):
         offset = int(properties.headers.pop("x-stream-offset"))
-        reader.since = time.monotonic()
+        reader.since, reader.refused = time.monotonic(), 0
+        if channel is not reader.channel:
+            return
         # A node that has not all entries yet may begin before the offset.
-        if offset < reader.next or method.consumer_tag != reader.tag:
+        if offset < reader.next:
             channel.basic_ack(method.delivery_tag)
             return
         reader.next = offset + 1
@@ -230,26 +271,25 @@ class Streams:
     def ask_again(self):
         """Has readers to whom nothing came for long asked for again: a node may have forgotten them where another one died."""
         for it in self.readers:
-            if self.channel and it.come.empty() and time.monotonic() - it.since > IDLE:
-                self.channel.basic_cancel(it.tag)
-                self.consume(it)
+            if it.channel and it.channel.is_open and it.come.empty() and time.monotonic() - it.since > IDLE:
+                it.channel.close()
 
     async def read(self, stream):
         """The entries of a stream that was declared, from its first one on, without end."""
         reader = Reader(stream)
         self.readers.append(reader)
-        if self.channel:
+        if self.is_open:
             self.consume(reader)
         try:
             while True:
                 channel, tag, entry = await reader.come.get()
-                if channel is self.channel and channel.is_open:
+                if channel is reader.channel and channel.is_open:
                     channel.basic_ack(tag)
                 yield entry
         finally:
             self.readers.remove(reader)
-            if self.channel and self.channel.is_open and reader.tag:
-                self.channel.basic_cancel(reader.tag)
+            if reader.channel and reader.channel.is_open:
+                reader.channel.close()
 
 
 async def use(addresses, work, user, password):
@@ -257,4 +297,4 @@ async def use(addresses, work, user, password):
     streams = Streams(addresses, user, password)
     done = asyncio.ensure_future(work(streams))
     await asyncio.wait([done, streams.task], return_when=asyncio.FIRST_COMPLETED)
-    (done if done.done() else streams.task).result()
+    return (done if done.done() else streams.task).result()
