@@ -4,6 +4,7 @@ They listen on 127.0.0.1, each at a port of its own, and use a port mapper (epmd
 runs are left alone. Each has one scheduler that does not spin. Streams replicate to ports 6000 to 6500 of this machine.
 """
 import dataclasses
+import json
 import os
 import pathlib
 import secrets
@@ -114,10 +115,19 @@ class Cluster:
             time.sleep(0.1)
 
     def start(self):
-        for it in self.nodes:
+        """Starts all nodes: the others join the first one."""
+        first, *others = self.nodes
+        self.launch(first)
+        self.wait(first)
+        for it in others:
             self.launch(it)
-        for it in self.nodes:
+        for it in others:
             self.wait(it)
+        words = [SERVER.parent / "rabbitmqctl", "-q", "-n", first.name, "cluster_status", "--formatter", "json"]
+        told = subprocess.run(words, env=self.environment, capture_output=True, check=True).stdout
+        running = json.loads(told)["running_nodes"]
+        if len(running) != NODES:
+            raise NodeError(f"the nodes have not joined: {running}")
 
     def kill(self, node):
         """Kills the node as a power cut would end it: it gets no signal that it can catch."""

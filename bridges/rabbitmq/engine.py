@@ -235,6 +235,8 @@ class Streams:
     def consume(self, reader):
         """Asks for the entries of a stream, over a channel of its own; and again where that is closed."""
         connection, reader.since = self.connection, time.monotonic()
+        if reader not in self.readers or not connection.is_open:
+            return
 
         def opened(channel):
             reader.channel = channel
@@ -244,15 +246,12 @@ class Streams:
             take = lambda *words: self.take(reader, *words)
             channel.basic_consume(reader.stream, take, arguments={"x-stream-offset": reader.next})
 
-        def closed(channel, why):
+        def closed(_, why):
             reader.refused += isinstance(why, pika.exceptions.ChannelClosedByBroker)
-            if connection is self.connection and connection.is_open and reader in self.readers:
-                # Where the node has nothing of the stream, another one has.
-                self.lose() if reader.refused > REFUSALS else self.loop.call_later(PAUSE, again)
-
-        def again():
-            if connection is self.connection and connection.is_open and reader in self.readers:
-                self.consume(reader)
+            if reader.refused > REFUSALS:
+                # Where this node has nothing of the stream, another one has.
+                self.lose()
+            self.loop.call_later(PAUSE, lambda: connection is self.connection and self.consume(reader))
 
         connection.channel(on_open_callback=opened)
 

@@ -16,6 +16,8 @@ from names import is_number, is_railway, split
 QUESTIONS = {"ask", "ask_unit", "deviation", "fetch", "ack"}
 TOO_LONG, BAD_JSON = b'{"fault":"line_too_long"}', b'{"fault":"bad_json"}'
 WRONG_SENDER, SEVERAL_HUBS = b'{"fault":"wrong_sender"}', b'{"fault":"several_hubs"}'
+# So many seconds after the replies to an entry the next one goes: what a railway sends upon them goes into it.
+GATHER = 0.002
 EMPTY = re.compile(rb"\s*\{\s*\}\s*")
 
 
@@ -42,8 +44,8 @@ class Session:
         self.name, self.outbox = uuid.uuid4().hex, Outbox(stream_names.hubs)
         self.hubs = range(1, stream_names.hubs + 1)
         self.number = dict.fromkeys(self.hubs, 0)
-        # The lines that go into the next entry for each hub, and the messages that have no reply yet.
-        self.gathered, self.under_way = {hub: [] for hub in self.hubs}, {}
+        # The lines that go into the next entry for each hub, the hubs that will get one, and the messages that have no reply yet.
+        self.gathered, self.is_due, self.under_way = {hub: [] for hub in self.hubs}, set(), {}
         self.ended = replies.join(self.name)
 
     async def begin(self):
@@ -92,26 +94,30 @@ class Session:
         return reply
 
     def answer_at(self, hub, line):
-        """Gathers a line for a hub. All that is gathered at once is one entry."""
+        """Gathers a line for a hub. What comes while an entry for the hub has no replies yet goes into the next one."""
         if hub is None:
             return done(SEVERAL_HUBS)
         loop = asyncio.get_running_loop()
-        if not self.gathered[hub]:
-            loop.call_soon(self.send, hub)
         self.gathered[hub].append((line, loop.create_future()))
+        if hub not in self.is_due:
+            self.is_due.add(hub)
+            loop.call_soon(self.send, hub)
         return self.gathered[hub][-1][1]
 
     def send(self, hub):
         """Appends the lines that were gathered for a hub, as one entry."""
         gathered, self.gathered[hub] = self.gathered[hub], []
+        if not gathered:
+            self.is_due.discard(hub)
+            return
         expected = self.replies.expect(self.name, hub, self.number[hub])
-        expected.add_done_callback(lambda it: self.give([reply for _, reply in gathered], it))
+        expected.add_done_callback(lambda it: it.cancelled() or self.give(hub, [reply for _, reply in gathered], it.result()))
         self.append(hub, [line for line, _ in gathered])
 
-    @staticmethod
-    def give(waiting, replies):
-        for it, reply in zip(waiting, [] if replies.cancelled() else replies.result()):
+    def give(self, hub, waiting, replies):
+        for it, reply in zip(waiting, replies):
             it.done() or it.set_result(reply)
+        asyncio.get_running_loop().call_later(GATHER, self.send, hub)
 
     def answer_on_outbox(self, line, record):
         """A fetch goes to all hubs, and an ack to those of which it acknowledges items."""

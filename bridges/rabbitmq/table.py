@@ -4,12 +4,12 @@ An entry claims names for a hub. It counts where no name of it has another hub a
 good. So whoever has read an entry knows what the table was when it came, and every publisher finds the same.
 """
 import asyncio
-import itertools
 import json
 import uuid
 import zlib
 
 from names import is_number, makes, names_in
+from options import begin
 
 
 class Table:
@@ -17,24 +17,26 @@ class Table:
 
     def __init__(self, streams, names):
         self.streams, self.names = streams, names
-        self.hub_of, self.hubs = {}, None
-        # Which claims of this publisher were not read yet.
-        self.writer, self.count, self.waiting = uuid.uuid4().hex, itertools.count(), {}
+        self.hub_of, self.hubs, self.number = {}, None, 0
+        # What this publisher claims with its next entry, and who waits for it; and who waits for the one that is on its way.
+        self.writer, self.gathered, self.waiting, self.is_due = uuid.uuid4().hex, [], [], False
 
     async def begin(self):
         """Reads what is there, and says how many hubs there are."""
         await self.streams.declare(self.names.table)
-        self.task = asyncio.ensure_future(self.follow())
-        await self.append({"hubs": self.names.hubs})
+        begin(self.follow())
+        await self.claim({"hubs": self.names.hubs})
         if self.hubs != self.names.hubs:
             raise ValueError(f"the streams of {self.names.name} are those of {self.hubs} hubs, and not of {self.names.hubs}")
 
     async def follow(self):
         async for entry in self.streams.read(self.names.table):
-            self.take(json.loads(entry.body))
-            waiting = self.waiting.pop((entry.head["writer"], entry.head["number"]), None)
-            if waiting:
-                waiting.set_result(None)
+            for claim in json.loads(entry.body):
+                self.take(claim)
+            if entry.head["writer"] == self.writer and entry.head["number"] == self.number:
+                for it in self.waiting:
+                    it.done() or it.set_result(None)
+                self.append()
 
     def take(self, claim):
         names, hub = [tuple(it) for it in claim.get("names", ())], claim.get("hub")
@@ -43,13 +45,24 @@ class Table:
         if all(self.hub_of.get(it, hub) == hub for it in names):
             self.hub_of |= dict.fromkeys(names, hub)
 
-    async def append(self, claim):
-        """Appends a claim, and waits until it is read. Then the table has all that was there before it."""
-        name = self.writer, next(self.count)
-        self.waiting[name] = asyncio.get_running_loop().create_future()
-        head = dict(zip(("writer", "number"), name))
-        self.streams.append(self.names.table, head, json.dumps(claim, separators=(",", ":")).encode())
-        await self.waiting[name]
+    async def claim(self, claim):
+        """Puts a claim into the stream, and waits until it is read. Then the table has all that was there before it."""
+        read = asyncio.get_running_loop().create_future()
+        self.gathered.append((claim, read))
+        if not self.is_due:
+            self.is_due = True
+            asyncio.get_running_loop().call_soon(self.append)
+        await read
+
+    def append(self):
+        """Appends what was gathered, as one entry; what comes until it is read goes into the next one."""
+        gathered, self.gathered = self.gathered, []
+        self.is_due = bool(gathered)
+        if gathered:
+            self.number += 1
+            self.waiting = [read for _, read in gathered]
+            body = json.dumps([claim for claim, _ in gathered], separators=(",", ":")).encode()
+            self.streams.append(self.names.table, {"writer": self.writer, "number": self.number}, body)
 
     def chosen(self, record):
         """The hub of a consignment that is new: the one that its lead names, else one by its name."""
@@ -80,5 +93,5 @@ class Table:
                 claim = {}
             else:
                 return hub or self.some_hub(names)
-            await self.append(claim)
+            await self.claim(claim)
             is_current = True
