@@ -59,11 +59,11 @@ class Node:
 class Cluster:
     """The nodes, which start together. A node that was killed starts again with its own files."""
 
-    def __init__(self, folder):
+    def __init__(self, folder, ports=None):
         self.folder = pathlib.Path(folder).resolve()
         self.folder.mkdir(parents=True, exist_ok=True)
-        mapper, *ports = free_ports(1 + 2 * NODES)
-        self.distribution = ports[NODES:]
+        mapper, *free = free_ports(1 + 2 * NODES)
+        self.distribution, ports = free[NODES:], ports or free[:NODES]
         self.nodes = [Node(f"taf{nth + 1}@localhost", self.folder / f"node{nth + 1}", ports[nth]) for nth in range(NODES)]
         self.environment = os.environ | {"ERL_EPMD_PORT": str(mapper), "ERL_EPMD_ADDRESS": "127.0.0.1", "HOME": str(self.folder)}
         cookie = self.folder / ".erlang.cookie"
@@ -115,13 +115,15 @@ class Cluster:
             time.sleep(0.1)
 
     def start(self):
-        """Starts all nodes: the others join the first one."""
+        """Starts all nodes. New ones join the first; those that were there before wait for each other."""
         first, *others = self.nodes
+        is_new = not first.folder.exists()
         self.launch(first)
-        self.wait(first)
+        if is_new:
+            self.wait(first)
         for it in others:
             self.launch(it)
-        for it in others:
+        for it in self.nodes:
             self.wait(it)
         words = [SERVER.parent / "rabbitmqctl", "-q", "-n", first.name, "cluster_status", "--formatter", "json"]
         told = subprocess.run(words, env=self.environment, capture_output=True, check=True).stdout

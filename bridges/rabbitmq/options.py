@@ -10,7 +10,8 @@ UNAVAILABLE = 69
 
 def parser(doc):
     it = argparse.ArgumentParser(description=doc, formatter_class=argparse.RawDescriptionHelpFormatter)
-    it.add_argument("--nodes", default="127.0.0.1:5672", help="HOST:PORT of each node, with commas between them (127.0.0.1:5672)")
+    nodes = os.environ.get("TAF_NODES", "127.0.0.1:5672")
+    it.add_argument("--nodes", default=nodes, help="HOST:PORT of each node, with commas between them (TAF_NODES, or 127.0.0.1:5672)")
     it.add_argument("--name", default="taf", help="how the names of the streams begin (taf)")
     it.add_argument("--user", default="guest", help="a user of RabbitMQ (guest); the password is in RABBITMQ_PASSWORD")
     return it
