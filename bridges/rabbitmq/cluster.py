@@ -9,7 +9,6 @@ import os
 import pathlib
 import secrets
 import shutil
-import signal
 import socket
 import subprocess
 import time
@@ -70,7 +69,8 @@ class Cluster:
         if not cookie.exists():
             cookie.write_text(secrets.token_hex(16))
             cookie.chmod(0o400)
-        self.mapper = subprocess.Popen(["epmd"], env=self.environment, stdout=subprocess.DEVNULL, stderr=subprocess.DEVNULL)
+        words = {"env": self.environment, "stdout": subprocess.DEVNULL, "stderr": subprocess.DEVNULL, "start_new_session": True}
+        self.mapper = subprocess.Popen(["epmd"], **words)
 
     @property
     def addresses(self):
@@ -133,15 +133,16 @@ class Cluster:
 
     def kill(self, node):
         """Kills the node as a power cut would end it: it gets no signal that it can catch."""
-        os.killpg(node.process.pid, signal.SIGKILL)
+        node.process.kill()
         node.process.wait()
 
+    def processes(self):
+        return [self.mapper, *(it.process for it in self.nodes if it.process)]
+
     def stop(self):
-        for it in self.nodes:
-            if it.process and it.process.poll() is None:
-                self.kill(it)
-        self.mapper.kill()
-        self.mapper.wait()
+        for it in self.processes():
+            it.kill()
+            it.wait()
 
 
 def missing():
