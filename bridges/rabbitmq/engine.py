@@ -15,6 +15,7 @@ import collections
 import dataclasses
 import itertools
 import logging
+import random
 import sys
 import time
 
@@ -169,7 +170,9 @@ class Streams:
 
     def __init__(self, addresses, user, password):
         self.loop = asyncio.get_running_loop()
-        self.addresses, self.silent = itertools.cycle(addresses.split(",")), -2 * (addresses.count(",") + 1)
+        # In an order of its own, so that not all are at one node.
+        addresses = addresses.split(",")
+        self.addresses, self.silent = itertools.cycle(random.sample(addresses, len(addresses))), -2 * len(addresses)
         self.credentials = pika.PlainCredentials(user, password)
         self.writers, self.readers = {}, []
         self.connection, self.lost, self.is_open = None, None, False

@@ -16,11 +16,11 @@ NUMBERED = re.compile(rb'\{"no":(\d+),')
 
 @dataclasses.dataclass(frozen=True)
 class Message:
-    """A message that was sent: to which hub, the digest of its line, and the reply, or a future of it."""
+    """A message that was answered: by which hub, the digest of its line, and the reply."""
 
     hub: int
     digest: bytes
-    reply: bytes | asyncio.Future
+    reply: bytes
 
 
 def pairs_of(body):

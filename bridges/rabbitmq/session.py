@@ -10,7 +10,6 @@ import re
 import uuid
 
 from items import BAD_ITEM, Outbox
-from replies_of import Message
 from names import is_number, is_railway, split
 
 QUESTIONS = {"ask", "ask_unit", "deviation", "fetch", "ack"}
@@ -21,7 +20,7 @@ GATHER = 0.002
 EMPTY = re.compile(rb"\s*\{\s*\}\s*")
 
 
-class EndedError(Exception):
+class EndedError(ConnectionError):
     """Another session of the railway has begun."""
 
 
@@ -46,7 +45,7 @@ class Session:
         self.number = dict.fromkeys(self.hubs, 0)
         # The lines that go into the next entry for each hub, the hubs that will get one, and the messages that have no reply yet.
         self.gathered, self.is_due, self.under_way = {hub: [] for hub in self.hubs}, set(), {}
-        self.ended = replies.join(self.name)
+        self.ended, self.is_over = replies.join(self.name), False
 
     async def begin(self):
         """Waits until each hub knows of the session."""
@@ -61,6 +60,8 @@ class Session:
         self.number[hub] += 1
 
     def end(self):
+        """Nothing more is appended, and no reply is waited for."""
+        self.is_over = True
         self.replies.leave(self.name)
 
     # Lines
@@ -83,14 +84,18 @@ class Session:
     async def answer_message(self, line, record):
         """A message that was answered gets its reply again. Any other that has its number goes where the first one went."""
         number, digest = record["no"], digest_of(line)
-        earlier = self.replies.messages.get(number) or self.under_way.get(number)
-        if earlier and earlier.digest == digest:
-            return earlier.reply if asyncio.isfuture(earlier.reply) else done(earlier.reply)
-        hub = earlier.hub if earlier else await self.table.find(record)
-        reply = self.answer_at(hub, line)
-        if hub and number not in self.under_way:
-            self.under_way[number] = Message(hub, digest, reply)
-            reply.add_done_callback(lambda _: self.under_way.pop(number, None))
+        if number in self.under_way:
+            earlier, reply = self.under_way[number]
+            if earlier == digest:
+                return reply
+            # Only its reply says whether it has used the number.
+            await asyncio.wait([reply])
+        message = self.replies.messages.get(number)
+        if message and message.digest == digest:
+            return done(message.reply)
+        reply = self.answer_at(message.hub if message else await self.table.find(record), line)
+        self.under_way[number] = digest, reply
+        reply.add_done_callback(lambda _: self.under_way.pop(number, None))
         return reply
 
     def answer_at(self, hub, line):
@@ -107,7 +112,7 @@ class Session:
     def send(self, hub):
         """Appends the lines that were gathered for a hub, as one entry."""
         gathered, self.gathered[hub] = self.gathered[hub], []
-        if not gathered:
+        if not gathered or self.is_over:
             self.is_due.discard(hub)
             return
         expected = self.replies.expect(self.name, hub, self.number[hub])

@@ -18,8 +18,8 @@ class Table:
     def __init__(self, streams, names):
         self.streams, self.names = streams, names
         self.hub_of, self.hubs, self.number = {}, None, 0
-        # What this publisher claims with its next entry, and who waits for it; and who waits for the one that is on its way.
-        self.writer, self.gathered, self.waiting, self.is_due = uuid.uuid4().hex, [], [], False
+        # What this publisher claims with its next entry, and who waits for it; and who waits for those that are on their way.
+        self.writer, self.gathered, self.waiting, self.is_due = uuid.uuid4().hex, [], {}, False
 
     async def begin(self):
         """Reads what is there, and says how many hubs there are."""
@@ -33,8 +33,8 @@ class Table:
         async for entry in self.streams.read(self.names.table):
             for claim in json.loads(entry.body):
                 self.take(claim)
-            if entry.head["writer"] == self.writer and entry.head["number"] == self.number:
-                for it in self.waiting:
+            if entry.head["writer"] == self.writer and entry.head["number"] in self.waiting:
+                for it in self.waiting.pop(entry.head["number"]):
                     it.done() or it.set_result(None)
                 self.append()
 
@@ -60,7 +60,7 @@ class Table:
         self.is_due = bool(gathered)
         if gathered:
             self.number += 1
-            self.waiting = [read for _, read in gathered]
+            self.waiting[self.number] = [read for _, read in gathered]
             body = json.dumps([claim for claim, _ in gathered], separators=(",", ":")).encode()
             self.streams.append(self.names.table, {"writer": self.writer, "number": self.number}, body)
 
