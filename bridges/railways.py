@@ -37,7 +37,8 @@ class Railway:
     def write(self):
         """Sends what there is room for."""
         self.is_due, lines = False, []
-        while self.writer and self.waiting and len(self.open) < WINDOW:
+        is_open = self.writer and not self.writer.is_closing()
+        while is_open and self.waiting and len(self.open) < WINDOW:
             self.open.append(self.waiting.popleft())
             lines.append(self.open[-1][1] + b"\n")
         if lines:
