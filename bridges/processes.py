@@ -69,10 +69,13 @@ class Parts:
         self.all.append(part)
         part.begin()
 
-    def add_bridges(self, kind, *words):
+    def add_bridge(self, kind, hub, *words):
+        self.add(kind, "run", "--hub", hub, "--program", self.program, *words)
+
+    def add_bridges(self, kind):
         """A bridge for each hub."""
         for hub in range(1, self.hubs + 1):
-            self.add(kind, "run", "--hub", hub, "--program", self.program, *words)
+            self.add_bridge(kind, hub)
 
     def add_publisher(self, port):
         self.add("publisher", "publish", "--hubs", self.hubs, "--port", port)
