@@ -9,8 +9,10 @@ sys.path.insert(0, str(pathlib.Path(__file__).resolve().parent / "rabbitmq"))
 from names import is_railway, split
 
 RAILWAYS = [f"R{nth:03}" for nth in range(1, 9)]
-# About so many lines come of the copy of an example.
-LINES_OF_COPY = 24
+# At least so many lines come of the copy of an example.
+LINES_OF_COPY = 20
+# What is sent again is one of the last so many records.
+RECENT = 5000
 
 
 def roles_of(examples):
@@ -38,6 +40,8 @@ class Draw(split.Stream):
     def put(self, record):
         if not split.is_on_outbox(record):
             super().put(record)
+        if len(self.sent) > 2 * RECENT:
+            del self.sent[:RECENT]
 
 
 class Records:
@@ -45,7 +49,7 @@ class Records:
 
     def __init__(self, seed, count, hubs):
         draw = random.Random(seed)
-        drawn = Draw(seed, split.worked_examples(), count // LINES_OF_COPY * 2 + 8).lines
+        drawn = Draw(seed, split.worked_examples(), count // LINES_OF_COPY + 8).lines
         lines, self.senders = [], []
         for line in drawn:
             sender = split.record_of(line).get("from")
