@@ -31,6 +31,7 @@ IDLE = 10
 # A node that refuses to read a stream so often in a row has nothing of it.
 REFUSALS = 20
 PAUSE, TICK = 0.2, 0.01
+NOT_FOUND = 404
 STREAM = {"x-queue-type": "stream"}
 
 logging.getLogger("pika").setLevel(logging.CRITICAL)
@@ -38,6 +39,12 @@ logging.getLogger("pika").setLevel(logging.CRITICAL)
 
 class LostError(Exception):
     """The connection is lost."""
+
+
+def look_why(stream, why):
+    """Ends the program where a channel was closed since its stream is not there any more."""
+    if isinstance(why, pika.exceptions.ChannelClosedByBroker) and why.reply_code == NOT_FOUND:
+        sys.exit(f"the stream {stream} is not there any more: {why.reply_text}")
 
 
 @dataclasses.dataclass(frozen=True)
@@ -71,10 +78,11 @@ class Writer:
         """Opens the channel, and sends what waits for it."""
         answer, lose, sent = self.streams.answer, self.streams.lose, self.sent
         channel = await answer(lambda done: self.streams.connection.channel(on_open_callback=done))
-        channel.add_on_close_callback(lose)
+        channel.add_on_close_callback(lambda _, why: look_why(self.stream, why) or lose())
         channel.add_on_return_callback(lambda *_: sys.exit(f"the stream {self.stream} is not there any more"))
         await answer(lambda done: channel.confirm_delivery(lambda frame: self.confirm(sent, lose, frame.method), done))
-        await answer(lambda done: channel.queue_declare(self.stream, durable=True, arguments=STREAM, callback=done))
+        words = {"passive": self.is_there.is_set(), "durable": True, "arguments": STREAM}
+        await answer(lambda done: channel.queue_declare(self.stream, callback=done, **words))
         self.channel = channel
         self.is_there.set()
         while self.waiting and self.channel:
@@ -131,6 +139,7 @@ class Reader:
             channel.basic_consume(self.stream, self.take, arguments={"x-stream-offset": self.next})
 
         def closed(_, why):
+            look_why(self.stream, why)
             self.refused += isinstance(why, pika.exceptions.ChannelClosedByBroker)
             if self.refused > REFUSALS:
                 self.streams.lose()
