@@ -15,6 +15,7 @@ import collections
 import dataclasses
 import itertools
 import logging
+import os
 import random
 import sys
 import time
@@ -41,10 +42,15 @@ class LostError(Exception):
     """The connection is lost."""
 
 
+def end_without(stream):
+    """Ends the program at once: its stream is not there any more, and nothing can be done about it here."""
+    print(f"the stream {stream} is not there any more", file=sys.stderr, flush=True)
+    os._exit(1)
+
+
 def look_why(stream, why):
-    """Ends the program where a channel was closed since its stream is not there any more."""
     if isinstance(why, pika.exceptions.ChannelClosedByBroker) and why.reply_code == NOT_FOUND:
-        sys.exit(f"the stream {stream} is not there any more: {why.reply_text}")
+        end_without(stream)
 
 
 @dataclasses.dataclass(frozen=True)
@@ -79,7 +85,7 @@ class Writer:
         answer, lose, sent = self.streams.answer, self.streams.lose, self.sent
         channel = await answer(lambda done: self.streams.connection.channel(on_open_callback=done))
         channel.add_on_close_callback(lambda _, why: look_why(self.stream, why) or lose())
-        channel.add_on_return_callback(lambda *_: sys.exit(f"the stream {self.stream} is not there any more"))
+        channel.add_on_return_callback(lambda *_: end_without(self.stream))
         await answer(lambda done: channel.confirm_delivery(lambda frame: self.confirm(sent, lose, frame.method), done))
         words = {"passive": self.is_there.is_set(), "durable": True, "arguments": STREAM}
         await answer(lambda done: channel.queue_declare(self.stream, callback=done, **words))
