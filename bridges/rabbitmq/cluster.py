@@ -18,7 +18,8 @@ SERVER = pathlib.Path("/usr/lib/rabbitmq/bin/rabbitmq-server")
 NODES = 3
 # No node takes as many seconds to come up.
 LIMIT = 120
-QUIET = "+sbwt none +sbwtdcpu none +sbwtdio none +S 1:1 +A 2 -kernel inet_dist_use_interface {127,0,0,1}"
+LOCAL = "-kernel inet_dist_use_interface {127,0,0,1}"
+QUIET = f"+sbwt none +sbwtdcpu none +sbwtdio none +S 1:1 +A 2 {LOCAL}"
 SETTINGS = """
 listeners.tcp.1 = 127.0.0.1:{port}
 loopback_users.guest = true
@@ -65,6 +66,7 @@ class Cluster:
         self.distribution, ports = free[NODES:], ports or free[:NODES]
         self.nodes = [Node(f"taf{nth + 1}@localhost", self.folder / f"node{nth + 1}", ports[nth]) for nth in range(NODES)]
         self.environment = os.environ | {"ERL_EPMD_PORT": str(mapper), "ERL_EPMD_ADDRESS": "127.0.0.1", "HOME": str(self.folder)}
+        self.environment["RABBITMQ_CTL_ERL_ARGS"] = LOCAL
         cookie = self.folder / ".erlang.cookie"
         if not cookie.exists():
             cookie.write_text(secrets.token_hex(16))

@@ -15,6 +15,7 @@ import collections
 import dataclasses
 import itertools
 import logging
+import os
 import random
 import sys
 import time
@@ -31,7 +32,7 @@ IDLE = 10
 # A node that refuses to read a stream so often in a row has nothing of it.
 REFUSALS = 20
 PAUSE, TICK = 0.2, 0.01
-NOT_FOUND = 404
+GONE = (312, 404)
 STREAM = {"x-queue-type": "stream"}
 
 logging.getLogger("pika").setLevel(logging.CRITICAL)
@@ -41,10 +42,11 @@ class LostError(Exception):
     """The connection is lost."""
 
 
-def look_why(stream, why):
-    """Ends the program where a channel was closed since its stream is not there any more."""
-    if isinstance(why, pika.exceptions.ChannelClosedByBroker) and why.reply_code == NOT_FOUND:
-        sys.exit(f"the stream {stream} is not there any more: {why.reply_text}")
+def end_without(stream, why):
+    """Ends the program at once where its stream is not there any more: nothing can be done about it here."""
+    if getattr(why, "reply_code", None) in GONE:
+        print(f"the stream {stream} is not there any more", file=sys.stderr, flush=True)
+        os._exit(1)
 
 
 @dataclasses.dataclass(frozen=True)
@@ -54,15 +56,6 @@ class Entry:
     offset: int
     head: dict
     body: bytes
-
-
-@dataclasses.dataclass
-class Appended:
-    """An entry on its way into a stream, and since when."""
-
-    head: dict
-    body: bytes
-    since: float = 0
 
 
 class Writer:
@@ -78,29 +71,28 @@ class Writer:
         """Opens the channel, and sends what waits for it."""
         answer, lose, sent = self.streams.answer, self.streams.lose, self.sent
         channel = await answer(lambda done: self.streams.connection.channel(on_open_callback=done))
-        channel.add_on_close_callback(lambda _, why: look_why(self.stream, why) or lose())
-        channel.add_on_return_callback(lambda *_: sys.exit(f"the stream {self.stream} is not there any more"))
+        channel.add_on_close_callback(lambda _, why: end_without(self.stream, why) or lose())
+        channel.add_on_return_callback(lambda _, why, *more: end_without(self.stream, why))
         await answer(lambda done: channel.confirm_delivery(lambda frame: self.confirm(sent, lose, frame.method), done))
         words = {"passive": self.is_there.is_set(), "durable": True, "arguments": STREAM}
         await answer(lambda done: channel.queue_declare(self.stream, callback=done, **words))
         self.channel = channel
         self.is_there.set()
-        while self.waiting and self.channel:
-            self.send(self.waiting.popleft())
+        self.send()
 
-    def append(self, it):
-        if self.channel:
-            self.send(it)
-        else:
-            self.waiting.append(it)
+    def append(self, head, body):
+        self.waiting.append((head, body))
+        self.send()
 
-    def send(self, it):
-        self.tag += 1
-        self.sent[self.tag], it.since = it, time.monotonic()
+    def send(self):
+        """Sends what waits. What fails is among what was sent, and goes over the next channel."""
         try:
-            self.channel.basic_publish("", self.stream, it.body, pika.BasicProperties(headers=it.head), mandatory=True)
+            while self.waiting and self.channel:
+                self.tag += 1
+                head, body = self.waiting.popleft()
+                self.sent[self.tag] = head, body, time.monotonic()
+                self.channel.basic_publish("", self.stream, body, pika.BasicProperties(headers=head), mandatory=True)
         except pika.exceptions.AMQPError:
-            # It is among those that were sent, and goes over the next channel.
             self.channel = None
 
     @staticmethod
@@ -114,7 +106,7 @@ class Writer:
 
     def leave(self):
         """What is not confirmed goes over the next channel, in its order. Confirmations of the old one mean nothing any more."""
-        self.waiting = collections.deque([*self.sent.values(), *self.waiting])
+        self.waiting.extendleft((head, body) for head, body, _ in reversed(self.sent.values()))
         self.channel, self.sent, self.tag = None, {}, 0
 
 
@@ -139,7 +131,7 @@ class Reader:
             channel.basic_consume(self.stream, self.take, arguments={"x-stream-offset": self.next})
 
         def closed(_, why):
-            look_why(self.stream, why)
+            end_without(self.stream, why)
             self.refused += isinstance(why, pika.exceptions.ChannelClosedByBroker)
             if self.refused > REFUSALS:
                 self.streams.lose()
@@ -162,9 +154,6 @@ class Reader:
     def close(self):
         if self.channel and self.channel.is_open:
             self.channel.close()
-
-    def is_idle(self):
-        return self.come.empty() and time.monotonic() - self.since > IDLE
 
     async def entries(self):
         while True:
@@ -219,8 +208,9 @@ class Streams:
             while not lost.done() and not self.is_stuck():
                 await asyncio.wait([lost], timeout=1)
                 # A node may have forgotten a reader where another node died.
-                for it in filter(Reader.is_idle, self.readers):
-                    it.close()
+                for it in self.readers:
+                    if it.come.empty() and time.monotonic() - it.since > IDLE:
+                        it.close()
         finally:
             lost.done() or lost.set_result(None)
             if self.connection.is_open:
@@ -237,7 +227,7 @@ class Streams:
 
     def is_stuck(self):
         """Whether an entry waits for its confirmation for too long."""
-        oldest = [next(iter(it.sent.values())).since for it in self.writers.values() if it.sent]
+        oldest = [next(iter(it.sent.values()))[-1] for it in self.writers.values() if it.sent]
         return min(oldest, default=time.monotonic()) < time.monotonic() - PATIENCE
 
     async def declare(self, stream):
@@ -251,7 +241,7 @@ class Streams:
         await self.writers[stream].is_there.wait()
 
     def append(self, stream, head, body=b""):
-        self.writers[stream].append(Appended(head, body))
+        self.writers[stream].append(head, body)
 
     async def flush(self, most=0):
         """Waits until no more entries than this are not confirmed."""

@@ -22,11 +22,12 @@ def program():
 
 
 def begin(work):
-    """A task. Where it fails the program ends."""
+    """A task. Where it fails the program ends at once: all that counts is in the streams."""
 
     def look(it):
         if not it.cancelled() and it.exception():
-            sys.exit(f"{program()}: {it.exception()!r}")
+            print(f"{program()}: {it.exception()!r}", file=sys.stderr, flush=True)
+            os._exit(1)
 
     task = asyncio.ensure_future(work)
     task.add_done_callback(look)
