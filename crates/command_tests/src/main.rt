@@ -11,7 +11,8 @@
 //! | `reported` | the lines of faults, and of sessions that could not be served to their end |
 //! | `measurements` | the arguments of `bench`, and how many lines each benchmark prints |
 //!
-//! The tests stand apart from the crates that they test, since a crate with tests is proved twice.
+//! The tests stand apart from the crates that they test, since a crate with tests is proved twice. They are in a program, which
+//! does nothing, since of a library `rt ci` makes sums of all that it stands on, which takes minutes.
 #![tactic(auto)]
 
 #[cfg(test)]
@@ -32,3 +33,5 @@ mod reported;
 mod service;
 #[cfg(test)]
 mod serving;
+
+fn main(_rt: HostRuntime) {}
