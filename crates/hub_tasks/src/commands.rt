@@ -9,6 +9,7 @@ pub(crate) fn command<'a>(alloc: Global) -> Result<Command<'a>, AllocError> {
     let program = with_command(program, replay(alloc));
     let program = with_command(program, board(alloc));
     let program = with_command(program, check(alloc));
+    let program = with_command(program, carry(alloc));
     let program = with_command(program, number(alloc));
     let program = with_command(program, serve(alloc));
     with_command(program, open(alloc))
@@ -87,6 +88,18 @@ fn check<'a>(alloc: Global) -> Result<Command<'a>, AllocError> {
         .about("Reads a journal, and prints how many calls it has")
         .after_help(help::CHECK);
     with_required(Ok(command), journal(alloc))
+}
+
+fn carry<'a>(alloc: Global) -> Result<Command<'a>, AllocError> {
+    let command = Command::new(alloc, "carry")
+        .about("Leaves closed trips behind: writes the journal of all others")
+        .after_help(help::CARRY);
+    let next = positional(
+        alloc,
+        "NEXT",
+        "The file of the new journal, which has no calls yet",
+    );
+    with_required(with_required(Ok(command), journal(alloc)), next)
 }
 
 fn number<'a>(alloc: Global) -> Result<Command<'a>, AllocError> {

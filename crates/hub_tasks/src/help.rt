@@ -34,6 +34,17 @@ pub(crate) static CHECK: &str = "Example:
 
 Statuses: 0, 2, 3, 4, 7, 8";
 
+pub(crate) static CARRY: &str = "Reads JOURNAL as check does, and changes nothing of it. NEXT gets
+the messages of all trips that are not closed, in their order, and an
+acknowledgement for each railway. A trip is closed once all its wagons are
+delivered, no offer of it is open and all its items are acknowledged. Use
+NEXT only if the status is 0.
+
+Example:
+  taf_hub carry hub.journal next.journal
+
+Statuses: 0, 2, 3, 4, 7, 8";
+
 pub(crate) static NUMBER: &str = "Example:
   taf_hub number 218124712173
 

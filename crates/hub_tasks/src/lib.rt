@@ -5,6 +5,7 @@
 //! | `replay [--journal FILE]` | [`Task::Replay`] |
 //! | `board [--for RAILWAY]` | [`Task::Board`] |
 //! | `check JOURNAL` | [`Task::Check`] |
+//! | `carry JOURNAL NEXT` | [`Task::Carry`] |
 //! | `number TEXT` | [`Task::Number`] |
 //! | `serve --port P --sessions N [--workers K] [--board Q]` | [`Task::Serve`]: P and Q are 1 to 65,535, N 1 to 64, K 1 to 8, and 2 if left out |
 //! | `serve --port P --sessions N --journal FILE [--board Q]` | [`Task::Serve`] with one worker; together with `--workers` an error |

@@ -28,6 +28,11 @@ pub enum Task<'a> {
     },
     /// Of the journal in this file.
     Check(&'a str),
+    /// The trips of the journal in the first file that are not closed go on in the second one.
+    Carry {
+        journal: &'a str,
+        next: &'a str,
+    },
     Number(&'a str),
     /// With the file of the journal, if one is kept: then one worker makes the calls.
     Serve {
@@ -80,6 +85,10 @@ fn task_in<'a>(matches: &ArgMatches<'a>) -> Option<Task<'a>>
         }),
         "board" => board_in(found),
         "check" => Some(Task::Check(found.get_str("JOURNAL")?)),
+        "carry" => Some(Task::Carry {
+            journal: found.get_str("JOURNAL")?,
+            next: found.get_str("NEXT")?,
+        }),
         "serve" => shift_in(found),
         "open" => service_in(found),
         _ => Some(Task::Number(found.get_str("TEXT")?)),
