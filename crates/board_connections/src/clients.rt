@@ -62,6 +62,8 @@ impl Clients {
         client.note_answer(may_answer);
         if is_kept(registry, place, &mut client, waiting) {
             put(&mut self.places, place, client);
+        } else {
+            drop(client);
         }
     }
 

@@ -9,7 +9,7 @@ use crate::limited::LimitedService;
 use crate::limits::Limits;
 use http_server::{Config, Connection, Service};
 use mio::net::{TcpListener, TcpStream};
-use mio::{Events, Interest, Poll, Token, Waker};
+use mio::{Events, Interest, Poll, Registry, Token, Waker};
 use std::alloc::{AllocGlobal, Global};
 use std::hash::RandomState;
 use std::io;
@@ -54,17 +54,16 @@ impl BoardListener {
         limits: Limits,
     ) -> io::Result<(BoardListener, ServingEnd)> {
         let alloc = rt.alloc();
+        let keys = RandomState::new(rt)?;
+        let clients = Clients::new(alloc, limits)?;
         let poll = Poll::new(rt)?;
-        let mut listener = TcpListener::bind(rt, SocketAddr::from((Ipv4Addr::LOCALHOST, port)))?;
-        poll.registry()
-            .register(&mut listener, LISTENER, Interest::READABLE)?;
-        let waker = Waker::new(poll.registry(), WAKER)?;
+        let (listener, waker) = listen(rt, poll.registry(), port)?;
         let bound = BoardListener {
             alloc,
-            keys: RandomState::new(rt)?,
+            keys,
             poll,
             listener,
-            clients: Clients::new(alloc, limits)?,
+            clients,
             wanting_since: None,
         };
         Ok((bound, ServingEnd::new(waker)))
@@ -88,16 +87,29 @@ impl BoardListener {
     {
         let mut bound = self;
         let mut events = Events::with_capacity(bound.alloc, EVENTS)?;
+        bound.serve_until_end(rt, service, end, &mut events)
+    }
+
+    // Serves clients until it is told to end, or the listener, the wait for sockets or the clock fails.
+    fn serve_until_end<R: Wait + Clock, S: Service>(
+        &mut self,
+        rt: &R,
+        service: &mut LimitedService<S>,
+        end: &ServingEnd,
+        events: &mut Events,
+    ) -> io::Result<()>
+        ensures { AnswersInTurn S.answers service.old.service service.new.service }
+    {
         for _ in rt.forever() {
             let wait = Duration::from_millis(LOOK_MILLIS);
-            bound.poll.poll(&mut events, Some(wait))?;
+            self.poll.poll(events, Some(wait))?;
             if end.is_told() {
                 return Ok(());
             }
             let now = Instant::now(rt)?;
-            bound.handle(&events, service, now)?;
-            bound.accept_again(now)?;
-            bound.clients.close_late(now);
+            self.handle(events, service, now)?;
+            self.accept_again(now)?;
+            self.clients.close_late(now);
         }
         unreachable!()
     }
@@ -188,6 +200,14 @@ impl BoardListener {
                 .put_new(place, Client::new(stream, connection, now));
         }
     }
+}
+
+// Listens on this port of 127.0.0.1. The registry has the listener, and what wakes the thread.
+fn listen<H: Net>(rt: &H, registry: &Registry, port: u16) -> io::Result<(TcpListener, Waker)> {
+    let mut listener = TcpListener::bind(rt, SocketAddr::from((Ipv4Addr::LOCALHOST, port)))?;
+    registry.register(&mut listener, LISTENER, Interest::READABLE)?;
+    let waker = Waker::new(registry, WAKER)?;
+    Ok((listener, waker))
 }
 
 // The limits of a connection: those of `http_server`, and short bodies.

@@ -1,5 +1,5 @@
 use Rattle.board_connections.proofs.AnswerLemmas.{AnswersInTurn-none, AnswersInTurn-then}
-use Rattle.board_connections.proofs.listener.BoardListener.serve.Goals as goal
+use Rattle.board_connections.proofs.listener.BoardListener.serve_until_end.Goals as goal
 
 pub loop-init : goal.loop-init
 loop-init g c = AnswersInTurn-none g.S.Service.answers _
