@@ -11,7 +11,7 @@ use trip_plan::{Leg, Plan};
 use wagon_number::WagonNumber;
 
 // How many events a journey has room for when it begins.
-const FIRST_CAPACITY: usize = 16;
+const FIRST_CAPACITY: usize = 8;
 
 /// A wagon and the events of its journey, which begins with a plan.
 #[derive(Debug, Drop)]

@@ -26,6 +26,9 @@ static LEGS: &str = "R101:DE00001:AT00002:300 R102:AT00002:IT00003:240";
 // So many bytes as no track and no record of these lines need.
 const AMPLE: usize = 1 << 16;
 
+// Room for more events than a row has at first: once this memory is free, no row is given it.
+const MANY: usize = 64;
+
 // What is left, how often memory was refused, and what was made so far: it is kept, so that its memory is not used again.
 #[derive(Drop)]
 struct Scarcity {
@@ -173,7 +176,7 @@ impl Scarcity {
 
 // The events of the lines, the last one first.
 fn last_first(alloc: Global) -> Result<Vec<Event>, Fail> {
-    let mut events = Vec::new(alloc);
+    let mut events = Vec::with_capacity(alloc, MANY)?;
     for line in &LINES {
         events.push(event(alloc, line)?)?;
     }
