@@ -6,17 +6,19 @@ ghost use Rattle.hub_model.specs.Bounds.{AreWithinLimits};
 ghost use Rattle.hub_model.specs.Laws.{AreDated};
 ghost use Rattle.hub_core.specs.Apart.{are_apart};
 ghost use Rattle.hub_core.specs.Faults.{IsFault};
+ghost use Rattle.hub_core.specs.Delivery.{HaveAllItems};
 
 use crate::applying::apply_call;
 use crate::state::State;
 use crate::view::View;
 use hub_answers::{ShownWagon, apart, ask, shown_part, shown_wagon, view_part};
 use hub_model::{Entry, histories_are_runs};
+use outbox::boxes_keep_the_lists;
 use seeded_state::SeededState;
 use std::alloc::Global;
 use std::marker::Model;
 use taf_codes::{Memory, Railway};
-use taf_messages::{Call, Reply};
+use taf_messages::{Call, ItemBody, MessageNumber, Reply};
 use tallies::HubFault;
 use wagon_number::WagonNumber;
 
@@ -138,6 +140,43 @@ impl Hub {
     {
         let records = view_part(self.alloc, &self.state.tables, from, most)?;
         Ok(View::from_vec(records))
+    }
+
+    /// Whether the offer of this name was accepted, and is neither answered nor withdrawn.
+    pub fn is_open(&self, by: Railway, no: MessageNumber) -> bool
+        ensures { result ≡ (state_of self.now).is_open by no }
+    {
+        self.state.tables.is_open(by, no)
+    }
+
+    /// How many items the railway has been given, with those that it has acknowledged.
+    pub fn item_count(&self, by: Railway) -> u64
+        ensures { result ≡ length ((state_of self.now).outbox by) }
+    {
+        boxes_keep_the_lists();
+        self.state.outboxes.last(by)
+    }
+
+    /// The number of the last item that the railway has acknowledged, 0 if there is none.
+    pub fn acknowledged(&self, by: Railway) -> u64
+        ensures { result ≡ (state_of self.now).acknowledged by }
+    {
+        self.state.outboxes.acknowledged(by)
+    }
+
+    /// The item at this index of those that the railway has not acknowledged, oldest first and from 0.
+    pub fn unacknowledged(&self, by: Railway, index: usize) -> Option<&ItemBody>
+        ensures { let s = state_of self.now in
+            option_copied result ≡ slice_get (drop (s.acknowledged by) (s.outbox by)) index }
+    {
+        self.state.outboxes.unacknowledged(by, index)
+    }
+
+    /// The railways that the hub has outboxes for: no other has been given an item.
+    pub fn railways(&self) -> Result<Vec<Railway>, Memory>
+        ensures { IfOk result (λ v. HaveAllItems v.items (state_of self.now)) }
+    {
+        self.state.outboxes.railways()
     }
 
     /// The reply that a railway's question for a wagon would get. It is not entered.

@@ -1,4 +1,4 @@
-ghost use Rattle.std.specs.Prelude.{◌≡◌, ◌+◌, ◌<◌, ◌≤◌, ◌^◌, [], ◌∷◌, length, take, drop, max, IfOk, OnOk};
+ghost use Rattle.std.specs.Prelude.{◌≡◌, ◌+◌, ◌<◌, ◌≤◌, ◌^◌, [], ◌∷◌, length, take, drop, max, slice_get, option_copied, IfOk, OnOk};
 ghost use Rattle.outbox.specs.OutboxStates.{last_of, new_box, with_items, acknowledged_up_to, first_items, items_from_number};
 
 use std::alloc::Global;
@@ -87,6 +87,13 @@ impl Outbox {
             drop_front(&mut self.bodies, number - self.acknowledged);
             self.acknowledged = number;
         }
+    }
+
+    /// The body of the item at this index of those after the acknowledged one, from 0.
+    pub fn unacknowledged(&self, index: usize) -> Option<&ItemBody>
+        ensures { option_copied result ≡ slice_get self.now.kept.bodies index }
+    {
+        self.bodies.get(index)
     }
 
     /// Copies of the first items.

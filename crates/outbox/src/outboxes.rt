@@ -1,4 +1,5 @@
-ghost use Rattle.std.specs.Prelude.{◌≡◌, ◌+◌, ◌<◌, ◌≤◌, ◌^◌, ◌↔◌, [], ◌∷◌, true, max, if◌then◌else◌, bytes_eq, IfOk, IfErr, OnOk, OnErr, IsOk};
+ghost use Rattle.std.specs.Prelude.{◌≡◌, ◌+◌, ◌<◌, ◌≤◌, ◌^◌, ◌↔◌, [], ◌∷◌, true, max, if◌then◌else◌, bytes_eq, slice_get, option_copied, IfOk, IfErr, OnOk, OnErr, IsOk};
+ghost use Rattle.std.specs.Map.{keys_of};
 ghost use Rattle.taf_codes.specs.declared.code.Railway.{Railway};
 ghost use Rattle.outbox.specs.OutboxStates.{outbox_state_of, has_box, room_for, last_of, with_items, acknowledged_up_to, first_items};
 
@@ -81,6 +82,24 @@ impl Outboxes {
             Some(outbox) => outbox.first(alloc, limit.get()),
             None => Ok(ItemList::from_vec(Vec::new(alloc))),
         }
+    }
+
+    /// The body of a railway's item at this index of those after the acknowledged one, from 0.
+    pub fn unacknowledged(&self, railway: Railway, index: usize) -> Option<&ItemBody>
+        ensures { option_copied result ≡ slice_get (outbox_state_of self.now railway).bodies index }
+    {
+        match self.boxes.get(&railway) {
+            Some(outbox) => outbox.unacknowledged(index),
+            None => None,
+        }
+    }
+
+    /// The railways that have boxes, in the order in which these were made.
+    pub fn railways(&self) -> Result<Vec<Railway>, Memory>
+        ensures { IfOk result (λ railways. railways.items ≡ keys_of self.now) }
+    {
+        let alloc = *self.boxes.allocator();
+        Ok(self.boxes.keys().copied().collect(alloc)?)
     }
 
     /// Whether a railway has a box.
