@@ -1,0 +1,3 @@
+pub mod ClosedNames
+pub mod Sides
+pub mod Closed
