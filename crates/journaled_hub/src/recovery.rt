@@ -67,6 +67,13 @@ impl<F: RawFile> RecoveredHub<F> {
         }
     }
 
+    /// The hub: it has taken these calls and no others.
+    pub fn hub(&self) -> &Hub
+        ensures { result.now ≡ history_read self.now }
+    {
+        &self.hub
+    }
+
     /// How many calls it has.
     pub fn len(&self) -> usize
         ensures { result ≡ length (history_read self.now) }
