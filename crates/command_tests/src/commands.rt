@@ -108,7 +108,7 @@ fn commands_end_with_their_status(rt: HostRuntime) -> Result<(), Fail> {
 }
 
 // Arguments that are explained, on the output for the status 0 and else among the errors.
-static EXPLAINED: [(&str, u8); 47] = [
+static EXPLAINED: [(&str, u8); 50] = [
     ("taf_hub|--help", 0),
     ("taf_hub|number|--help", 0),
     ("taf_hub", 2),
@@ -125,6 +125,9 @@ static EXPLAINED: [(&str, u8); 47] = [
     ("taf_hub|check|--help", 0),
     ("taf_hub|check", 2),
     ("taf_hub|check|hub.journal|again", 2),
+    ("taf_hub|carry|--help", 0),
+    ("taf_hub|carry|hub.journal", 2),
+    ("taf_hub|carry|hub.journal|next.journal|again", 2),
     ("taf_hub|serve|--help", 0),
     ("taf_hub|serve", 2),
     ("taf_hub|serve|--port|7000", 2),
@@ -184,7 +187,7 @@ fn other_arguments_are_explained(rt: HostRuntime) -> Result<(), Fail> {
 }
 
 // The arguments that ask for help, and the last lines of what is printed.
-static ENDS: [(&str, &str); 7] = [
+static ENDS: [(&str, &str); 8] = [
     (
         "taf_hub|--help",
         "\n  8  the journal is in use, damaged or of another program\n",
@@ -200,6 +203,10 @@ static ENDS: [(&str, &str); 7] = [
     (
         "taf_hub|check|--help",
         "\nExample:\n  taf_hub check hub.journal\n\nStatuses: 0, 2, 3, 4, 7, 8\n",
+    ),
+    (
+        "taf_hub|carry|--help",
+        "\nExample:\n  taf_hub carry hub.journal next.journal\n\nStatuses: 0, 2, 3, 4, 7, 8\n",
     ),
     (
         "taf_hub|number|--help",

@@ -3,6 +3,7 @@
 //! | part | tests |
 //! |---|---|
 //! | `commands` | the commands of `taf_hub`: their texts, their faults and their statuses |
+//! | `carried` | `carry`, on journals in files of the system |
 //! | `file` | the page of a finished run |
 //! | `journals` | `replay` with a journal, and `check`, on files of the system |
 //! | `journaled_serving` | shifts with a journal over loopback, and one that goes on with the journal of another |
@@ -17,6 +18,8 @@
 
 #[cfg(test)]
 mod board;
+#[cfg(test)]
+mod carried;
 #[cfg(test)]
 mod commands;
 #[cfg(test)]

@@ -1,9 +1,6 @@
 //! `check`: a journal is read, and nothing is written to it.
-use crate::journal_file::{may_be_journal, report_file, report_foreign};
-use disk_file::open_to_read;
+use crate::journal_file::read_journal;
 use hub_faults::Fault;
-use journaled_hub::RecoveredHub;
-use seeded_state::SeededState;
 use std::fs::File;
 use std::io::Write;
 use std::mem::forget;
@@ -19,23 +16,7 @@ where
     W: Write + Drop,
     E: Write,
 {
-    let file = match open_to_read(rt, path) {
-        Ok(file) => file,
-        Err(fault) => {
-            report_file(path, &fault, errors);
-            return Err(Fault::from(fault));
-        }
-    };
-    if !may_be_journal(&file) {
-        return Err(report_foreign(path, errors));
-    }
-    let recovered = match RecoveredHub::read(rt, rt.alloc(), SeededState::drawn(rt), file) {
-        Ok(recovered) => recovered,
-        Err((fault, _reader)) => {
-            report_file(path, &fault, errors);
-            return Err(Fault::from(fault));
-        }
-    };
+    let recovered = read_journal(rt, path, errors)?;
     let (calls, torn) = (recovered.len(), recovered.torn_len());
     // The program ends here. To give back the memory of each call would take as long as many calls.
     forget(recovered);

@@ -1,11 +1,13 @@
 ghost use Rattle.std.specs.Prelude.{◌≡◌};
 ghost use Rattle.hub_faults.specs.Statuses.{status_of};
 
+use crate::carry::Journals;
 use crate::journaled_open::JournaledOpen;
 use crate::journaled_serve::JournaledServe;
 use crate::open::KeyedOpen;
 use crate::{
-    board, check, journaled_open, journaled_replay, journaled_serve, number, open, replay, serve,
+    board, carry, check, journaled_open, journaled_replay, journaled_serve, number, open, replay,
+    serve,
 };
 use clap::Error;
 use clap::error::ErrorKind;
@@ -73,6 +75,9 @@ where
         } => journaled_replay::perform(rt, path, input, output, errors),
         Task::Board { railway } => board::perform(rt, rt.alloc(), railway, input, output),
         Task::Check(path) => check::perform(rt, path, output, errors),
+        Task::Carry { journal, next } => {
+            carry::perform(rt, Journals { journal, next }, output, errors)
+        }
         Task::Number(text) => number::perform(output, text),
         Task::Serve {
             shift,

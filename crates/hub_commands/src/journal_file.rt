@@ -1,11 +1,46 @@
 //! The file of a journal, as the commands look at it.
-use disk_file::DiskFile;
+use disk_file::{DiskFile, open_to_read};
 use hub_faults::Fault;
+use journaled_hub::RecoveredHub;
+use seeded_state::SeededState;
 use std::fmt::Display;
+use std::fs::File;
 use std::io::Write;
+use std::random::RandomSource;
+use std::rt::Files;
+use std::thread::Threads;
 
 // How a journal begins.
 static BEGINNING: &[u8; 9] = b"{\"_sum\":\"";
+
+/// The hub of the calls that a journal has. The file is not locked, and nothing is written to it.
+pub(crate) fn read_journal<H, E>(
+    rt: &H,
+    path: &str,
+    errors: &mut E,
+) -> Result<RecoveredHub<DiskFile>, Fault>
+where
+    H: Files<File = File> + Threads + RandomSource + AllocGlobal,
+    E: Write,
+{
+    let file = match open_to_read(rt, path) {
+        Ok(file) => file,
+        Err(fault) => {
+            report_file(path, &fault, errors);
+            return Err(Fault::from(fault));
+        }
+    };
+    if !may_be_journal(&file) {
+        return Err(report_foreign(path, errors));
+    }
+    match RecoveredHub::read(rt, rt.alloc(), SeededState::drawn(rt), file) {
+        Ok(recovered) => Ok(recovered),
+        Err((fault, _reader)) => {
+            report_file(path, &fault, errors);
+            Err(Fault::from(fault))
+        }
+    }
+}
 
 /// Whether a file may be a journal of this program, by its beginning. Of its first batch a crash may have left a part, of which any
 /// byte may read as zero. Where the beginning can't be read, the file can't be read either.

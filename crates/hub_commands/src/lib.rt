@@ -6,6 +6,7 @@
 //! | `taf_hub replay --journal FILE` | the same on the hub of the calls that the journal has; each further call is in the journal, on the disk, before it is answered | also 7 a call of the journal's file failed; 8 the journal is busy or was refused |
 //! | `taf_hub board [--for RAILWAY]` | answers the lines of the input on a new hub, and writes the board as a page with the wagons inside: those that RAILWAY may see, or all | 0; 3 reading or writing failed, or no end came; 4 memory was refused |
 //! | `taf_hub check JOURNAL` | prints how many calls the journal has, and how many bytes its torn end | 0; 3 writing failed; 4 memory was refused; 7 the file could not be read; 8 the journal was refused |
+//! | `taf_hub carry JOURNAL NEXT` | writes the journal NEXT with the trips of JOURNAL that are not closed, and prints how many calls each has | 0; 3 writing the numbers failed; 4 memory was refused; 7 a call of a file failed; 8 a journal is busy or was refused |
 //! | `taf_hub serve --port P --sessions N [--workers K] [--board Q]` | serves N railways on connections of their own by K workers, and prints how many calls settled and the report of all wagons | 0; 3 writing failed; 4 memory was refused; 5 a socket or a thread could not be had; 6 the shift did not settle |
 //! | `taf_hub serve --port P --sessions N --journal FILE [--board Q]` | the same on the hub of the calls that the journal has, by one worker; each further call is in the journal, on the disk, before it is answered | also 7 a call of the journal's file failed; 8 the journal is busy or was refused |
 //! | `taf_hub open --port P [--sessions N] [--workers K] [--keys FILE] [--board Q] [TIMES]` | serves whoever connects, N sessions at a time, by K workers, until its input ends, and prints how many calls settled and the report of all wagons; with keys only railways with theirs | as `serve`, and 2 the keys were refused |
@@ -21,6 +22,7 @@
 #![tactic(auto)]
 
 mod board;
+mod carry;
 mod check;
 mod command_line;
 mod commands;

@@ -14,6 +14,8 @@ use Rattle.journaled_hub.specs.declared.fault.OpenFault.{OpenFault}
 use Rattle.journaled_hub.specs.declared.fault.OpenFault.TheVariants as of_journal
 use Rattle.journaled_hub.specs.declared.fault.JournaledRunFault.{JournaledRunFault}
 use Rattle.journaled_hub.specs.declared.fault.JournaledRunFault.TheVariants as of_journaled
+use Rattle.carried_hub.specs.declared.fault.CarryFault.{CarryFault}
+use Rattle.carried_hub.specs.declared.fault.CarryFault.TheVariants as of_carry
 use Rattle.railway_keys.specs.declared.fault.KeyFileFault.{KeyFileFault}
 use Rattle.railway_keys.specs.declared.fault.KeyFileFault.TheVariants as of_keys
 use Rattle.hub_faults.specs.declared.fault.Fault.{Fault}
@@ -78,6 +80,14 @@ fault_of_journal of_journal.Full = JournalRefused
 abbrev pub fault_of_journaled_run : JournaledRunFault → Fault
 fault_of_journaled_run (of_journaled.Run run) = fault_of_run run
 fault_of_journaled_run of_journaled.Journal = JournalFile
+
+-- why a hub was not carried over
+abbrev pub fault_of_carry : CarryFault → Fault
+fault_of_carry of_carry.Memory = Memory
+fault_of_carry of_carry.Full = JournalRefused
+fault_of_carry of_carry.Failed = JournalFile
+fault_of_carry of_carry.NotClosed = JournalRefused
+fault_of_carry of_carry.OtherItems = JournalRefused
 
 -- why the keys were not taken
 abbrev pub fault_of_keys : KeyFileFault → Fault

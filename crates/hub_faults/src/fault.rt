@@ -1,8 +1,9 @@
 ghost use Rattle.std.specs.Prelude.{◌≡◌};
 ghost use Rattle.std.specs.IoError.{error_kind};
-ghost use Rattle.hub_faults.specs.Statuses.{status_of, fault_of_arguments, fault_of_number, fault_of_run, fault_of_server, fault_of_file, fault_of_journal, fault_of_journaled_run, fault_of_keys};
+ghost use Rattle.hub_faults.specs.Statuses.{status_of, fault_of_arguments, fault_of_number, fault_of_run, fault_of_server, fault_of_file, fault_of_journal, fault_of_journaled_run, fault_of_carry, fault_of_keys};
 ghost use Rattle.hub_faults.specs.declared.fault.Fault.TheVariants as faults;
 
+use carried_hub::CarryFault;
 use disk_file::OpenFault as FileFault;
 use hub_replay::RunFault;
 use journaled_hub::{JournaledRunFault, OpenFault};
@@ -44,7 +45,7 @@ pub enum Fault {
     /// Another process has the journal.
     #[error("fault: journal busy")]
     JournalBusy,
-    /// The journal's file is none, or has what no crash leaves.
+    /// The journal's file is none, or has what no crash leaves; or it could not be carried over.
     #[error("fault: journal refused")]
     JournalRefused,
     /// The file of the keys could not be read.
@@ -170,6 +171,20 @@ impl From<JournaledRunFault> for Fault {
         match fault {
             JournaledRunFault::Run(fault) => Fault::from(fault),
             JournaledRunFault::Journal => Fault::JournalFile,
+        }
+    }
+}
+
+impl From<CarryFault> for Fault {
+    ghost from_gives = { λ carry fault. fault ≡ fault_of_carry carry };
+
+    fn from(fault: CarryFault) -> Fault {
+        match fault {
+            CarryFault::Memory => Fault::Memory,
+            CarryFault::Failed => Fault::JournalFile,
+            CarryFault::Full | CarryFault::NotClosed | CarryFault::OtherItems => {
+                Fault::JournalRefused
+            }
         }
     }
 }
